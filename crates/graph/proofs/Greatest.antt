@@ -1,0 +1,39 @@
+-- `greatest` is the least upper bound of its terms, and one of them.
+use mathlib.Core.Path.{_≡_, refl, ap₂, _∙_}
+use mathlib.Core.Logic.{_⊎_, inl, inr}
+use Prim.Native.Nat.{ℕ, zero, suc, _<_}
+use native.Mathlib.Nat.{not-suc-le-zero}
+use native.Mathlib.Decide.{ℕ-discrete}
+use native.Mathlib.Omega.{arith}
+use Rattle.graph.specs.Delay.{Delay, absent, _⋓_, _⊑_, greatest}
+use Rattle.graph.proofs.Delay.{absent-⊑, ⊑-trans, ⋓-sel, ⋓-l, ⋓-r, ⋓-lub}
+
+pub greatest-ge : (n : ℕ) (f : ℕ → Delay) (i : ℕ) → i < n → f i ⊑ greatest n f
+unfolding greatest
+greatest-ge zero f i h = absurd (not-suc-le-zero h)
+greatest-ge (suc n) f i h = go (greatest-ge n f i) (ℕ-discrete i n)
+  where
+    go : (i < n → f i ⊑ greatest n f) → Dec (i ≡ n) → f i ⊑ greatest n f ⋓ f n
+    go ih (yes e) = rw e (⋓-r (greatest n f) (f n))
+    go ih (no ne) = ⊑-trans (ih (omega arith)) (⋓-l (greatest n f) (f n))
+
+pub greatest-lub : (n : ℕ) (f : ℕ → Delay) (y : Delay) → ((i : ℕ) → i < n → f i ⊑ y) → greatest n f ⊑ y
+unfolding greatest
+greatest-lub zero f y h = absent-⊑ y
+greatest-lub (suc n) f y h = ⋓-lub (greatest-lub n f y (λ i l. h i (omega arith))) (h n (omega arith))
+
+pub greatest-hit : (n : ℕ) (f : ℕ → Delay) → (greatest n f ≡ absent) ⊎ ((i : ℕ) × (i < n) × (greatest n f ≡ f i))
+unfolding greatest
+greatest-hit zero f = inl refl
+greatest-hit (suc n) f = go (greatest-hit n f) (⋓-sel (greatest n f) (f n))
+  where
+    go : (greatest n f ≡ absent) ⊎ ((i : ℕ) × (i < n) × (greatest n f ≡ f i)) → ((greatest n f ⊑ f n) × (greatest n f ⋓ f n ≡ f n)) ⊎ ((f n ⊑ greatest n f) × (greatest n f ⋓ f n ≡ greatest n f))
+        → (greatest n f ⋓ f n ≡ absent) ⊎ ((i : ℕ) × (i < suc n) × (greatest n f ⋓ f n ≡ f i))
+    go d (inl h) = inr (n, omega arith, h .1)
+    go (inl e) (inr h) = inl (h .1 ∙ e)
+    go (inr (i, l, e)) (inr h) = inr (i, omega arith, h .1 ∙ e)
+
+pub greatest-ext : (n : ℕ) (f g : ℕ → Delay) → ((i : ℕ) → i < n → f i ≡ g i) → greatest n f ≡ greatest n g
+unfolding greatest
+greatest-ext zero f g h = refl
+greatest-ext (suc n) f g h = ap₂ _⋓_ (greatest-ext n f g (λ i l. h i (omega arith))) (h n (omega arith))

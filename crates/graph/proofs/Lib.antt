@@ -1,0 +1,9 @@
+pub mod Delay
+pub mod Presence
+pub mod Greatest
+pub mod Longest
+pub mod Closure
+pub mod Rank
+pub mod Arrivals
+pub mod Cycle
+pub mod Count

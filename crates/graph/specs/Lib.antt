@@ -1,0 +1,3 @@
+pub mod Delay
+pub mod Graph
+pub mod Count

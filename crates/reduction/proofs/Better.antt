@@ -1,0 +1,75 @@
+-- What every accepted step does to a graph: `Better`. And what the tests of roles say.
+use mathlib.Core.Path.{_≡_}
+use mathlib.Core.Logic.{_≢_, _⊎_, inl, inr}
+use Prim.Native.Nat.{ℕ, _+_, _≤_, _<_}
+use native.Mathlib.Omega.{arith}
+use lib.Dec.{T, eqb→eq, leb, ltb, leb→le, ltb→lt}
+use Rattle.laws.proofs.Booleans.{and-e}
+use Rattle.laws.proofs.Sums.{sum-term}
+use Rattle.graph.specs.Delay.{absent, present}
+use Rattle.graph.specs.Graph.{Graph, Longest, longest}
+use Rattle.graph.specs.Count.{bit, fanIn, fanOut, arcs}
+use Rattle.graph.proofs.Presence.{absent-or, absent-bit}
+use Rattle.graph.proofs.Longest.{Within, longest-is}
+use Rattle.graph.proofs.Rank.{Ranked, ranked-acyclic, acyclic-ranked}
+use Rattle.timing.proofs.Checks.{LegalArc, Sound, sound-within}
+use Rattle.reduction.specs.Outcome.{isOutput, isInner, unused}
+
+abbrev pub Output : ℕ → ℕ → ℕ → Type 0
+Output m n j = (m ≤ j) × (j < m + n)
+
+abbrev pub Inner : ℕ → ℕ → ℕ → ℕ → Type 0
+Inner m n N k = (m + n ≤ k) × (k < N)
+
+pub output-of : (m n j : ℕ) → T (isOutput m n j) → Output m n j
+output-of m n j t = let p = and-e (leb m j) (ltb j (m + n)) t in (leb→le m j (p .0), ltb→lt j (m + n) (p .1))
+
+pub inner-of : (m n N k : ℕ) → T (isInner m n N k) → Inner m n N k
+inner-of m n N k t = let p = and-e (leb (m + n) k) (ltb k N) t in (leb→le (m + n) k (p .0), ltb→lt k N (p .1))
+
+pub record Better (m n N : ℕ) (g g′ : Graph) : Type 0 where
+  pub sound : Sound m n N g′
+  pub matrix : (i j : ℕ) → i < m → Output m n j → longest g′ N i j ≡ longest g N i j
+  pub fewer : arcs N g′ < arcs N g
+
+-- a vertex that is not in use has no arcs
+module _ {N : ℕ} {g : Graph} (w : Within N g) (k : ℕ) (t : T (unused N g k)) where
+  pub unused-in : (u : ℕ) → g u k ≡ absent
+  unfolding unused fanIn
+  unused-in u = go (absent-or (g u k))
+    where
+      go : (g u k ≡ absent) ⊎ T (present (g u k)) → g u k ≡ absent
+      go (inl e) = e
+      go (inr h) = absent-bit (g u k) (omega (arith, eqb→eq (fanIn N g k + fanOut N g k) 0 t, sum-term N (λ u. bit (g u k)) u (w .in-range u k h .0)))
+
+  pub unused-out : (v : ℕ) → g k v ≡ absent
+  unfolding unused fanOut
+  unused-out v = go (absent-or (g k v))
+    where
+      go : (g k v ≡ absent) ⊎ T (present (g k v)) → g k v ≡ absent
+      go (inl e) = e
+      go (inr h) = absent-bit (g k v) (omega (arith, eqb→eq (fanIn N g k + fanOut N g k) 0 t, sum-term N (λ v. bit (g k v)) v (w .in-range k v h .1)))
+
+module _ {m n N : ℕ} {g : Graph} (s : Sound m n N g) where
+  pub rank-of : Ranked g
+  rank-of = acyclic-ranked N (sound-within s) (s .acyclic) .0
+
+  pub longest-of : Longest g (longest g N)
+  longest-of = longest-is N g (sound-within s) (s .acyclic)
+
+  -- inputs, outputs and inner vertices are apart
+  pub input-output : (i j : ℕ) → i < m → Output m n j → j ≢ i
+  input-output i j hi hj e = omega arith
+
+  pub input-inner : (i k : ℕ) → i < m → Inner m n N k → i ≢ k
+  input-inner i k hi hk e = omega arith
+
+  pub output-inner : (j k : ℕ) → Output m n j → Inner m n N k → j ≢ k
+  output-inner j k hj hk e = omega arith
+
+  -- a new graph: its arcs are legal, it has a rank, its greatest delays are the old ones, its arcs fewer
+  pub better : {g′ : Graph} → ((u v : ℕ) → T (present (g′ u v)) → LegalArc m N u v (g′ u v)) → Ranked g′
+      → (Longest g′ (longest g′ N) → (i j : ℕ) → i < m → Output m n j → longest g′ N i j ≡ longest g N i j) → arcs N g′ < arcs N g → Better m n N g g′
+  better {g′} legal r′ same few =
+      let s′ : Sound m n N g′ = record { legal = legal; acyclic = ranked-acyclic r′; room = s .room } in
+      record { sound = s′; matrix = same (longest-is N g′ (sound-within s′) (ranked-acyclic r′)); fewer = few }

@@ -1,0 +1,171 @@
+-- A graph that has passed the checks, as facts: `Sound`. The checks give it, and it gives the checks.
+use mathlib.Core.Path.{_≡_, _∙_}
+use mathlib.Core.Logic.{_⊎_, inl, inr}
+use mathlib.Core.Bool.{Bool, true, false, not, _&&_}
+use mathlib.Core.List.{List}
+use Prim.Native.Nat.{ℕ, _+_, _≤_, _<_}
+use native.Mathlib.Omega.{arith}
+use lib.Dec.{T, T-not, not-T, leb, leb→le, nleb→lt}
+use lib.IntN.{ℤ}
+use Rattle.laws.specs.Bounded.{every}
+use Rattle.laws.proofs.Booleans.{and-i, and-e}
+use Rattle.laws.proofs.Bounded.{every-at, every-all}
+use Rattle.graph.specs.Delay.{Delay, absent, present}
+use Rattle.graph.specs.Graph.{Graph, Acyclic, longest}
+use Rattle.graph.proofs.Presence.{absent-or, absent-unless, not-present}
+use Rattle.graph.proofs.Longest.{Within}
+use Rattle.graph.proofs.Cycle.{test-acyclic, acyclic-test}
+use Rattle.timing.specs.declared.Refusal.the-variants.{Sizes, TableShort, ScratchShort, OddCell, ArcIntoInput, Cycle}
+use Rattle.timing.specs.Limits.{maxVertices, delayLimit, fits}
+use Rattle.timing.specs.Refusal.{accepted}
+use Rattle.timing.specs.Table.{graphOf}
+use Rattle.timing.specs.Checks.{sizesFit, tableFits, scratchFits, cellsFit, noArcIntoInput, noCycle, checked, passes}
+use Rattle.timing.proofs.Verdict.{require-accepted, accepted-require}
+use Rattle.timing.proofs.Limits.{fits-absent}
+use Rattle.timing.proofs.Table.{graphOf-within}
+
+-- an arc that a table may have
+pub record LegalArc (m N u v : ℕ) (d : Delay) : Type 0 where
+  pub from-below : u < N
+  pub to-below : v < N
+  pub not-input : m ≤ v
+  pub in-range : T (fits delayLimit d)
+
+pub record Sound (m n N : ℕ) (g : Graph) : Type 0 where
+  pub legal : (u v : ℕ) → T (present (g u v)) → LegalArc m N u v (g u v)
+  pub acyclic : Acyclic g
+  pub room : m + n ≤ N
+
+module _ {m n N : ℕ} {g : Graph} (s : Sound m n N g) where
+  pub sound-within : Within N g
+  sound-within = record { in-range = λ u v t. (s .legal u v t .from-below, s .legal u v t .to-below) }
+
+  pub sound-fits : (u v : ℕ) → T (fits delayLimit (g u v))
+  sound-fits u v = go (absent-or (g u v))
+    where
+      go : (g u v ≡ absent) ⊎ T (present (g u v)) → T (fits delayLimit (g u v))
+      go (inl e) = fits-absent delayLimit e
+      go (inr t) = s .legal u v t .in-range
+
+  pub sound-inputs : (u i : ℕ) → i < m → g u i ≡ absent
+  sound-inputs u i l = go (absent-or (g u i))
+    where
+      go : (g u i ≡ absent) ⊎ T (present (g u i)) → g u i ≡ absent
+      go (inl e) = e
+      go (inr t) = absurd (omega (arith, s .legal u i t .not-input))
+
+-- ---- from the checks
+
+pub room-of : (m n N : ℕ) → T (sizesFit m n N) → m + n ≤ N
+unfolding sizesFit
+room-of m n N t = leb→le (m + n) N (and-e (leb 1 m && leb 1 n) (leb (m + n) N) (and-e (leb 1 m && leb 1 n && leb (m + n) N) (leb N maxVertices) t .0) .1)
+
+pub noCycle-acyclic : (N : ℕ) (g : Graph) → Within N g → T (noCycle N g) → Acyclic g
+unfolding noCycle
+noCycle-acyclic N g w t = test-acyclic w (λ v l. absent-unless (longest g N v v) (every-at N (λ v. not (present (longest g N v v))) t v l))
+
+sound-of : (m n N : ℕ) (g : Graph) → Within N g → T (sizesFit m n N) → T (cellsFit N g) → T (noArcIntoInput m N g) → T (noCycle N g) → Sound m n N g
+unfolding cellsFit noArcIntoInput
+sound-of m n N g w sizes cells inputs cycle = record { legal = legal; acyclic = noCycle-acyclic N g w cycle; room = room-of m n N sizes }
+  where
+    legal : (u v : ℕ) → T (present (g u v)) → LegalArc m N u v (g u v)
+    legal u v t = record {
+      from-below = u<N;
+      to-below = v<N;
+      not-input = not-input;
+      in-range = every-at N (λ v. fits delayLimit (g u v)) (every-at N (λ u. every N (λ v. fits delayLimit (g u v))) cells u u<N) v v<N;
+    }
+      where
+        u<N : u < N
+        u<N = w .in-range u v t .0
+
+        v<N : v < N
+        v<N = w .in-range u v t .1
+
+        clash : v < m → ⊥
+        clash l = T-not (present (g u v)) (every-at m (λ i. not (present (g u i))) (every-at N (λ u. every m (λ i. not (present (g u i)))) inputs u u<N) v l) t
+
+        not-input : m ≤ v
+        not-input = leb→le m v (go (leb m v) (λ b. clash (omega (arith, nleb→lt m v b))))
+          where
+            go : (b : Bool) → (T (not b) → ⊥) → T b
+            go true h = tt
+            go false h = h tt
+
+-- the parts of `passes`
+pub record Passed (m n N : ℕ) (t : List ℤ) : Type 0 where
+  pub sizes : T (sizesFit m n N)
+  pub table : T (tableFits N t)
+  pub sound : Sound m n N (graphOf N t)
+
+pub passed : (m n N : ℕ) (t : List ℤ) → T (passes m n N t) → Passed m n N t
+unfolding passes
+passed m n N t p =
+    let g : Graph = graphOf N t in
+    let p6 = and-e (sizesFit m n N && tableFits N t && cellsFit N g && noArcIntoInput m N g) (noCycle N g) p in
+    let p5 = and-e (sizesFit m n N && tableFits N t && cellsFit N g) (noArcIntoInput m N g) (p6 .0) in
+    let p4 = and-e (sizesFit m n N && tableFits N t) (cellsFit N g) (p5 .0) in
+    let p2 = and-e (sizesFit m n N) (tableFits N t) (p4 .0) in
+    record { sizes = p2 .0; table = p2 .1; sound = sound-of m n N g (graphOf-within N t) (p2 .0) (p4 .1) (p5 .1) (p6 .1) }
+
+-- ---- to the checks
+
+module _ {m n N : ℕ} {g : Graph} (s : Sound m n N g) where
+  sound-cells : T (cellsFit N g)
+  unfolding cellsFit
+  sound-cells = every-all N (λ u. every N (λ v. fits delayLimit (g u v))) (λ u _. every-all N (λ v. fits delayLimit (g u v)) (λ v _. sound-fits s u v))
+
+  sound-noArc : T (noArcIntoInput m N g)
+  unfolding noArcIntoInput
+  sound-noArc = every-all N (λ u. every m (λ i. not (present (g u i)))) (λ u _. every-all m (λ i. not (present (g u i)))
+      (λ i l. not-T (present (g u i)) (not-present (g u i) (sound-inputs s u i l))))
+
+  sound-noCycle : T (noCycle N g)
+  unfolding noCycle
+  sound-noCycle = every-all N (λ v. not (present (longest g N v v))) (λ v _. not-T (present (longest g N v v)) (not-present (longest g N v v) (acyclic-test N (s .acyclic) v)))
+
+pub passed-passes : {m n N : ℕ} {t : List ℤ} → Passed m n N t → T (passes m n N t)
+unfolding passes
+passed-passes {m} {n} {N} {t} p =
+    let g : Graph = graphOf N t in
+    and-i (sizesFit m n N && tableFits N t && cellsFit N g && noArcIntoInput m N g) (noCycle N g)
+    (and-i (sizesFit m n N && tableFits N t && cellsFit N g) (noArcIntoInput m N g)
+    (and-i (sizesFit m n N && tableFits N t) (cellsFit N g)
+    (and-i (sizesFit m n N) (tableFits N t) (p .sizes) (p .table)) (sound-cells (p .sound))) (sound-noArc (p .sound))) (sound-noCycle (p .sound))
+
+-- ---- the verdict
+
+-- what a call that gets past its checks knows
+pub record Checked (m n N s : ℕ) (t : List ℤ) (g : Graph) : Type 0 where
+  pub good : Passed m n N t
+  pub scratch : T (scratchFits N s)
+  pub graph : g ≡ graphOf N t
+
+pub checked-accepted : (m n N s : ℕ) (t : List ℤ) (g : Graph) → checked m n N s t ≡ accepted g → Checked m n N s t g
+unfolding checked
+checked-accepted m n N s t g e =
+    let h : Graph = graphOf N t in
+    let p1 = require-accepted (sizesFit m n N) Sizes _ g e in
+    let p2 = require-accepted (tableFits N t) TableShort _ g (p1 .1) in
+    let p3 = require-accepted (scratchFits N s) ScratchShort _ g (p2 .1) in
+    let p4 = require-accepted (cellsFit N h) OddCell _ g (p3 .1) in
+    let p5 = require-accepted (noArcIntoInput m N h) ArcIntoInput _ g (p4 .1) in
+    let p6 = require-accepted (noCycle N h) Cycle _ g (p5 .1) in
+    record {
+      good = record { sizes = p1 .0; table = p2 .0; sound = sound-of m n N h (graphOf-within N t) (p1 .0) (p4 .0) (p5 .0) (p6 .0) };
+      scratch = p3 .0;
+      graph = same h (p6 .1);
+    }
+  where
+    same : (h : Graph) → accepted h ≡ accepted g → g ≡ h
+    same h q = cc
+
+pub checked-passed : {m n N : ℕ} (s : ℕ) {t : List ℤ} → Passed m n N t → T (scratchFits N s) → checked m n N s t ≡ accepted (graphOf N t)
+unfolding checked
+checked-passed {m} {n} {N} s {t} p r =
+    accepted-require (sizesFit m n N) Sizes _ (p .sizes)
+    ∙ accepted-require (tableFits N t) TableShort _ (p .table)
+    ∙ accepted-require (scratchFits N s) ScratchShort _ r
+    ∙ accepted-require (cellsFit N (graphOf N t)) OddCell _ (sound-cells (p .sound))
+    ∙ accepted-require (noArcIntoInput m N (graphOf N t)) ArcIntoInput _ (sound-noArc (p .sound))
+    ∙ accepted-require (noCycle N (graphOf N t)) Cycle _ (sound-noCycle (p .sound))
