@@ -7,3 +7,5 @@ pub mod Rank
 pub mod Arrivals
 pub mod Cycle
 pub mod Count
+pub mod Span
+pub mod Propagation

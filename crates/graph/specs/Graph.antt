@@ -4,7 +4,7 @@ use mathlib.Core.Bool.{cond}
 use mathlib.Core.List.{List, [], _∷_}
 use Prim.Native.Nat.{ℕ, zero, suc}
 use lib.Dec.{eqb}
-use Rattle.graph.specs.Delay.{Delay, absent, immediate, _⋓_, _⊕_, _⊑_}
+use Rattle.graph.specs.Delay.{Delay, absent, immediate, _⋓_, _⊕_, _⊑_, greatest}
 
 abbrev pub Graph : Type 0
 Graph = ℕ → ℕ → Delay
@@ -31,3 +31,7 @@ longest g (suc k) u v = longest g k u v ⋓ (longest g k u k ⊕ longest g k k v
 -- the greatest delay of a walk from u to v: of a path, or 0 where u is v
 unfoldable pub walk : Graph → Graph
 walk D u v = cond (eqb u v) immediate (D u v)
+
+-- the latest signal at v among vertices below N, where one starts at each vertex u at F u
+unfoldable pub propagated : ℕ → Graph → (ℕ → Delay) → ℕ → Delay
+propagated N g F v = F v ⋓ greatest N (λ u. F u ⊕ longest g N u v)

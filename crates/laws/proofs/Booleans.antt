@@ -1,5 +1,5 @@
 -- Tests as facts: `T b` says that b is true.
-use mathlib.Core.Path.{_≡_, refl, subst}
+use mathlib.Core.Path.{_≡_, refl, sym, subst}
 use mathlib.Core.Logic.{_≢_, _⊎_, inl, inr}
 use mathlib.Core.Bool.{Bool, true, false, not, cond, _&&_, _||_}
 use Prim.Native.Nat.{ℕ}
@@ -58,3 +58,23 @@ eq→eqb m n e = subst (λ (x : ℕ). T (eqb m x)) e (eqb-refl m)
 
 pub neqb→ne : (m n : ℕ) → T (not (eqb m n)) → m ≢ n
 neqb→ne m n t e = T-not (eqb m n) t (eq→eqb m n e)
+
+-- ---- by cases, with the scrutinee first so that the cases' types are known
+
+pub split {ℓ} : {X Y : Type 0} {P : Type ℓ} → X ⊎ Y → (X → P) → (Y → P) → P
+split (inl x) f g = f x
+split (inr y) f g = g y
+
+pub cases {ℓ} : {P : Type ℓ} (b : Bool) → (b ≡ true → P) → (b ≡ false → P) → P
+cases true f g = f refl
+cases false f g = g refl
+
+pub is-true : (b : Bool) → T b → b ≡ true
+is-true b t = T-true t
+
+pub is-false : (b : Bool) → (T b → ⊥) → b ≡ false
+is-false true h = absurd (h tt)
+is-false false h = refl
+
+pub true-is : {b : Bool} → b ≡ true → T b
+true-is e = subst T (sym e) tt

@@ -1,15 +1,16 @@
 -- Laws of `every`, `some`, `first`, `member` and `each`: how each is made, and what it gives.
-use mathlib.Core.Path.{_≡_, sym, subst}
+use mathlib.Core.Path.{_≡_, refl, sym, ap₂, subst}
 use mathlib.Core.Logic.{_⊎_, inl, inr}
-use mathlib.Core.Bool.{Bool, not, cond, _&&_, _||_}
+use mathlib.Core.Bool.{Bool, true, false, not, cond, _&&_, _||_}
 use mathlib.Core.List.{List, [], _∷_}
-use Prim.Native.Nat.{ℕ, zero, suc, _<_}
+use Prim.Native.Nat.{ℕ, zero, suc, _+_, _<_}
 use native.Mathlib.Nat.{not-suc-le-zero}
 use native.Mathlib.Decide.{ℕ-discrete}
+use native.Mathlib.Numerals.{add-one}
 use native.Mathlib.Omega.{arith}
 use lib.Dec.{T, T-not, eqb, eqb→eq, ltb, ltb→lt, lt→ltb}
 use Rattle.laws.specs.Bounded.{every, some, first, member, each}
-use Rattle.laws.proofs.Booleans.{or-l, or-r, or-cases, and-i, and-e, true-or-not, cond-elim}
+use Rattle.laws.proofs.Booleans.{or-l, or-r, or-cases, and-i, and-e, true-or-not, cond-elim, is-false}
 
 -- a fact of each number below n, and of n
 pub below-suc {ℓ} : (P : ℕ → Type ℓ) (n : ℕ) → ((i : ℕ) → i < n → P i) → P n → (i : ℕ) → i < suc n → P i
@@ -84,3 +85,21 @@ each-at (y ∷ ys) f t x h = go (each-at ys f) (and-e (f y) (each ys f) t) (or-c
     go : (T (each ys f) → (x : ℕ) → T (member x ys) → T (f x)) → T (f y) × T (each ys f) → T (eqb x y) ⊎ T (member x ys) → T (f x)
     go ih p (inl q) = subst (λ (z : ℕ). T (f z)) (sym (eqb→eq x y q)) (p .0)
     go ih p (inr q) = ih (p .1) x q
+
+-- ---- for loops that count up: one number more, a number that fails, and functions that agree
+
+pub every-none : (f : ℕ → Bool) → every 0 f ≡ true
+unfolding every
+every-none f = refl
+
+pub every-more : (f : ℕ → Bool) (i : ℕ) → every i f ≡ true → f i ≡ true → every (i + 1) f ≡ true
+unfolding every
+every-more f i all this = rw (add-one i) (simp (all, this))
+
+pub every-broken : (n : ℕ) (f : ℕ → Bool) (i : ℕ) → i < n → f i ≡ false → every n f ≡ false
+every-broken n f i l e = is-false (every n f) (λ t. subst T e (every-at n f t i l))
+
+pub every-same : (n : ℕ) (f g : ℕ → Bool) → ((i : ℕ) → i < n → f i ≡ g i) → every n f ≡ every n g
+unfolding every
+every-same zero f g h = refl
+every-same (suc n) f g h = ap₂ _&&_ (every-same n f g (λ i l. h i (omega arith))) (h n (omega arith))

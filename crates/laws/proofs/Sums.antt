@@ -4,6 +4,7 @@ use mathlib.Core.Logic.{_≢_}
 use Prim.Native.Nat.{ℕ, zero, suc, _+_, _≤_, _<_}
 use native.Mathlib.Nat.{not-suc-le-zero}
 use native.Mathlib.Decide.{ℕ-discrete}
+use native.Mathlib.Numerals.{add-one}
 use native.Mathlib.Omega.{arith}
 use Rattle.laws.specs.Bounded.{sum}
 use Rattle.laws.proofs.Update.{update, update-same, update-other, update-elim}
@@ -32,6 +33,11 @@ pub sum-swap : (n m : ℕ) (f : ℕ → ℕ → ℕ) → sum n (λ i. sum m (λ 
 unfolding sum
 sum-swap zero m f = sym (sum-zero m (λ j. zero) (λ i l. refl))
 sum-swap (suc n) m f = ap (λ (s : ℕ). s + sum m (λ j. f n j)) (sum-swap n m f) ∙ sym (sum-add m (λ j. sum n (λ i. f i j)) (λ j. f n j))
+
+-- one term more, as a loop counts
+pub sum-more : (f : ℕ → ℕ) (i : ℕ) → sum (i + 1) f ≡ sum i f + f i
+unfolding sum
+sum-more f i = rw (add-one i)
 
 pub sum-bound : (n : ℕ) (f : ℕ → ℕ) → ((i : ℕ) → f i ≤ 1) → sum n f ≤ n
 unfolding sum

@@ -1,0 +1,23 @@
+-- Rows of a table as the code reads them: lent as `&table[at..]`, with at = N * u.
+use mathlib.Core.Path.{_≡_, sym, ap, _∙_}
+use mathlib.Core.List.{List}
+use Prim.Native.Nat.{ℕ, _+_, _-_, _*_, _≤_, _<_}
+use native.Mathlib.Omega.{arith}
+use lib.IntN.{ℤ, pos}
+use lib.ListN.{length, getD, take, drop, length-take, length-drop}
+use Rattle.laws.proofs.Grid.{row-in, row-cell}
+use Rattle.graph.specs.Delay.{Delay}
+use Rattle.timing.specs.Limits.{absentCell}
+use Rattle.timing.specs.Table.{readCell, graphOf}
+use Rattle.timing.proofs.Table.{graphOf-at}
+use Rattle.paths.specs.Cells.{cellAt}
+
+module _ (N : ℕ) (t : List ℤ) (u : ℕ) (room : N * N ≤ length t) (l : u < N) where
+  abbrev pub lent : List ℤ
+  lent = take (length t - N * u) (drop (N * u) t)
+
+  pub lent-cell : (v : ℕ) → v < N → cellAt lent v ≡ graphOf N t u v
+  lent-cell v k = ap (readCell absentCell) (row-cell t (N * u) (length t - N * u) v (pos 0) (omega (arith, row-in N u l))) ∙ sym (graphOf-at N t u v l k)
+
+  pub lent-long : N ≤ length lent
+  lent-long = simp (length-take, length-drop) (omega (arith, row-in N u l))

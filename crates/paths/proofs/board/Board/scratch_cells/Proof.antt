@@ -1,0 +1,14 @@
+use borrow.Author.Needs.{needs}
+use native.Mathlib.Omega.{arith}
+use Rattle.paths.proofs.Sizes.{board-area}
+use Rattle.paths.proofs.board.Board.scratch_cells.Statement.{statement}
+use Rattle.paths.proofs.board.Board.scratch_cells.Tie as tie
+
+mul-result : tie.Need-mul-result
+mul-result c = omega (arith, board-area _ (c .before .pre))
+
+returns : tie.Need-returns
+returns c = search needs
+
+pub scratch-cells-spec : {M : Type 1} → statement M
+scratch-cells-spec = tie.close (tie.spec mul-result returns)

@@ -1,0 +1,149 @@
+// Cells and arcs of a table: checks 4 and 5, fan counts, present cells.
+use crate::board::Board;
+ghost use mathlib.Core.Path.{_≡_};
+ghost use mathlib.Core.Bool.{not};
+ghost use Prim.Native.Nat.{ℕ, _+_, _*_, _<_, _≤_};
+ghost use lib.IntN.{ℤ, pos};
+ghost use lib.ListN.{length, getD};
+ghost use Rattle.laws.specs.Bounded.{every, sum};
+ghost use Rattle.graph.specs.Delay.{at, present};
+ghost use Rattle.graph.specs.Count.{bit, fanIn, fanOut, arcs};
+ghost use Rattle.timing.specs.Limits.{delayLimit, absentCell, fits};
+ghost use Rattle.timing.specs.Table.{readCell, graphOf};
+ghost use Rattle.timing.specs.Checks.{cellsFit, noArcIntoInput};
+ghost use Rattle.paths.specs.Board.{Lent};
+ghost use Rattle.paths.specs.Cells.{cellAt, Within};
+
+// A cell as a 64-bit number.
+pub fn wide(x: i32) -> i64
+    ensures { λ r. ⌜ r ≡ x ⌝ }
+{
+    x as i64
+}
+
+// Whether a cell has an arc.
+pub fn is_arc(x: i32) -> bool
+    ensures { λ r. ⌜ r ≡ present (readCell absentCell x) ⌝ }
+{
+    if x == Board::ABSENT {
+        return false;
+    }
+    true
+}
+
+// Whether x is a delay that a cell may hold.
+pub fn in_range(x: i64) -> bool
+    ensures { λ r. ⌜ r ≡ fits delayLimit (at x) ⌝ }
+{
+    if x < Board::MIN_DELAY {
+        return false;
+    }
+    x <= Board::MAX_DELAY
+}
+
+// Whether a cell is absent or in range.
+fn cell_fits(x: i32) -> bool
+    ensures { λ r. ⌜ r ≡ fits delayLimit (readCell absentCell x) ⌝ }
+{
+    if !is_arc(x) {
+        return true;
+    }
+    in_range(wide(x))
+}
+
+fn row_fits(row: &[i32], n: usize) -> bool
+    requires { ⌜ n ≤ length (now row) ⌝ }
+    ensures { λ r. ⌜ r ≡ every n (λ v. fits delayLimit (cellAt (now (row .entry)) v)) ⌝ }
+{
+    let mut v = 0;
+    while v < n {
+        if !cell_fits(row[v]) {
+            return false;
+        }
+        v += 1;
+    }
+    true
+}
+
+// Check 4: each cell is absent or in range.
+pub fn cells_fit(board: Board, table: &[i32]) -> bool
+    requires { ⌜ Lent board (now table) ⌝ }
+    ensures { λ r. ⌜ r ≡ cellsFit (board .vertices) (graphOf (board .vertices) (now (table .entry))) ⌝ }
+{
+    let n = board.vertices;
+    let mut u = 0;
+    while u < n {
+        let at = n * u;
+        if !row_fits(&table[at..], n) {
+            return false;
+        }
+        u += 1;
+    }
+    true
+}
+
+// How many of the cells at `from`, `from` + `stride`, .. are present: the one counting routine.
+fn count(table: &[i32], from: usize, stride: usize, times: usize) -> usize
+    requires { ⌜ Within (now table) from stride times ⌝ }
+    ensures { λ r. ⌜ r ≡ sum times (λ i. bit (cellAt (now (table .entry)) (from + stride * i))) ⌝ }
+{
+    let mut total = 0;
+    let mut i = 0;
+    while i < times {
+        let at = from + stride * i;
+        if is_arc(table[at]) {
+            total += 1;
+        }
+        i += 1;
+    }
+    total
+}
+
+// The arcs out of u: a row.
+pub fn fan_out(board: Board, table: &[i32], u: usize) -> usize
+    requires { ⌜ Lent board (now table) × (u < board .vertices) ⌝ }
+    ensures { λ r. ⌜ r ≡ fanOut (board .vertices) (graphOf (board .vertices) (now (table .entry))) u ⌝ }
+{
+    let n = board.vertices;
+    count(table, n * u, 1, n)
+}
+
+// The arcs into v: a column.
+pub fn fan_in(board: Board, table: &[i32], v: usize) -> usize
+    requires { ⌜ Lent board (now table) × (v < board .vertices) ⌝ }
+    ensures { λ r. ⌜ r ≡ fanIn (board .vertices) (graphOf (board .vertices) (now (table .entry))) v ⌝ }
+{
+    let n = board.vertices;
+    count(table, v, n, n)
+}
+
+// All arcs: the present cells.
+pub fn arcs(board: Board, table: &[i32]) -> usize
+    requires { ⌜ Lent board (now table) ⌝ }
+    ensures { λ r. ⌜ r ≡ arcs (board .vertices) (graphOf (board .vertices) (now (table .entry))) ⌝ }
+{
+    let n = board.vertices;
+    let mut total = 0;
+    let mut u = 0;
+    while u < n {
+        total += fan_out(board, table, u);
+        u += 1;
+    }
+    total
+}
+
+// Check 5: no arc leads into an input.
+pub fn no_arc_into_input(board: Board, table: &[i32]) -> bool
+    requires { ⌜ Lent board (now table) ⌝ }
+    ensures { λ r. ⌜ r ≡ noArcIntoInput (board .inputs) (board .vertices) (graphOf (board .vertices) (now (table .entry))) ⌝ }
+{
+    let m = board.inputs;
+    let mut i = 0;
+    while i < m {
+        if fan_in(board, table, i) != 0 {
+            return false;
+        }
+        i += 1;
+    }
+    true
+}

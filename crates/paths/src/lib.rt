@@ -1,0 +1,6 @@
+// Path delays of boards: the board's type, checks 1 to 6, topological order, arrivals, and the delay matrix.
+
+pub mod board;
+pub mod cells;
+
+pub use board::Board;
