@@ -8,7 +8,7 @@ use native.Mathlib.Decide.{ℕ-discrete}
 use Rattle.laws.proofs.Booleans.{eqb-same, eqb-other}
 use Rattle.graph.specs.Delay.{Delay, absent, immediate, _⊕_, _⊑_}
 use Rattle.graph.specs.Graph.{Graph, pathDelay, Acyclic, Longest, walk}
-use Rattle.graph.proofs.Delay.{absent-⊑, ⊑-refl, ⊑-trans, ⊑-eq, ⊕-immediate, immediate-⊕, ⊕-assoc, ⊕-mono, ⊕-left, ⊕-right}
+use Rattle.graph.proofs.Delay.{absent-⊑, ⊑-refl, ⊑-trans, ⊑-eq, ⊑-absent, none-r, ⊕-immediate, immediate-⊕, ⊕-assoc, ⊕-mono, ⊕-left, ⊕-right}
 use Rattle.graph.proofs.Longest.{path-append}
 
 module _ {g L : Graph} (l : Longest g L) where
@@ -40,6 +40,14 @@ module _ {g L : Graph} (l : Longest g L) where
       go : (pathDelay g u (l .reached u v .0) v ⊑ g u v) ⊎ ((x : ℕ) × (pathDelay g u (l .reached u v .0) v ⊑ L u x ⊕ g x v)) → (L u v ⊑ g u v) ⊎ ((x : ℕ) × (L u v ⊑ L u x ⊕ g x v))
       go (inl h) = inl (⊑-trans (⊑-eq (l .reached u v .1)) h)
       go (inr (x, h)) = inr (x, ⊑-trans (⊑-eq (l .reached u v .1)) h)
+
+  -- nothing leads to a vertex without arcs in
+  pub undriven : (v : ℕ) → ((u : ℕ) → g u v ≡ absent) → (u : ℕ) → L u v ≡ absent
+  undriven v h u = ⊑-absent (go (last-arc u v))
+    where
+      go : (L u v ⊑ g u v) ⊎ ((x : ℕ) × (L u v ⊑ L u x ⊕ g x v)) → L u v ⊑ absent
+      go (inl k) = ⊑-trans k (⊑-eq (h u))
+      go (inr (x, k)) = ⊑-trans k (none-r (L u x) (h x))
 
 -- ---- walks: a path, or no arc at all
 

@@ -1,12 +1,12 @@
 -- `greatest` is the least upper bound of its terms, and one of them.
 use mathlib.Core.Path.{_≡_, refl, ap₂, _∙_}
 use mathlib.Core.Logic.{_⊎_, inl, inr}
-use Prim.Native.Nat.{ℕ, zero, suc, _<_}
+use Prim.Native.Nat.{ℕ, zero, suc, _≤_, _<_}
 use native.Mathlib.Nat.{not-suc-le-zero}
-use native.Mathlib.Decide.{ℕ-discrete}
+use native.Mathlib.Decide.{ℕ-discrete, decLt}
 use native.Mathlib.Omega.{arith}
 use Rattle.graph.specs.Delay.{Delay, absent, _⋓_, _⊑_, greatest}
-use Rattle.graph.proofs.Delay.{absent-⊑, ⊑-trans, ⋓-sel, ⋓-l, ⋓-r, ⋓-lub}
+use Rattle.graph.proofs.Delay.{absent-⊑, ⊑-trans, ⊑-antisym, ⊑-eq, ⋓-sel, ⋓-l, ⋓-r, ⋓-lub}
 
 pub greatest-ge : (n : ℕ) (f : ℕ → Delay) (i : ℕ) → i < n → f i ⊑ greatest n f
 unfolding greatest
@@ -37,3 +37,11 @@ pub greatest-ext : (n : ℕ) (f g : ℕ → Delay) → ((i : ℕ) → i < n → 
 unfolding greatest
 greatest-ext zero f g h = refl
 greatest-ext (suc n) f g h = ap₂ _⋓_ (greatest-ext n f g (λ i l. h i (omega arith))) (h n (omega arith))
+
+-- terms that are absent add nothing
+pub greatest-pad : (m n : ℕ) (f : ℕ → Delay) → m ≤ n → ((i : ℕ) → m ≤ i → i < n → f i ≡ absent) → greatest n f ≡ greatest m f
+greatest-pad m n f l h = ⊑-antisym (greatest-lub n f (greatest m f) (λ i k. go i k (decLt i m))) (greatest-lub m f (greatest n f) (λ i k. greatest-ge n f i (omega arith)))
+  where
+    go : (i : ℕ) → i < n → Dec (i < m) → f i ⊑ greatest m f
+    go i k (yes p) = greatest-ge m f i p
+    go i k (no p) = ⊑-trans (⊑-eq (h i (omega arith) k)) (absent-⊑ (greatest m f))

@@ -29,6 +29,20 @@ max-sel a b = go (ltZ a b) (λ t. record { lt = t }) (λ t. ltZ-no t)
     go true f g = inl (f tt, refl)
     go false f g = inr (g tt, refl)
 
+pub max-lt : (a b : ℤ) → a <ℤ b → maxZ a b ≡ b
+max-lt a b h = go (max-sel a b)
+  where
+    go : ((a <ℤ b) × (maxZ a b ≡ b)) ⊎ ((b ≤ℤ a) × (maxZ a b ≡ a)) → maxZ a b ≡ b
+    go (inl k) = k .1
+    go (inr k) = let q = k .0 in absurd (omega zarith)
+
+pub max-ge : (a b : ℤ) → b ≤ℤ a → maxZ a b ≡ a
+max-ge a b h = go (max-sel a b)
+  where
+    go : ((a <ℤ b) × (maxZ a b ≡ b)) ⊎ ((b ≤ℤ a) × (maxZ a b ≡ a)) → maxZ a b ≡ a
+    go (inl k) = let q = k .0 in absurd (omega zarith)
+    go (inr k) = k .1
+
 pub min-le : (a b : ℤ) → (minZ a b ≤ℤ a) × (minZ a b ≤ℤ b)
 unfolding minZ
 min-le a b = go (ltZ b a) (ltZ→ b a) (nltZ→ b a)

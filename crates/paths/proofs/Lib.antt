@@ -2,3 +2,8 @@ pub mod Sizes
 pub mod Rows
 pub mod ReadCells
 pub mod Inputs
+pub mod Sorting
+pub mod Pushing
+pub mod Later
+pub mod Propagating
+pub mod Starting

@@ -1,2 +1,4 @@
 pub mod Board
 pub mod Cells
+pub mod Order
+pub mod Arrivals

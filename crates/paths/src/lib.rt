@@ -1,6 +1,8 @@
 // Path delays of boards: the board's type, checks 1 to 6, topological order, arrivals, and the delay matrix.
 
+pub mod arrivals;
 pub mod board;
 pub mod cells;
+pub mod order;
 
 pub use board::Board;

@@ -110,6 +110,10 @@ passed m n N t p =
 
 -- ---- to the checks
 
+pub acyclic-noCycle : (N : ℕ) (g : Graph) → Acyclic g → T (noCycle N g)
+unfolding noCycle
+acyclic-noCycle N g a = every-all N (λ v. not (present (longest g N v v))) (λ v _. not-T (present (longest g N v v)) (not-present (longest g N v v) (acyclic-test N a v)))
+
 module _ {m n N : ℕ} {g : Graph} (s : Sound m n N g) where
   sound-cells : T (cellsFit N g)
   unfolding cellsFit
@@ -121,8 +125,7 @@ module _ {m n N : ℕ} {g : Graph} (s : Sound m n N g) where
       (λ i l. not-T (present (g u i)) (not-present (g u i) (sound-inputs s u i l))))
 
   sound-noCycle : T (noCycle N g)
-  unfolding noCycle
-  sound-noCycle = every-all N (λ v. not (present (longest g N v v))) (λ v _. not-T (present (longest g N v v)) (not-present (longest g N v v) (acyclic-test N (s .acyclic) v)))
+  sound-noCycle = acyclic-noCycle N g (s .acyclic)
 
 pub passed-passes : {m n N : ℕ} {t : List ℤ} → Passed m n N t → T (passes m n N t)
 unfolding passes

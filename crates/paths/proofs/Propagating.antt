@@ -1,0 +1,124 @@
+-- A turn of `propagate`, and its end: lists of 64-bit cells that hold what `pushed` says.
+use mathlib.Core.Path.{_≡_, refl, sym, ap, ap₂, _∙_, subst}
+use mathlib.Core.Logic.{_≢_, _⊎_, inl, inr}
+use mathlib.Core.List.{List, _++_}
+use Prim.Native.Nat.{ℕ, zero, suc, _+_, _-_, _*_, _≤_, _<_}
+use native.Mathlib.Omega.{arith}
+use native.Mathlib.Numerals.{add-one}
+use native.Mathlib.Decide.{decLt}
+use lib.Dec.{T}
+use lib.IntN.{ℤ, pos}
+use lib.ListN.{length, getD, drop, length-append, length-drop, List·getD-append}
+use lib.Seq.{ext-getD, getD-append-add, getD-drop}
+use Rattle.laws.specs.Lists.{tabulate}
+use Rattle.laws.proofs.Lists.{length-tabulate, getD-tabulate}
+use Rattle.graph.specs.Delay.{Delay, absent, present, at, _⋓_, _⊕_}
+use Rattle.graph.specs.Graph.{Graph, propagated}
+use Rattle.graph.proofs.Delay.{⊕-absent, ⋓-absent}
+use Rattle.graph.proofs.Presence.{absent-or}
+use Rattle.graph.proofs.Span.{InSpan, span-le}
+use Rattle.timing.specs.Limits.{maxVertices, delayLimit, absentWide, fits}
+use Rattle.timing.specs.Table.{readCell, writeCell, graphOf}
+use Rattle.timing.specs.Delays.{arrivalIn}
+use Rattle.timing.proofs.Limits.{fits-span, span-fits}
+use Rattle.timing.proofs.Table.{graphOf-within, read-absent, read-at, written-read}
+use Rattle.timing.proofs.Checks.{sound-fits}
+use Rattle.paths.specs.declared.board.Board.{Board}
+use Rattle.paths.specs.Cells.{cellAt}
+use Rattle.paths.specs.Arrivals.{insideLimit, reachedLimit, filled, Passable, Started, Reached, Pushed}
+use Rattle.paths.proofs.Rows.{lent, lent-cell}
+use Rattle.paths.proofs.Pushing.{pushed, pushed-span, pushed-all}
+
+-- a list is known by its first n cells, read as delays, and by the rest
+pub filled-is : (n : ℕ) (h : ℕ → Delay) (f₀ f : List ℤ) → n ≤ length f₀ → length f ≡ length f₀ → ((v : ℕ) → v < n → arrivalIn f v ≡ h v) → ((v : ℕ) → n ≤ v → getD f v (pos 0) ≡ getD f₀ v (pos 0)) → f ≡ filled n h f₀
+filled-is n h f₀ f room size cells rest = ext-getD (pos 0) f (filled n h f₀) (size ∙ sym long) (λ i l. go i (decLt i n))
+  where
+    c : ℕ → ℤ
+    c v = writeCell absentWide (h v)
+
+    long : length (filled n h f₀) ≡ length f₀
+    long = simp (length-append, length-tabulate, length-drop) (omega arith)
+
+    go : (i : ℕ) → Dec (i < n) → getD f i (pos 0) ≡ getD (filled n h f₀) i (pos 0)
+    go i (yes l) =
+        sym (written-read absentWide (getD f i (pos 0))) ∙ ap (writeCell absentWide) (cells i l)
+        ∙ sym (List·getD-append (tabulate n c) (drop n f₀) (pos 0) i (omega (arith, length-tabulate c n)) ∙ getD-tabulate c n i (pos 0) l)
+    go i (no l) =
+        let e : n + (i - n) ≡ i = omega arith in
+        rest i (omega arith) ∙ ap (λ (x : ℕ). getD f₀ x (pos 0)) (sym e) ∙ sym (getD-drop n f₀ (i - n) (pos 0))
+        ∙ sym (getD-append-add (tabulate n c) (drop n f₀) (i - n) (pos 0))
+        ∙ ap (λ (x : ℕ). getD (tabulate n c ++ drop n f₀) (x + (i - n)) (pos 0)) (length-tabulate c n) ∙ ap (λ (x : ℕ). getD (tabulate n c ++ drop n f₀) x (pos 0)) e
+
+-- the first p vertices have pushed
+pub record Going (n : ℕ) (t : List ℤ) (o : List ℕ) (f₀ f : List ℤ) (p : ℕ) : Type 0 where
+  pub upto : p ≤ n
+  pub size : length f ≡ length f₀
+  pub cells : (v : ℕ) → v < n → arrivalIn f v ≡ pushed (graphOf n t) o (arrivalIn f₀) p v
+  pub rest : (v : ℕ) → n ≤ v → getD f v (pos 0) ≡ getD f₀ v (pos 0)
+
+pub going-start : (n : ℕ) (t : List ℤ) (o : List ℕ) (f : List ℤ) → Going n t o f f 0
+unfolding pushed
+going-start n t o f = record { upto = omega arith; size = refl; cells = λ v h. refl; rest = λ v h. refl }
+
+module _ {b : Board} {t : List ℤ} {o : List ℕ} {f₀ f : List ℤ} {p : ℕ} (R : Started b t o f₀) (G : Going (b .vertices) t o f₀ f p) where
+  abbrev n : ℕ
+  n = b .vertices
+
+  abbrev F : ℕ → Delay
+  F = arrivalIn f₀
+
+  module _ (k : p < b .vertices) where
+    abbrev x : ℕ
+    x = getD o p 0
+
+    pub x-in : x < n
+    x-in = R .passable .order .vertex p k .0
+
+    -- the vertex is not reached: it pushes nothing
+    pub skipped : getD f x (pos 0) ≡ absentWide → Going n t o f₀ f (p + 1)
+    unfolding pushed
+    skipped z = rw add-one (record {
+      upto = k;
+      size = G .size;
+      cells = λ v h. G .cells v h ∙ sym (⋓-absent (pushed (graphOf n t) o F p v))
+          ∙ ap (λ (d : Delay). pushed (graphOf n t) o F p v ⋓ (d ⊕ graphOf n t x v)) (sym (read-absent absentWide (getD f x (pos 0)) z) ∙ G .cells x x-in);
+      rest = G .rest;
+    })
+
+    pub reached : getD f x (pos 0) ≢ absentWide → Reached (getD f x (pos 0))
+    reached ne = record {
+      there = ne;
+      near = subst (λ (d : Delay). T (fits reachedLimit d)) (sym (G .cells x x-in) ∙ read-at absentWide (getD f x (pos 0)) ne)
+          (span-fits reachedLimit (pushed (graphOf n t) o F p x) (span-le (insideLimit + p * delayLimit) reachedLimit (pushed (graphOf n t) o F p x) (omega (arith, R .passable .lent .sized .few))
+          (pushed-span (graphOf-within n t) (R .passable .order) F insideLimit delayLimit (λ v l. fits-span insideLimit (F v) (R .near v l)) (λ u v. fits-span delayLimit (graphOf n t u v) (sound-fits (R .passable .sound) u v)) p x (omega arith) x-in)));
+    }
+
+    pub onward : (f′ : List ℤ) → length f′ ≡ length f → Pushed n o p (lent n t x (R .passable .lent .room) x-in) (getD f x (pos 0)) f f′ → Going n t o f₀ f′ (p + 1)
+    unfolding pushed
+    onward f′ l q = rw add-one (record {
+      upto = k;
+      size = l ∙ G .size;
+      cells = λ v h. go v h (decLt p (R .passable .order .rank v));
+      rest = λ v h. q .rest v (λ j _ m e. omega (arith, R .passable .order .vertex j m .0)) ∙ G .rest v h;
+    })
+      where
+        -- no arc leads back: what stands at an earlier vertex stays
+        back-none : (v : ℕ) → R .passable .order .rank v ≤ p → pushed (graphOf n t) o F p x ⊕ graphOf n t x v ≡ absent
+        back-none v h = pick (absent-or (graphOf n t x v))
+          where
+            pick : (graphOf n t x v ≡ absent) ⊎ T (present (graphOf n t x v)) → pushed (graphOf n t) o F p x ⊕ graphOf n t x v ≡ absent
+            pick (inl e) = ap (λ (d : Delay). pushed (graphOf n t) o F p x ⊕ d) e ∙ ⊕-absent (pushed (graphOf n t) o F p x)
+            pick (inr c) = absurd (omega (arith, R .passable .order .rise x v c, R .passable .order .vertex p k .1))
+
+        go : (v : ℕ) → v < n → Dec (p < R .passable .order .rank v) → arrivalIn f′ v ≡ pushed (graphOf n t) o F p v ⋓ (pushed (graphOf n t) o F p x ⊕ graphOf n t x v)
+        go v h (yes c) =
+            let m = R .passable .order .place v h in
+            subst (λ (y : ℕ). arrivalIn f′ y ≡ arrivalIn f y ⋓ (arrivalIn f x ⊕ cellAt (lent n t x (R .passable .lent .room) x-in) y)) (m .1) (q .cells (R .passable .order .rank v) c (m .0))
+            ∙ ap₂ _⋓_ (G .cells v h) (ap₂ _⊕_ (G .cells x x-in) (lent-cell n t x (R .passable .lent .room) x-in v h))
+        go v h (no c) =
+            ap (readCell absentWide) (q .rest v (λ j l m e. omega (arith, R .passable .order .vertex j m .1, ap (R .passable .order .rank) e))) ∙ G .cells v h ∙ sym (⋓-absent (pushed (graphOf n t) o F p v))
+            ∙ ap (λ (d : Delay). pushed (graphOf n t) o F p v ⋓ d) (sym (back-none v (omega arith)))
+
+  pub ended : p ≡ b .vertices → f ≡ filled (b .vertices) (propagated (b .vertices) (graphOf (b .vertices) t) (arrivalIn f₀)) f₀
+  ended e = filled-is n (propagated n (graphOf n t) F) f₀ f (R .room) (G .size)
+      (λ v l. G .cells v l ∙ ap (λ (q : ℕ). pushed (graphOf n t) o F q v) e ∙ pushed-all (graphOf-within n t) (R .passable .order) F v) (G .rest)

@@ -1,0 +1,87 @@
+use Rattle.paths.proofs.order.lower.Statement.{statement}
+use Rattle.paths.proofs.order.lower.Tie as tie
+use Rattle.paths.proofs.order.lower.Reads as reads
+use Rattle.paths.proofs.order.lower.Lts as lts
+use Rattle.paths.proofs.order.lowered.Reads as lowered-reads
+use mathlib.Core.Path.{_≡_, refl, sym, ap, _∙_}
+use mathlib.Core.List.{List}
+use Prim.Native.Nat.{ℕ, _≤_, _<_, _+_, _-_}
+use native.Mathlib.Omega.{arith}
+use lib.IntN.{ℤ, pos}
+use lib.ListN.{length, getD}
+use mir.Syntax.{w32}
+use mir.Val.{toZ, ofZ}
+use Rattle.laws.proofs.Signed.{back}
+use Rattle.laws.proofs.Storing.{Stored, stored-start, stored-turn}
+use Rattle.graph.specs.Count.{bit}
+use Rattle.timing.specs.Limits.{absentCell}
+use Rattle.timing.specs.Table.{readCell}
+use Rattle.paths.specs.Cells.{cellAt}
+
+-- what is to hold of the count at j
+abbrev Lowered : List ℤ → List ℕ → ℕ → ℕ → Type 0
+Lowered row fan₀ j x = x + bit (cellAt row j) ≡ getD fan₀ j 0
+
+abbrev Inv-loop : tie.InvT-loop
+Inv-loop row fan₀ n v₀ fan v = (v ≤ n) × Stored (Lowered row fan₀) 0 fan₀ fan v
+
+abbrev μ-loop : tie.MeasureT-loop
+μ-loop row fan₀ n v₀ fan v = n - v
+
+loop-holds : tie.Need-loop-holds Inv-loop μ-loop
+loop-holds c = (omega arith, stored-start _ _ _)
+
+element-copy-out-lowered : tie.Need-element-copy-out-lowered Inv-loop μ-loop
+element-copy-out-lowered c = omega (arith, c .before .before .pre .0)
+
+mul-lowered : tie.Need-mul-lowered Inv-loop μ-loop
+mul-lowered c = omega (arith, c .before .before .before .pre .0)
+
+shared-slice-copy-out-lowered : tie.Need-shared-slice-copy-out-lowered Inv-loop μ-loop
+shared-slice-copy-out-lowered c = omega (arith, c .before .before .before .pre .1)
+
+module _ (c : tie.After-lowered-arg2 Inv-loop μ-loop) where
+  abbrev head : tie.At-loop Inv-loop μ-loop
+  head = c .before .before .before
+
+  cell-is : bit (readCell absentCell (toZ w32 (ofZ w32 (getD (head .before .args .row .now) (head .loop .v) (pos 0))))) ≡ bit (cellAt (head .before .args .row .now) (head .loop .v))
+  cell-is = ap (λ (z : ℤ). bit (readCell absentCell z)) (back w32 _ (c .lowered-arg2 .given))
+
+lowered-requires : tie.Need-lowered-requires Inv-loop μ-loop
+lowered-requires c κs = omega (arith, cell-is c, head c .loop .inv .1 .left (head c .loop .v) (omega arith), head c .before .pre .3 (head c .loop .v) (c .before .before .loop-test .taken))
+
+element-write-fan : tie.Need-element-write-fan Inv-loop μ-loop
+element-write-fan c = omega (arith, c .before .before .before .before .before .pre .0)
+
+add-v : tie.Need-add-v Inv-loop μ-loop
+add-v c = omega arith
+
+loop-less : tie.Need-loop-less Inv-loop μ-loop
+loop-less c = omega arith
+
+loop-again : tie.Need-loop-again Inv-loop μ-loop
+loop-again c =
+    let h = head (c .before) in (
+      omega arith,
+      stored-turn (h .loop .inv .1) (omega (arith, h .before .pre .0, h .before .pre .2)) _ (omega (arith, c .lowered .ensures, cell-is (c .before), h .loop .inv .1 .left (h .loop .v) (omega arith))),
+    )
+
+returns : tie.Need-returns Inv-loop μ-loop
+returns c = (c .before .loop .inv .1 .size ∙ c .before .before .pre .2, λ v h. c .before .loop .inv .1 .done v (omega arith))
+
+pub lower-spec : {M : Type 1} → statement M
+lower-spec =
+    tie.close
+    (tie.spec
+    Inv-loop
+    μ-loop
+    loop-holds
+    element-copy-out-lowered
+    mul-lowered
+    shared-slice-copy-out-lowered
+    lowered-requires
+    element-write-fan
+    add-v
+    loop-less
+    loop-again
+    returns)

@@ -1,0 +1,171 @@
+use Rattle.paths.proofs.order.topological_order.Statement.{statement}
+use Rattle.paths.proofs.order.topological_order.Tie as tie
+use Rattle.paths.proofs.order.topological_order.Reads as reads
+use Rattle.paths.proofs.order.topological_order.Lts as lts
+use Rattle.paths.proofs.order.fans.Reads as fans-reads
+use Rattle.paths.proofs.order.lower.Reads as lower-reads
+use Rattle.paths.proofs.order.ready.Reads as ready-reads
+use mathlib.Core.Path.{_≡_, refl, sym, ap, _∙_, subst}
+use mathlib.Core.Logic.{_≢_}
+use mathlib.Core.Bool.{true, false}
+use mathlib.Core.List.{List}
+use Prim.Native.Nat.{ℕ, _≤_, _<_, _+_, _-_, _*_}
+use native.Mathlib.Omega.{arith}
+use native.Mathlib.Numerals.{add-one}
+use lib.Dec.{T}
+use lib.IntN.{ℤ, pos}
+use lib.ListN.{length, getD, set, length-set}
+use lib.Seq.{getD-set-same, getD-set-other}
+use Rattle.laws.proofs.Booleans.{is-true, is-false}
+use Rattle.laws.proofs.Grid.{row-in}
+use Rattle.graph.specs.Count.{bit}
+use Rattle.graph.proofs.Rank.{ranked-acyclic}
+use Rattle.timing.specs.Limits.{maxVertices}
+use Rattle.timing.specs.Table.{graphOf}
+use Rattle.timing.proofs.Table.{graphOf-within}
+use Rattle.timing.proofs.Checks.{noCycle-acyclic, acyclic-noCycle}
+use Rattle.paths.proofs.Rows.{lent-cell, lent-long}
+use Rattle.paths.proofs.Sorting.{Going, going-start, going-step, going-all, going-stuck, covers, order-ranked}
+
+abbrev Inv-loop : tie.InvT-loop
+Inv-loop table list₀ n fan₀ p₀ list fan p = (length fan ≡ maxVertices) × (length list ≡ maxVertices) × Going n (graphOf n table) list fan p
+
+abbrev μ-loop : tie.MeasureT-loop
+μ-loop table list₀ n fan₀ p₀ list fan p = n - p
+
+fans-requires : tie.Need-fans-requires Inv-loop μ-loop
+fans-requires c κs = c .pre .0
+
+loop-holds : tie.Need-loop-holds Inv-loop μ-loop
+loop-holds c = (c .fans .ensures .0, c .before .pre .1, going-start _ _ _ _ (omega (arith, c .before .pre .0 .sized .few, c .before .pre .1)) (c .fans .ensures .1))
+
+ready-requires : tie.Need-ready-requires Inv-loop μ-loop
+ready-requires c κs = c .before .before .before .before .pre .0 .sized .few
+
+returns : tie.Need-returns Inv-loop μ-loop
+returns c =
+    let l = c .before .before .before .before in
+    let n = l .before .before .args .board .vertices in
+    let t = l .before .before .args .table .now in
+    record {
+      long = l .loop .inv .1;
+      answer = sym (is-false _ (λ b. going-stuck (graphOf-within n t) (l .loop .inv .2) (c .before .before .before .loop-test .taken) (λ v h. c .before .ready .ensures .2 v (omega (arith, c .if1 .taken)))
+          (noCycle-acyclic n (graphOf n t) (graphOf-within n t) b)));
+      order = λ b. absurd b;
+    }
+
+-- a vertex was found
+module _ (e : tie.Else1 Inv-loop μ-loop) where
+  abbrev start : tie.Start Inv-loop μ-loop
+  start = e .before .before .before .before .before .before
+
+  abbrev head : tie.At-loop Inv-loop μ-loop
+  head = e .before .before .before .before
+
+  abbrev n : ℕ
+  n = start .args .board .vertices
+
+  abbrev t : List ℤ
+  t = start .args .table .now
+
+  abbrev u : ℕ
+  u = e .before .ready .result
+
+  in-n : u < n
+  in-n = e .if1 .left
+
+  p-in : head .loop .p < n
+  p-in = e .before .before .before .loop-test .taken
+
+  row : n * u + n ≤ n * n
+  row = row-in n u in-n
+
+  none : getD (head .loop .fan) u 0 ≡ 0
+  none = e .before .ready .ensures .1 in-n
+
+  low : (v : ℕ) → v < n → bit (graphOf n t u v) ≤ getD (head .loop .fan) v 0
+  low = covers (graphOf-within n t) (head .loop .inv .2) p-in u in-n none
+
+  step : (f : List ℕ) → ((v : ℕ) → v < n → getD f v 0 + bit (graphOf n t u v) ≡ getD (head .loop .fan) v 0) → length f ≡ maxVertices
+      → Going n (graphOf n t) (set (head .loop .list) (head .loop .p) u) (set f u 100) (head .loop .p + 1)
+  step f h l = rw add-one (going-step (graphOf-within n t) (head .loop .inv .2) p-in u in-n none (set f u 100)
+      (λ v k ne. ap (λ (x : ℕ). x + bit (graphOf n t u v)) (getD-set-other f u v 100 0 ne) ∙ h v k) (getD-set-same f u 100 0 (omega (arith, in-n, start .pre .0 .sized .few))))
+
+mul-at : tie.Need-mul-at Inv-loop μ-loop
+mul-at c = omega (arith, row c, start c .pre .0 .room)
+
+mul-lower : tie.Need-mul-lower Inv-loop μ-loop
+mul-lower c = omega (arith, row c, start c .pre .0 .room)
+
+sub-lower : tie.Need-sub-lower Inv-loop μ-loop
+sub-lower c = omega (arith, row c, start c .pre .0 .room)
+
+part-lower-start : tie.Need-part-lower-start Inv-loop μ-loop
+part-lower-start c = omega (arith, row c, start c .pre .0 .room)
+
+part-lower-end : tie.Need-part-lower-end Inv-loop μ-loop
+part-lower-end c = omega arith
+
+lower-requires : tie.Need-lower-requires Inv-loop μ-loop
+lower-requires c κs =
+    let e = c .before .before in (
+      start e .pre .0 .sized .few,
+      lent-long (n e) (t e) (u e) (start e .pre .0 .room) (in-n e),
+      head e .loop .inv .0,
+      λ v h. omega (arith, low e v h, ap bit (lent-cell (n e) (t e) (u e) (start e .pre .0 .room) (in-n e) v h)),
+    )
+
+array-write-fan : tie.Need-array-write-fan Inv-loop μ-loop
+array-write-fan c = let e = c .before .before .before in omega (arith, in-n e, start e .pre .0 .sized .few)
+
+cast-list : tie.Need-cast-list Inv-loop μ-loop
+cast-list c = let e = c .before .before .before in omega (arith, in-n e, start e .pre .0 .sized .few)
+
+element-write-list : tie.Need-element-write-list Inv-loop μ-loop
+element-write-list c = let e = c .before .before .before in omega (arith, p-in e, start e .pre .0 .sized .few)
+
+add-p : tie.Need-add-p Inv-loop μ-loop
+add-p c = let e = c .before .before .before in omega (arith, p-in e, start e .pre .0 .sized .few)
+
+loop-less : tie.Need-loop-less Inv-loop μ-loop
+loop-less c = omega (arith, p-in (c .before .before .before))
+
+loop-again : tie.Need-loop-again Inv-loop μ-loop
+loop-again c =
+    let e = c .before .before .before in (
+      simp length-set (c .lower .ensures .0),
+      simp length-set (head e .loop .inv .1),
+      step e (c .lower .last .1 .0) (λ v h. ap (λ (x : ℕ). getD (c .lower .last .1 .0) v 0 + x) (sym (ap bit (lent-cell (n e) (t e) (u e) (start e .pre .0 .room) (in-n e) v h))) ∙ c .lower .ensures .1 v h) (c .lower .ensures .0),
+    )
+
+returns-2 : tie.Need-returns-2 Inv-loop μ-loop
+returns-2 c =
+    let l = c .before in
+    let n = l .before .before .args .board .vertices in
+    let t = l .before .before .args .table .now in
+    let o = going-all (graphOf-within n t) (l .loop .inv .2) (omega (arith, l .loop .inv .2 .upto, c .loop-test .left)) in
+    record { long = l .loop .inv .1; answer = sym (is-true _ (acyclic-noCycle n (graphOf n t) (ranked-acyclic (order-ranked o)))); order = λ _. o }
+
+pub topological-order-spec : {M : Type 1} → statement M
+topological-order-spec =
+    tie.close
+    (tie.spec
+    Inv-loop
+    μ-loop
+    fans-requires
+    loop-holds
+    ready-requires
+    returns
+    mul-at
+    mul-lower
+    sub-lower
+    part-lower-start
+    part-lower-end
+    lower-requires
+    array-write-fan
+    cast-list
+    element-write-list
+    add-p
+    loop-less
+    loop-again
+    returns-2)

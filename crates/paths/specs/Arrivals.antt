@@ -1,0 +1,83 @@
+-- Arrivals over a table that has passed its checks.
+use mathlib.Core.Path.{_≡_}
+use mathlib.Core.Logic.{_≢_}
+use mathlib.Core.Bool.{Bool, true, false, cond}
+use mathlib.Core.List.{List, _++_}
+use Prim.Native.Nat.{ℕ, _+_, _*_, _≤_, _<_}
+use lib.Dec.{T, eqb, ltb}
+use lib.IntN.{ℤ, pos, _+ℤ_}
+use lib.ListN.{length, getD, drop}
+use mir.Syntax.{w64}
+use mir.Val.{SFits}
+use Rattle.laws.specs.Lists.{tabulate}
+use Rattle.graph.specs.Delay.{Delay, at, _⋓_, _⊕_}
+use Rattle.graph.specs.Graph.{Graph, longest, walk, propagated}
+use Rattle.timing.specs.Limits.{maxVertices, delayLimit, absentCell, absentWide, fits}
+use Rattle.timing.specs.Table.{readCell, writeCell, graphOf}
+use Rattle.timing.specs.Delays.{arrivalIn}
+use Rattle.timing.proofs.Checks.{Sound}
+use Rattle.paths.specs.declared.board.Board.{Board}
+use Rattle.paths.specs.Board.{Lent}
+use Rattle.paths.specs.Cells.{cellAt}
+use Rattle.paths.specs.Order.{TopologicalOrder}
+
+-- inside, arrivals may start within ±2,000,000,000,000
+abbrev pub insideLimit : ℕ
+insideLimit = 2000000000000
+
+-- and a path adds at most this much on the way
+abbrev pub reachedLimit : ℕ
+reachedLimit = insideLimit + maxVertices * delayLimit
+
+-- the first N cells are c's, the others as they were
+abbrev pub stored : ℕ → (ℕ → ℤ) → List ℤ → List ℤ
+stored N c f = tabulate N c ++ drop N f
+
+-- the first N cells hold delays h, the others are as they were
+abbrev pub filled : ℕ → (ℕ → Delay) → List ℤ → List ℤ
+filled N h f = stored N (λ v. writeCell absentWide (h v)) f
+
+-- a signal at i alone
+abbrev pub onlyAt : ℕ → ℕ → ℤ
+onlyAt i v = cond (eqb v i) (pos 0) absentWide
+
+-- the inputs' arrivals, and none at any other vertex
+abbrev pub fromList : List ℤ → ℕ → ℤ
+fromList a v = cond (ltb v (length a)) (getD a v (pos 0)) absentWide
+
+-- a table that has passed its checks, with a topological order
+pub record Passable (b : Board) (t : List ℤ) (o : List ℕ) : Type 0 where
+  pub lent : Lent b t
+  pub order : TopologicalOrder (b .vertices) (graphOf (b .vertices) t) o
+  pub sound : Sound (b .inputs) (b .outputs) (b .vertices) (graphOf (b .vertices) t)
+
+-- and with arrivals that start at its vertices
+pub record Started (b : Board) (t : List ℤ) (o : List ℕ) (f : List ℤ) : Type 0 where
+  pub passable : Passable b t o
+  pub room : b .vertices ≤ length f
+  pub near : (v : ℕ) → v < b .vertices → T (fits insideLimit (arrivalIn f v))
+
+-- an arrival that is present, and far from the ends of its 64 bits
+pub record Reached (a : ℤ) : Type 0 where
+  pub there : a ≢ absentWide
+  pub near : T (fits reachedLimit (at a))
+
+-- r says whether a and then the cell's delay is later than best; the sum then fits
+pub record Gains (best a cell : ℤ) (r : Bool) : Type 0 where
+  pub later : r ≡ true → SFits w64 (a +ℤ cell) × (readCell absentWide (a +ℤ cell) ≡ readCell absentWide best ⋓ (readCell absentWide a ⊕ readCell absentCell cell))
+  pub not-later : r ≡ false → readCell absentWide best ≡ readCell absentWide best ⋓ (readCell absentWide a ⊕ readCell absentCell cell)
+
+-- the list has each of the vertices below n at one place
+pub record Places (n : ℕ) (o : List ℕ) : Type 0 where
+  pub rank : ℕ → ℕ
+  pub vertex : (q : ℕ) → q < n → (getD o q 0 < n) × (rank (getD o q 0) ≡ q)
+
+-- a is pushed along a row to the vertices after place p
+pub record Pushed (n : ℕ) (o : List ℕ) (p : ℕ) (row : List ℤ) (a : ℤ) (f₀ f : List ℤ) : Type 0 where
+  pub cells : (q : ℕ) → p < q → q < n → arrivalIn f (getD o q 0) ≡ arrivalIn f₀ (getD o q 0) ⋓ (readCell absentWide a ⊕ cellAt row (getD o q 0))
+  pub rest : (v : ℕ) → ((q : ℕ) → p < q → q < n → getD o q 0 ≢ v) → getD f v (pos 0) ≡ getD f₀ v (pos 0)
+
+-- an arrival for each input, each within the inside limit
+pub record Given (b : Board) (a : List ℤ) : Type 0 where
+  pub long : length a ≡ b .inputs
+  pub near : (i : ℕ) → i < b .inputs → T (fits insideLimit (arrivalIn a i))
