@@ -7,3 +7,4 @@ pub mod Pushing
 pub mod Later
 pub mod Propagating
 pub mod Starting
+pub mod Checking

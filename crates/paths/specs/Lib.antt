@@ -2,3 +2,4 @@ pub mod Board
 pub mod Cells
 pub mod Order
 pub mod Arrivals
+pub mod Checked

@@ -3,6 +3,7 @@
 pub mod arrivals;
 pub mod board;
 pub mod cells;
+pub mod checks;
 pub mod order;
 
 pub use board::Board;

@@ -64,7 +64,7 @@ pub noCycle-acyclic : (N : ℕ) (g : Graph) → Within N g → T (noCycle N g) �
 unfolding noCycle
 noCycle-acyclic N g w t = test-acyclic w (λ v l. absent-unless (longest g N v v) (every-at N (λ v. not (present (longest g N v v))) t v l))
 
-sound-of : (m n N : ℕ) (g : Graph) → Within N g → T (sizesFit m n N) → T (cellsFit N g) → T (noArcIntoInput m N g) → T (noCycle N g) → Sound m n N g
+pub sound-of : (m n N : ℕ) (g : Graph) → Within N g → T (sizesFit m n N) → T (cellsFit N g) → T (noArcIntoInput m N g) → T (noCycle N g) → Sound m n N g
 unfolding cellsFit noArcIntoInput
 sound-of m n N g w sizes cells inputs cycle = record { legal = legal; acyclic = noCycle-acyclic N g w cycle; room = room-of m n N sizes }
   where
