@@ -8,3 +8,5 @@ pub mod Later
 pub mod Propagating
 pub mod Starting
 pub mod Checking
+pub mod MatrixRows
+pub mod Answering

@@ -43,6 +43,9 @@ stored-cell n c f v h = List·getD-append (tabulate n c) (drop n f) (pos 0) v (o
 pub stored-drop : (n : ℕ) (c : ℕ → ℤ) (f : List ℤ) → drop n (stored n c f) ≡ drop n f
 stored-drop n c f = drop-at (tabulate n c) (drop n f) n (length-tabulate c n)
 
+pub filled-drop : (n : ℕ) (h : ℕ → Delay) (f f′ : List ℤ) → f′ ≡ filled n h f → drop n f′ ≡ drop n f
+filled-drop n h f f′ e = ap (drop n) e ∙ stored-drop n (λ v. writeCell absentWide (h v)) f
+
 -- stored twice, the second time as h says
 pub filled-over : (n : ℕ) (h h′ : ℕ → Delay) (c : ℕ → ℤ) (f : List ℤ) → ((v : ℕ) → v < n → h v ≡ h′ v) → filled n h (stored n c f) ≡ filled n h′ f
 filled-over n h h′ c f e =

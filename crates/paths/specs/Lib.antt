@@ -3,3 +3,4 @@ pub mod Cells
 pub mod Order
 pub mod Arrivals
 pub mod Checked
+pub mod Queries

@@ -5,5 +5,6 @@ pub mod board;
 pub mod cells;
 pub mod checks;
 pub mod order;
+pub mod queries;
 
 pub use board::Board;

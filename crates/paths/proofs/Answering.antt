@@ -1,0 +1,67 @@
+-- A call's answer from its checks and from what follows them; and what becomes of the scratch.
+use mathlib.Core.Path.{_≡_, refl, sym, ap, _∙_, subst}
+use mathlib.Core.Bool.{Bool, true, false, _&&_}
+use mathlib.Core.List.{List}
+use Prim.Native.Nat.{ℕ, _+_, _-_, _*_, _≤_}
+use native.Mathlib.Omega.{arith}
+use lib.Dec.{T, le→leb}
+use lib.IntN.{ℤ}
+use lib.ListN.{length, drop}
+use lib.Seq.{drop-drop}
+use Rattle.laws.proofs.Booleans.{and-i}
+use Rattle.graph.specs.Graph.{Graph}
+use Rattle.timing.specs.declared.Refusal.{Refusal}
+use Rattle.timing.specs.Limits.{scratchCells}
+use Rattle.timing.specs.Refusal.{number, Verdict, refused, accepted, _then_}
+use Rattle.timing.specs.Table.{graphOf}
+use Rattle.timing.specs.Checks.{sizesFit, tableFits, scratchFits, checked}
+use Rattle.paths.specs.declared.board.Board.{Board}
+use Rattle.paths.specs.declared.board.Made.{Made}
+use Rattle.paths.specs.declared.board.Made.the-variants as M
+use Rattle.paths.specs.declared.queries.Answer.{Answer}
+use Rattle.paths.specs.declared.queries.Answer.the-variants as A
+use Rattle.paths.specs.Arrivals.{Passable}
+use Rattle.paths.specs.Checked.{Checking}
+use Rattle.paths.specs.Queries.{answerMeaning, written, Answers, lentFits, ScratchAfter}
+use Rattle.paths.proofs.Sizes.{sizes, sizes-fit}
+use Rattle.paths.proofs.Checking.{call-on, call-refused}
+
+-- what follows the checks, over any sizes
+abbrev pub Part : Type 0
+Part = ℕ → ℕ → ℕ → Graph → Verdict (List ℤ)
+
+module _ {m n N s : ℕ} {t : List ℤ} {o : List ℕ} {made : Made} (c : Checking m n N s t o made) where
+  pub answers-on : (b : Board) → made ≡ M.Board b → (f : Part) (before after : List ℤ) (r : Answer) → Answers (f (b .inputs) (b .outputs) (b .vertices) (graphOf (b .vertices) t)) before after r
+      → Answers (checked m n N s t then f m n N) before after r
+  answers-on b q f before after r h =
+      let e = call-on m n N s t b made (c .answer) q (f m n N) in
+      subst (λ (v : Verdict (List ℤ)). Answers v before after r) (sym (e .0))
+      (subst (λ (x : Board). Answers (f (x .inputs) (x .outputs) (x .vertices) (graphOf (x .vertices) t)) before after r) (sym (e .1)) h)
+
+  pub answers-refused : (x : Refusal) → made ≡ M.Refused x → (f : Graph → Verdict (List ℤ)) (before : List ℤ) → Answers (checked m n N s t then f) before before (A.Refused x)
+  answers-refused x q f before =
+      let e = call-refused m n N s t x made (c .answer) q f in
+      record { answer = sym e; destination = sym (ap (λ (v : Verdict (List ℤ)). written v before) e) }
+
+  -- the checks passed, so that only the cells past those that the call may use are promised
+  pub scratch-on : (b : Board) → made ≡ M.Board b → (before after : List ℤ) → s ≡ length before → drop (scratchCells (b .vertices)) after ≡ drop (scratchCells (b .vertices)) before → ScratchAfter m n N t before after
+  scratch-on b q before after len h =
+      let e = call-on m n N s t b made (c .answer) q (λ _. accepted (tt {0})) in
+      let p = c .passable b q in
+      subst (λ (x : Board). ScratchAfter (x .inputs) (x .outputs) (x .vertices) t before after) (sym (e .1)) (record { past = h; untouched = λ z. absurd (clash z (all-fit p)) })
+    where
+      clash : lentFits (b .inputs) (b .outputs) (b .vertices) t (length before) ≡ false → T (lentFits (b .inputs) (b .outputs) (b .vertices) t (length before)) → ⊥
+      clash z k = subst T z k
+
+      all-fit : Passable b t o × (scratchCells (b .vertices) ≤ s) → T (lentFits (b .inputs) (b .outputs) (b .vertices) t (length before))
+      all-fit p = and-i (sizesFit (b .inputs) (b .outputs) (b .vertices) && tableFits (b .vertices) t) (scratchFits (b .vertices) (length before))
+          (and-i (sizesFit (b .inputs) (b .outputs) (b .vertices)) (tableFits (b .vertices) t) (sizes-fit b (p .0 .lent .sized)) (le→leb (b .vertices * b .vertices) (length t) (p .0 .lent .room))) (le→leb (scratchCells (b .vertices)) (length before) (omega (arith, p .1)))
+
+pub scratch-same : {m n N : ℕ} {t before : List ℤ} → ScratchAfter m n N t before before
+scratch-same = record { past = refl; untouched = λ _. refl }
+
+-- cells that stay from n on stay from any later cell on
+pub drop-further : (n k : ℕ) (before after : List ℤ) → n ≤ k → drop n after ≡ drop n before → drop k after ≡ drop k before
+drop-further n k before after h e =
+    let q : n + (k - n) ≡ k = omega arith in
+    ap (λ (x : ℕ). drop x after) (sym q) ∙ sym (drop-drop (k - n) n after) ∙ ap (drop (k - n)) e ∙ drop-drop (k - n) n before ∙ ap (λ (x : ℕ). drop x before) q

@@ -1,0 +1,52 @@
+use borrow.Author.Needs.{needs}
+use mathlib.Core.Path.{_≡_, refl}
+use Prim.Native.Nat.{ℕ, _*_, _≤_}
+use native.Mathlib.Nat.{mul-le-mul}
+use native.Mathlib.Omega.{arith}
+use Rattle.laws.proofs.Grid.{square}
+use Rattle.paths.specs.declared.board.Board.{Board}
+use Rattle.paths.specs.Board.{Sized}
+use Rattle.paths.proofs.MatrixRows.{matrix-short, matrix-done}
+use Rattle.paths.proofs.Answering.{drop-further}
+use Rattle.paths.proofs.queries.matrix_answer.Statement.{statement}
+use Rattle.paths.proofs.queries.matrix_answer.Tie as tie
+
+small : (b : Board) → Sized b → b .outputs * b .inputs ≤ 8100
+small b s =
+    let o : b .outputs ≤ 90 = omega (arith, s .roles, s .few) in
+    let i : b .inputs ≤ 90 = omega (arith, s .roles, s .few) in
+    mul-le-mul o i
+
+least : (s : tie.Start) → s .args .board .vertices ≤ s .args .board .vertices * s .args .board .vertices
+least s = square (s .args .board .vertices) (omega (arith, s .pre .0 .lent .sized .some-inputs, s .pre .0 .lent .sized .roles))
+
+mul-if1 : tie.Need-mul-if1
+mul-if1 c = omega (arith, small (c .before .args .board) (c .before .pre .0 .lent .sized))
+
+returns : tie.Need-returns
+returns c = let s = c .before .before in (matrix-short _ _ _ _ _ (c .if1 .taken), refl)
+
+fill-matrix-requires : tie.Need-fill-matrix-requires
+fill-matrix-requires c κs =
+    let s = c .before .before .before .before in
+    (s .pre .0, omega (arith, s .pre .1, least s), c .before .before .if1 .left)
+
+same-length : tie.Need-same-length
+same-length c = search needs
+
+same-length-2 : tie.Need-same-length-2
+same-length-2 c = search needs
+
+returns-2 : tie.Need-returns-2
+returns-2 c =
+    let f = c .before .before in
+    let e = f .before .before .before in
+    let s = e .before .before in
+    (
+      matrix-done _ _ _ _ _ (e .if1 .left) _ (f .fill-matrix .ensures .0),
+      drop-further (s .args .board .vertices) (s .args .board .vertices * s .args .board .vertices) (s .args .scratch .now) (f .fill-matrix .last .1 .1 .1 .0) (least s) (f .fill-matrix .ensures .1),
+    )
+
+pub matrix-answer-spec : {M : Type 1} → statement M
+matrix-answer-spec =
+    tie.close (tie.spec mul-if1 returns fill-matrix-requires same-length same-length-2 returns-2)
