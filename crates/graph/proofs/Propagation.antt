@@ -1,16 +1,16 @@
 -- Signals that start at every vertex u at F u. G has the latest ones where it meets the local equations: nothing starts or arrives later than G says, and
 -- each G v starts there or comes by a last arc.
-use mathlib.Core.Path.{_≡_, refl, sym, ap, _∙_, subst}
+use mathlib.Core.Path.{_≡_, sym, ap, _∙_}
 use mathlib.Core.Logic.{_≢_, _⊎_, inl, inr}
 use mathlib.Core.List.{List, [], _∷_}
-use Prim.Native.Nat.{ℕ, zero, suc, _+_, _≤_, _<_}
+use Prim.Native.Nat.{ℕ, zero, suc, _<_}
 use native.Mathlib.Nat.{not-suc-le-zero}
 use native.Mathlib.Decide.{ℕ-discrete}
 use native.Mathlib.Omega.{arith}
 use lib.Dec.{T}
 use Rattle.graph.specs.Delay.{Delay, absent, present, immediate, _⋓_, _⊕_, _⊑_, greatest}
 use Rattle.graph.specs.Graph.{Graph, pathDelay, Acyclic, Longest, longest, walk, propagated}
-use Rattle.graph.proofs.Delay.{absent-⊑, ⊑-refl, ⊑-trans, ⊑-antisym, ⊑-eq, ⊕-absent, immediate-⊕, ⊕-assoc, ⊕-left, ⊕-right, ⋓-elim, ⋓-l, ⋓-r, ⋓-lub, ⋓-absent, none-r, none-l}
+use Rattle.graph.proofs.Delay.{⊑-trans, ⊑-antisym, ⊑-eq, immediate-⊕, ⊕-assoc, ⊕-left, ⊕-right, ⋓-elim, ⋓-l, ⋓-r, ⋓-lub, none-r, none-l}
 use Rattle.graph.proofs.Presence.{absent-or}
 use Rattle.graph.proofs.Greatest.{greatest-ge, greatest-lub, greatest-hit}
 use Rattle.graph.proofs.Longest.{Within, longest-is}

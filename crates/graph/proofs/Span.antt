@@ -1,5 +1,4 @@
 -- How large a delay is: absent, or from -c to c.
-use mathlib.Core.Path.{_≡_}
 use Prim.Native.Nat.{ℕ, _+_, _≤_}
 use native.Mathlib.Omega.{arith}
 use Rattle.laws.proofs.Linear.{up, dn, sum}

@@ -1,6 +1,6 @@
 -- A call's answer from its checks and from what follows them; and what becomes of the scratch.
 use mathlib.Core.Path.{_≡_, refl, sym, ap, _∙_, subst}
-use mathlib.Core.Bool.{Bool, true, false, _&&_}
+use mathlib.Core.Bool.{false, _&&_}
 use mathlib.Core.List.{List}
 use Prim.Native.Nat.{ℕ, _+_, _-_, _*_, _≤_}
 use native.Mathlib.Omega.{arith}
@@ -12,7 +12,7 @@ use Rattle.laws.proofs.Booleans.{and-i}
 use Rattle.graph.specs.Graph.{Graph}
 use Rattle.timing.specs.declared.Refusal.{Refusal}
 use Rattle.timing.specs.Limits.{scratchCells}
-use Rattle.timing.specs.Refusal.{number, Verdict, refused, accepted, _then_}
+use Rattle.timing.specs.Refusal.{Verdict, accepted, _then_}
 use Rattle.timing.specs.Table.{graphOf}
 use Rattle.timing.specs.Checks.{sizesFit, tableFits, scratchFits, checked}
 use Rattle.paths.specs.declared.board.Board.{Board}
@@ -22,8 +22,8 @@ use Rattle.paths.specs.declared.queries.Answer.{Answer}
 use Rattle.paths.specs.declared.queries.Answer.the-variants as A
 use Rattle.paths.specs.Arrivals.{Passable}
 use Rattle.paths.specs.Checked.{Checking}
-use Rattle.paths.specs.Queries.{answerMeaning, written, Answers, lentFits, ScratchAfter}
-use Rattle.paths.proofs.Sizes.{sizes, sizes-fit}
+use Rattle.paths.specs.Queries.{written, Answers, lentFits, ScratchAfter}
+use Rattle.paths.proofs.Sizes.{sizes-fit}
 use Rattle.paths.proofs.Checking.{call-on, call-refused}
 
 -- what follows the checks, over any sizes

@@ -1,14 +1,13 @@
 -- Each answer of the checks is what `boardChecked` says under the tests that led there.
-use mathlib.Core.Path.{_≡_, refl, sym, ap, _∙_, subst}
+use mathlib.Core.Path.{_≡_, sym, ap, _∙_, subst}
 use mathlib.Core.Bool.{Bool, true, false}
 use mathlib.Core.List.{List}
 use Prim.Native.Nat.{ℕ, _*_, _≤_, _<_}
 use native.Mathlib.Omega.{arith}
 use borrow.Author.Tests.{le-leb, lt-leb}
-use lib.Dec.{T}
 use lib.IntN.{ℤ}
 use lib.ListN.{length}
-use Rattle.laws.proofs.Booleans.{T-true, true-is, is-false}
+use Rattle.laws.proofs.Booleans.{T-true, true-is}
 use Rattle.graph.specs.Graph.{Graph}
 use Rattle.timing.specs.Limits.{scratchCells}
 use Rattle.timing.specs.declared.Refusal.{Refusal}
@@ -22,7 +21,7 @@ use Rattle.timing.proofs.Checks.{sound-of, checked-accepted}
 use Rattle.paths.specs.declared.board.Board.{Board}
 use Rattle.paths.specs.declared.board.Made.{Made}
 use Rattle.paths.specs.declared.board.Made.the-variants as M
-use Rattle.paths.specs.Board.{boardMeaning, boardOf, Sized, Lent}
+use Rattle.paths.specs.Board.{boardMeaning, boardOf, Sized}
 use Rattle.paths.specs.Order.{TopologicalOrder}
 use Rattle.paths.specs.Arrivals.{Passable}
 use Rattle.paths.specs.Checked.{boardChecked, Checking}

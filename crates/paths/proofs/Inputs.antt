@@ -1,15 +1,15 @@
 -- Check 5 by columns: no input has a fan-in.
 use mathlib.Core.Path.{_≡_}
-use mathlib.Core.Logic.{_≢_, _⊎_, inl, inr}
-use mathlib.Core.Bool.{Bool, true, false, not}
+use mathlib.Core.Logic.{_≢_}
+use mathlib.Core.Bool.{true, false, not}
 use Prim.Native.Nat.{ℕ, _<_}
 use native.Mathlib.Omega.{arith}
-use lib.Dec.{T, T-not, not-T}
-use Rattle.laws.specs.Bounded.{every, sum}
+use lib.Dec.{T-not, not-T}
+use Rattle.laws.specs.Bounded.{every}
 use Rattle.laws.proofs.Booleans.{is-true, is-false}
 use Rattle.laws.proofs.Bounded.{every-at, every-all}
 use Rattle.laws.proofs.Sums.{sum-some, sum-term}
-use Rattle.graph.specs.Delay.{Delay, absent, present}
+use Rattle.graph.specs.Delay.{present}
 use Rattle.graph.specs.Graph.{Graph}
 use Rattle.graph.specs.Count.{bit, fanIn}
 use Rattle.graph.proofs.Presence.{present-bit, bit-present}

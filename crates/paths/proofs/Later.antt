@@ -1,8 +1,8 @@
 -- An arrival that is reached, and a delay after it: the sum fits 64 bits, is present, and is compared as delays are.
 use mathlib.Core.Path.{_≡_, sym, ap, ap₂, _∙_, subst}
 use mathlib.Core.Logic.{_≢_}
-use mathlib.Core.Bool.{Bool, true, false}
-use Prim.Native.Nat.{ℕ, _+_}
+use mathlib.Core.Bool.{false}
+use Prim.Native.Nat.{ℕ}
 use native.Mathlib.Omega.{arith}
 use lib.Dec.{T}
 use lib.IntN.{ℤ, _+ℤ_, ℤ-discrete}
@@ -12,7 +12,7 @@ use mir.Val.{SFits}
 use Rattle.laws.proofs.Linear.{zneeds, zarith, sum}
 use Rattle.laws.proofs.Integers.{max-lt, max-ge}
 use Rattle.laws.proofs.Signed.{less-yes, less-no}
-use Rattle.graph.specs.Delay.{Delay, absent, at, _⋓_, _⊕_}
+use Rattle.graph.specs.Delay.{Delay, at, _⋓_, _⊕_}
 use Rattle.graph.proofs.Delay.{⊕-absent, ⋓-absent}
 use Rattle.graph.proofs.Span.{InSpan}
 use Rattle.timing.specs.Limits.{delayLimit, absentCell, absentWide, fits}

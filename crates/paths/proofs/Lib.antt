@@ -10,3 +10,4 @@ pub mod Starting
 pub mod Checking
 pub mod MatrixRows
 pub mod Answering
+pub mod ArrivalLists

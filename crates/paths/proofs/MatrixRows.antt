@@ -1,5 +1,5 @@
 -- A matrix that is filled row by row.
-use mathlib.Core.Path.{_≡_, refl, sym, ap, _∙_}
+use mathlib.Core.Path.{_≡_, ap, _∙_}
 use mathlib.Core.List.{List, _++_}
 use Prim.Native.Nat.{ℕ, _+_, _-_, _*_, _≤_, _<_}
 use native.Mathlib.Nat.{mul-comm}
@@ -10,7 +10,6 @@ use lib.ListN.{length, getD, take, drop, length-take, length-drop, length-append
 use Rattle.laws.specs.Lists.{tabulate, rows}
 use Rattle.laws.proofs.Grid.{row-of}
 use Rattle.laws.proofs.Lists.{length-rows, tabulate-same}
-use Rattle.graph.specs.Delay.{Delay}
 use Rattle.graph.specs.Graph.{Graph, longest, walk}
 use Rattle.graph.proofs.Closure.{walk-other}
 use Rattle.timing.specs.Limits.{absentWide}

@@ -2,7 +2,7 @@
 use mathlib.Core.Path.{_≡_, refl, sym, ap, ap₂, _∙_, subst}
 use mathlib.Core.Logic.{_≢_, _⊎_, inl, inr}
 use mathlib.Core.List.{List, _++_}
-use Prim.Native.Nat.{ℕ, zero, suc, _+_, _-_, _*_, _≤_, _<_}
+use Prim.Native.Nat.{ℕ, _+_, _-_, _*_, _≤_, _<_}
 use native.Mathlib.Omega.{arith}
 use native.Mathlib.Numerals.{add-one}
 use native.Mathlib.Decide.{decLt}
@@ -12,12 +12,12 @@ use lib.ListN.{length, getD, drop, length-append, length-drop, List·getD-append
 use lib.Seq.{ext-getD, getD-append-add, getD-drop}
 use Rattle.laws.specs.Lists.{tabulate}
 use Rattle.laws.proofs.Lists.{length-tabulate, getD-tabulate}
-use Rattle.graph.specs.Delay.{Delay, absent, present, at, _⋓_, _⊕_}
-use Rattle.graph.specs.Graph.{Graph, propagated}
+use Rattle.graph.specs.Delay.{Delay, absent, present, _⋓_, _⊕_}
+use Rattle.graph.specs.Graph.{propagated}
 use Rattle.graph.proofs.Delay.{⊕-absent, ⋓-absent}
 use Rattle.graph.proofs.Presence.{absent-or}
-use Rattle.graph.proofs.Span.{InSpan, span-le}
-use Rattle.timing.specs.Limits.{maxVertices, delayLimit, absentWide, fits}
+use Rattle.graph.proofs.Span.{span-le}
+use Rattle.timing.specs.Limits.{delayLimit, absentWide, fits}
 use Rattle.timing.specs.Table.{readCell, writeCell, graphOf}
 use Rattle.timing.specs.Delays.{arrivalIn}
 use Rattle.timing.proofs.Limits.{fits-span, span-fits}
@@ -25,7 +25,7 @@ use Rattle.timing.proofs.Table.{graphOf-within, read-absent, read-at, written-r
 use Rattle.timing.proofs.Checks.{sound-fits}
 use Rattle.paths.specs.declared.board.Board.{Board}
 use Rattle.paths.specs.Cells.{cellAt}
-use Rattle.paths.specs.Arrivals.{insideLimit, reachedLimit, filled, Passable, Started, Reached, Pushed}
+use Rattle.paths.specs.Arrivals.{insideLimit, reachedLimit, filled, Started, Reached, Pushed}
 use Rattle.paths.proofs.Rows.{lent, lent-cell}
 use Rattle.paths.proofs.Pushing.{pushed, pushed-span, pushed-all}
 

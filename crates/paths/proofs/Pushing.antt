@@ -1,6 +1,6 @@
 -- The pass that `propagate` makes, as mathematics: what stands at v when the first p vertices of the order have pushed. At the end it is `propagated`.
-use mathlib.Core.Path.{_≡_, refl, sym, ap, _∙_, subst}
-use mathlib.Core.Logic.{_≢_, _⊎_, inl, inr}
+use mathlib.Core.Path.{_≡_, sym, ap, _∙_, subst}
+use mathlib.Core.Logic.{_⊎_, inl, inr}
 use mathlib.Core.List.{List}
 use Prim.Native.Nat.{ℕ, zero, suc, _+_, _*_, _≤_, _<_}
 use native.Mathlib.Nat.{not-suc-le-zero}
@@ -11,10 +11,10 @@ use lib.ListN.{getD}
 use Rattle.graph.specs.Delay.{Delay, absent, present, _⋓_, _⊕_, _⊑_}
 use Rattle.graph.specs.Graph.{Graph, propagated}
 use Rattle.graph.proofs.Delay.{absent-⊑, ⊑-refl, ⊑-trans, ⊕-absent, ⊕-right, ⋓-elim, ⋓-l, ⋓-r, ⋓-absent}
-use Rattle.graph.proofs.Presence.{present-r, absent-or}
+use Rattle.graph.proofs.Presence.{absent-or}
 use Rattle.graph.proofs.Longest.{Within}
 use Rattle.graph.proofs.Span.{InSpan, span-⊕, span-le}
-use Rattle.graph.proofs.Propagation.{Settled, settled-is}
+use Rattle.graph.proofs.Propagation.{settled-is}
 use Rattle.paths.specs.Order.{TopologicalOrder}
 use Rattle.paths.proofs.Sorting.{order-ranked}
 

@@ -4,7 +4,6 @@ use mathlib.Core.Bool.{Bool, true, false, cond}
 use Prim.Native.Nat.{ℕ}
 use native.Mathlib.Omega.{arith}
 use lib.IntN.{ℤ}
-use lib.Dec.{T}
 use Rattle.laws.specs.Integers.{eqZ}
 use Rattle.graph.specs.Delay.{Delay, absent, at, present}
 use Rattle.graph.specs.Count.{bit}

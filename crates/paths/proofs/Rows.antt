@@ -1,12 +1,11 @@
 -- Rows of a table as the code reads them: lent as `&table[at..]`, with at = N * u.
 use mathlib.Core.Path.{_≡_, sym, ap, _∙_}
 use mathlib.Core.List.{List}
-use Prim.Native.Nat.{ℕ, _+_, _-_, _*_, _≤_, _<_}
+use Prim.Native.Nat.{ℕ, _-_, _*_, _≤_, _<_}
 use native.Mathlib.Omega.{arith}
 use lib.IntN.{ℤ, pos}
-use lib.ListN.{length, getD, take, drop, length-take, length-drop}
+use lib.ListN.{length, take, drop, length-take, length-drop}
 use Rattle.laws.proofs.Grid.{row-in, row-cell}
-use Rattle.graph.specs.Delay.{Delay}
 use Rattle.timing.specs.Limits.{absentCell}
 use Rattle.timing.specs.Table.{readCell, graphOf}
 use Rattle.timing.proofs.Table.{graphOf-at}

@@ -1,14 +1,13 @@
 -- A board's sizes, as check 1 and as facts.
-use mathlib.Core.Path.{_≡_, refl, sym, ap, _∙_}
-use mathlib.Core.Bool.{Bool, true, false, not, _&&_}
+use mathlib.Core.Path.{_≡_, sym, ap}
+use mathlib.Core.Bool.{Bool, _&&_}
 use Prim.Native.Nat.{ℕ, _+_, _*_, _≤_}
-use native.Mathlib.Omega.{arith}
 use lib.Dec.{T, leb, leb→le, le→leb}
 use Rattle.laws.proofs.Booleans.{and-i, and-e, is-false}
 use Rattle.laws.proofs.Grid.{area}
 use Rattle.timing.specs.Limits.{maxVertices}
 use Rattle.timing.specs.declared.Refusal.the-variants.{Sizes}
-use Rattle.timing.specs.Refusal.{Verdict, refused, accepted, require}
+use Rattle.timing.specs.Refusal.{refused, accepted, require}
 use Rattle.timing.specs.Checks.{sizesFit}
 use Rattle.timing.proofs.Verdict.{accepted-require}
 use Rattle.paths.specs.declared.board.Board.{Board}

@@ -1,6 +1,6 @@
 -- Why the order that the code finds is one: vertices are placed one at a time, each when it waits for no other. The rank of a vertex that is not yet
 -- placed is n.
-use mathlib.Core.Path.{_≡_, refl, sym, ap, _∙_, subst}
+use mathlib.Core.Path.{_≡_, refl, ap, _∙_, subst}
 use mathlib.Core.Logic.{_≢_, _⊎_, inl, inr}
 use mathlib.Core.Bool.{Bool, true, false, cond}
 use mathlib.Core.List.{List}
@@ -18,7 +18,7 @@ use Rattle.laws.proofs.Sums.{sum-eq, sum-zero, sum-some, sum-but-one, sum-lt, s
 use Rattle.graph.specs.Delay.{Delay, absent, present}
 use Rattle.graph.specs.Graph.{Graph, Acyclic}
 use Rattle.graph.specs.Count.{bit, fanIn}
-use Rattle.graph.proofs.Presence.{absent-or, bit-le, bit-present, bit-absent}
+use Rattle.graph.proofs.Presence.{absent-or, bit-present, bit-absent}
 use Rattle.graph.proofs.Longest.{Within}
 use Rattle.graph.proofs.Rank.{Ranked, acyclic-ranked}
 use Rattle.paths.specs.Order.{TopologicalOrder}

@@ -1,13 +1,13 @@
 -- What `propagate` gives where the signals start at one vertex, or at the inputs.
 use mathlib.Core.Path.{_≡_, refl, sym, ap, ap₂, _∙_, subst}
 use mathlib.Core.Logic.{_≢_}
-use mathlib.Core.Bool.{Bool, true, false, not, cond}
+use mathlib.Core.Bool.{Bool, cond}
 use mathlib.Core.List.{List, _++_}
-use Prim.Native.Nat.{ℕ, _+_, _≤_, _<_}
+use Prim.Native.Nat.{ℕ, _≤_, _<_}
 use native.Mathlib.Omega.{arith}
 use native.Mathlib.Decide.{ℕ-discrete, decLt}
 use borrow.Author.Tests.{lt-ltb, le-ltb}
-use lib.Dec.{T, eqb, ltb}
+use lib.Dec.{T, ltb}
 use lib.IntN.{ℤ, pos}
 use lib.ListN.{length, getD, drop, length-append, length-drop, List·getD-append}
 use lib.Seq.{drop-at}
@@ -15,18 +15,17 @@ use Rattle.laws.specs.Lists.{tabulate}
 use Rattle.laws.proofs.Linear.{zarith}
 use Rattle.laws.proofs.Booleans.{eqb-same, eqb-other}
 use Rattle.laws.proofs.Lists.{length-tabulate, getD-tabulate, tabulate-same}
-use Rattle.graph.specs.Delay.{Delay, absent, at, immediate, _⋓_, _⊕_, greatest}
+use Rattle.graph.specs.Delay.{Delay, absent, immediate, _⋓_, _⊕_, greatest}
 use Rattle.graph.specs.Graph.{Graph, Longest, longest, walk, propagated}
-use Rattle.graph.proofs.Delay.{⊕-absent, ⋓-absent}
+use Rattle.graph.proofs.Delay.{⋓-absent, ⊑-absent, none-r}
 use Rattle.graph.proofs.Greatest.{greatest-ext, greatest-pad, greatest-lub}
-use Rattle.graph.proofs.Delay.{absent-⊑, ⊑-absent, none-l, none-r}
 use Rattle.graph.proofs.Longest.{longest-is}
 use Rattle.graph.proofs.Closure.{undriven}
 use Rattle.graph.proofs.Propagation.{propagated-one}
 use Rattle.timing.specs.Limits.{absentWide, fits}
 use Rattle.timing.specs.Table.{readCell, writeCell, graphOf}
 use Rattle.timing.specs.Delays.{arrivalIn, arrivalAt}
-use Rattle.timing.proofs.Checks.{Sound, sound-within, sound-inputs}
+use Rattle.timing.proofs.Checks.{sound-within, sound-inputs}
 use Rattle.timing.proofs.Limits.{fits-absent}
 use Rattle.timing.proofs.Table.{read-absent, read-at}
 use Rattle.paths.specs.declared.board.Board.{Board}

@@ -11,7 +11,6 @@ use mir.Syntax.{w64}
 use mir.Val.{SFits}
 use Rattle.laws.specs.Lists.{tabulate}
 use Rattle.graph.specs.Delay.{Delay, at, _⋓_, _⊕_}
-use Rattle.graph.specs.Graph.{Graph, longest, walk, propagated}
 use Rattle.timing.specs.Limits.{maxVertices, delayLimit, absentCell, absentWide, fits}
 use Rattle.timing.specs.Table.{readCell, writeCell, graphOf}
 use Rattle.timing.specs.Delays.{arrivalIn}

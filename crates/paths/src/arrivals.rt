@@ -97,10 +97,10 @@ pub fn delays_from(
 fn from_list(inputs: &[i64], v: usize) -> i64
     ensures { λ r. ⌜ r ≡ fromList (now (inputs .entry)) v ⌝ }
 {
-    if v < inputs.len() {
-        return inputs[v];
+    if v >= inputs.len() {
+        return Board::ABSENT_WIDE;
     }
-    Board::ABSENT_WIDE
+    inputs[v]
 }
 
 // Signals that start at the inputs.

@@ -76,11 +76,11 @@ fn matrix_answer(
     ensures { λ r. ⌜ Answers (matrixInto (board .inputs) (board .outputs) (board .vertices) (now (destination .entry)) (graphOf (board .vertices) (now (table .entry)))) (now (destination .entry)) (now (destination .exit)) r ⌝ }
     ensures { λ _. ⌜ drop (scratchCells (board .vertices)) (now (scratch .exit)) ≡ drop (scratchCells (board .vertices)) (now (scratch .entry)) ⌝ }
 {
-    if destination.len() < board.outputs * board.inputs {
-        return Answer::Refused(Refusal::DestinationShort);
+    if destination.len() >= board.outputs * board.inputs {
+        fill_matrix(board, table, list, scratch, destination);
+        return Answer::Done;
     }
-    fill_matrix(board, table, list, scratch, destination);
-    Answer::Done
+    Answer::Refused(Refusal::DestinationShort)
 }
 
 // The delay matrix, row by row, into the first m × n cells of `destination`.
@@ -99,6 +99,82 @@ pub fn delay_matrix(
     let lent = checks::checked(inputs, outputs, vertices, table, scratch.len(), &mut list);
     match lent {
         Made::Board(board) => matrix_answer(board, table, &list, scratch, destination),
+        Made::Refused(r) => Answer::Refused(r),
+    }
+}
+
+// Whether an arrival is absent or within the limits.
+fn arrival_fits(x: i64) -> bool
+    ensures { λ r. ⌜ r ≡ fits arrivalLimit (readCell absentWide x) ⌝ }
+{
+    if x == Board::ABSENT_WIDE {
+        return true;
+    }
+    if x < Board::MIN_ARRIVAL {
+        return false;
+    }
+    x <= Board::MAX_ARRIVAL
+}
+
+// Whether there is an arrival for each input, each absent or within the limits.
+fn arrivals_fit(board: Board, given: &[i64]) -> bool
+    ensures { λ r. ⌜ r ≡ arrivalsFit (board .inputs) (now (given .entry)) ⌝ }
+{
+    let m = board.inputs;
+    if given.len() != m {
+        return false;
+    }
+    let mut i = 0;
+    while i < m {
+        if !arrival_fits(given[i]) {
+            return false;
+        }
+        i += 1;
+    }
+    true
+}
+
+// The output arrivals of a board that has passed its checks; 22 where a list does not fit.
+fn arrivals_answer(
+    board: Board,
+    table: &[i32],
+    list: &[u8; Board::MAX_VERTICES],
+    scratch: &mut [i64],
+    given: &[i64],
+    answers: &mut [i64],
+) -> Answer
+    requires { ⌜ Passable board (now table) (now list) × (scratchCells (board .vertices) ≤ length (now scratch)) ⌝ }
+    ensures { λ r. ⌜ Answers (arrivalsInto (board .inputs) (board .outputs) (board .vertices) (now (given .entry)) (now (answers .entry)) (graphOf (board .vertices) (now (table .entry)))) (now (answers .entry)) (now (answers .exit)) r ⌝ }
+    ensures { λ _. ⌜ drop (scratchCells (board .vertices)) (now (scratch .exit)) ≡ drop (scratchCells (board .vertices)) (now (scratch .entry)) ⌝ }
+{
+    if !arrivals_fit(board, given) {
+        return Answer::Refused(Refusal::ArrivalLists);
+    }
+    if answers.len() != board.outputs {
+        return Answer::Refused(Refusal::ArrivalLists);
+    }
+    arrivals::arrivals(board, table, list, given, scratch);
+    copy_out(answers, scratch, board.inputs);
+    Answer::Done
+}
+
+// The arrivals at the n outputs from the m input arrivals `given`.
+pub fn output_arrivals(
+    inputs: usize,
+    outputs: usize,
+    vertices: usize,
+    table: &[i32],
+    scratch: &mut [i64],
+    given: &[i64],
+    answers: &mut [i64],
+) -> Answer
+    ensures { λ r. ⌜ Answers (arrivalCall inputs outputs vertices (length (now (scratch .entry))) (now (table .entry)) (now (given .entry)) (now (answers .entry))) (now (answers .entry)) (now (answers .exit)) r ⌝ }
+    ensures { λ _. ⌜ ScratchAfter inputs outputs vertices (now (table .entry)) (now (scratch .entry)) (now (scratch .exit)) ⌝ }
+{
+    let mut list = order::bytes();
+    let lent = checks::checked(inputs, outputs, vertices, table, scratch.len(), &mut list);
+    match lent {
+        Made::Board(board) => arrivals_answer(board, table, &list, scratch, given, answers),
         Made::Refused(r) => Answer::Refused(r),
     }
 }

@@ -1,5 +1,4 @@
-use mathlib.Core.Path.{_≡_, sym, ap₂, subst}
-use lib.IntN.{ℤ}
+use mathlib.Core.Path.{sym, ap₂, subst}
 use lib.Signed.{ltZ}
 use mir.Syntax.{w32}
 use mir.Facts.{toZ-ofZ, sfits-lit}

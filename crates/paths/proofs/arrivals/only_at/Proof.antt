@@ -1,7 +1,7 @@
-use mathlib.Core.Path.{_≡_, sym, ap}
+use mathlib.Core.Path.{sym, ap}
 use mathlib.Core.Bool.{Bool, cond}
 use lib.Dec.{eqb}
-use lib.IntN.{ℤ, pos}
+use lib.IntN.{pos}
 use Rattle.laws.proofs.Booleans.{T-true, eq→eqb, eqb-other}
 use Rattle.timing.specs.Limits.{absentWide}
 use Rattle.paths.proofs.arrivals.only_at.Statement.{statement}

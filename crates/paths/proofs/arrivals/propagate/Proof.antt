@@ -1,14 +1,11 @@
 use Rattle.paths.proofs.arrivals.propagate.Statement.{statement}
 use Rattle.paths.proofs.arrivals.propagate.Tie as tie
-use Rattle.paths.proofs.arrivals.propagate.Reads as reads
-use Rattle.paths.proofs.arrivals.propagate.Lts as lts
-use Rattle.paths.proofs.arrivals.push.Reads as push-reads
-use mathlib.Core.Path.{_≡_, sym, ap, _∙_, subst}
+use mathlib.Core.Path.{sym, subst}
 use mathlib.Core.List.{List}
 use Prim.Native.Nat.{ℕ, _≤_, _<_, _+_, _-_, _*_}
 use native.Mathlib.Omega.{arith}
 use lib.Dec.{T}
-use lib.IntN.{ℤ, pos}
+use lib.IntN.{ℤ}
 use lib.ListN.{length, getD}
 use mir.Syntax.{w64}
 use mir.Facts.{sfits-lit}

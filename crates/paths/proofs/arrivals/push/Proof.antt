@@ -16,12 +16,12 @@ use mir.Val.{SFits, toZ, ofZ}
 use mir.Facts.{toZ-ofZ}
 use Rattle.laws.proofs.Booleans.{split}
 use Rattle.laws.proofs.Signed.{back, widens}
-use Rattle.graph.specs.Delay.{Delay, _⋓_, _⊕_}
+use Rattle.graph.specs.Delay.{_⋓_, _⊕_}
 use Rattle.timing.specs.Limits.{delayLimit, absentCell, absentWide, fits}
 use Rattle.timing.specs.Table.{readCell}
 use Rattle.timing.specs.Delays.{arrivalIn}
 use Rattle.paths.specs.Cells.{cellAt}
-use Rattle.paths.specs.Arrivals.{Reached, Gains, Places, Pushed}
+use Rattle.paths.specs.Arrivals.{Reached, Gains, Places}
 
 -- what is to hold of the cell of v
 abbrev Later : List ℤ → ℤ → List ℤ → ℕ → ℤ → Type 0

@@ -1,11 +1,7 @@
 use Rattle.paths.proofs.arrivals.start_at.Statement.{statement}
 use Rattle.paths.proofs.arrivals.start_at.Tie as tie
-use Rattle.paths.proofs.arrivals.start_at.Reads as reads
-use Rattle.paths.proofs.arrivals.start_at.Lts as lts
-use Rattle.paths.proofs.arrivals.only_at.Reads as only-at-reads
-use mathlib.Core.Path.{_≡_, refl, sym, ap, _∙_}
-use mathlib.Core.List.{List, _++_}
-use Prim.Native.Nat.{ℕ, _≤_, _-_}
+use mathlib.Core.Path.{_≡_, refl, _∙_}
+use Prim.Native.Nat.{_≤_, _-_}
 use native.Mathlib.Omega.{arith}
 use lib.ListN.{length, length-set}
 use mir.Syntax.{w64}

@@ -1,15 +1,10 @@
 use Rattle.paths.proofs.cells.arcs.Statement.{statement}
 use Rattle.paths.proofs.cells.arcs.Tie as tie
-use Rattle.paths.proofs.cells.arcs.Reads as reads
-use Rattle.paths.proofs.cells.arcs.Lts as lts
-use Rattle.paths.proofs.cells.fan_out.Reads as fan-out-reads
-use mathlib.Core.Path.{_≡_, refl, sym, ap, _∙_}
-use Prim.Native.Nat.{ℕ, _≤_, _+_, _-_, _*_}
+use mathlib.Core.Path.{_≡_, refl}
+use Prim.Native.Nat.{ℕ, _≤_, _-_, _*_}
 use native.Mathlib.Omega.{arith}
-use native.Mathlib.Nat.{mul-le-mul}
 use Rattle.laws.specs.Bounded.{sum}
 use Rattle.laws.proofs.Sums.{sum-more, sum-bound}
-use Rattle.graph.specs.Delay.{Delay}
 use Rattle.graph.specs.Graph.{Graph}
 use Rattle.graph.specs.Count.{bit, fanOut, arcs}
 use Rattle.graph.proofs.Presence.{bit-le}

@@ -1,10 +1,10 @@
-use mathlib.Core.Path.{_≡_, refl, sym, ap, _∙_}
+use mathlib.Core.Path.{_≡_, sym, ap, _∙_}
 use borrow.Author.Tests.{not-true, not-false}
 use lib.IntN.{ℤ}
 use mir.Syntax.{w64}
 use mir.Facts.{toZ-ofZ}
 use Rattle.laws.proofs.Signed.{handed, widens}
-use Rattle.graph.specs.Delay.{Delay, absent, at, present}
+use Rattle.graph.specs.Delay.{at, present}
 use Rattle.timing.specs.Limits.{delayLimit, absentCell, fits}
 use Rattle.timing.specs.Table.{readCell}
 use Rattle.paths.proofs.ReadCells.{absent-cell, arc-cell}

@@ -1,8 +1,5 @@
 use Rattle.paths.proofs.cells.cells_fit.Statement.{statement}
 use Rattle.paths.proofs.cells.cells_fit.Tie as tie
-use Rattle.paths.proofs.cells.cells_fit.Reads as reads
-use Rattle.paths.proofs.cells.cells_fit.Lts as lts
-use Rattle.paths.proofs.cells.row_fits.Reads as row-fits-reads
 use mathlib.Core.Path.{_≡_, sym, ap, _∙_}
 use mathlib.Core.Bool.{Bool, true}
 use mathlib.Core.List.{List}
@@ -13,7 +10,7 @@ use borrow.Author.Tests.{not-true, not-false}
 use Rattle.laws.specs.Bounded.{every}
 use Rattle.laws.proofs.Bounded.{every-none, every-more, every-broken, every-same}
 use Rattle.laws.proofs.Grid.{row-in}
-use Rattle.graph.specs.Delay.{Delay, present}
+use Rattle.graph.specs.Delay.{Delay}
 use Rattle.timing.specs.Limits.{delayLimit, fits}
 use Rattle.timing.specs.Table.{graphOf}
 use Rattle.timing.specs.Checks.{cellsFit}

@@ -1,16 +1,12 @@
 use Rattle.paths.proofs.cells.count.Statement.{statement}
 use Rattle.paths.proofs.cells.count.Tie as tie
-use Rattle.paths.proofs.cells.count.Reads as reads
-use Rattle.paths.proofs.cells.count.Lts as lts
-use Rattle.paths.proofs.cells.is_arc.Reads as is-arc-reads
 use mathlib.Core.Path.{_≡_, refl, sym, ap, _∙_}
-use mathlib.Core.Bool.{Bool, true, false, cond}
+use mathlib.Core.Bool.{true, false}
 use mathlib.Core.List.{List}
 use Prim.Native.Nat.{ℕ, _≤_, _+_, _-_, _*_}
 use native.Mathlib.Nat.{mul-le-mul}
 use native.Mathlib.Omega.{arith}
-use lib.IntN.{ℤ, pos}
-use lib.ListN.{getD}
+use lib.IntN.{ℤ}
 use mir.Syntax.{w32}
 use Rattle.laws.specs.Bounded.{sum}
 use Rattle.laws.proofs.Booleans.{split}

@@ -1,11 +1,9 @@
-use mathlib.Core.Path.{_≡_, sym, ap, _∙_}
+use mathlib.Core.Path.{sym, ap, _∙_}
 use mathlib.Core.List.{List}
-use Prim.Native.Nat.{ℕ, _+_, _*_, _<_}
+use Prim.Native.Nat.{ℕ, _+_, _*_}
 use native.Mathlib.Omega.{arith}
 use native.Mathlib.Nat.{add-comm}
 use lib.IntN.{ℤ}
-use lib.ListN.{length}
-use Rattle.laws.specs.Bounded.{sum}
 use Rattle.laws.proofs.Grid.{row-in}
 use Rattle.laws.proofs.Sums.{sum-eq}
 use Rattle.graph.specs.Count.{bit, fanIn}

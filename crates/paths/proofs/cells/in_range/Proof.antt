@@ -1,5 +1,3 @@
-use mathlib.Core.Path.{_≡_, sym}
-use mathlib.Core.Bool.{not}
 use lib.IntN.{pos, negℤ}
 use mir.Syntax.{w64}
 use mir.Facts.{toZ-ofZ}

@@ -1,4 +1,4 @@
-use mathlib.Core.Path.{_≡_, sym, ap}
+use mathlib.Core.Path.{sym, ap}
 use mir.Syntax.{w32}
 use mir.Facts.{sfits-lit}
 use Rattle.laws.proofs.Signed.{same-bits, other-bits}

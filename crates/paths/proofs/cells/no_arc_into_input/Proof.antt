@@ -1,8 +1,5 @@
 use Rattle.paths.proofs.cells.no_arc_into_input.Statement.{statement}
 use Rattle.paths.proofs.cells.no_arc_into_input.Tie as tie
-use Rattle.paths.proofs.cells.no_arc_into_input.Reads as reads
-use Rattle.paths.proofs.cells.no_arc_into_input.Lts as lts
-use Rattle.paths.proofs.cells.fan_in.Reads as fan-in-reads
 use mathlib.Core.Path.{_≡_, sym, _∙_}
 use Prim.Native.Nat.{ℕ, _≤_, _<_, _-_}
 use native.Mathlib.Omega.{arith}

@@ -1,14 +1,10 @@
 use Rattle.paths.proofs.cells.row_fits.Statement.{statement}
 use Rattle.paths.proofs.cells.row_fits.Tie as tie
-use Rattle.paths.proofs.cells.row_fits.Reads as reads
-use Rattle.paths.proofs.cells.row_fits.Lts as lts
-use Rattle.paths.proofs.cells.cell_fits.Reads as cell-fits-reads
 use mathlib.Core.Path.{_≡_, sym, ap, _∙_}
-use mathlib.Core.Bool.{Bool, true}
+use mathlib.Core.Bool.{true}
 use Prim.Native.Nat.{_≤_, _-_}
 use native.Mathlib.Omega.{arith}
-use lib.IntN.{ℤ, pos}
-use lib.ListN.{getD}
+use lib.IntN.{ℤ}
 use borrow.Author.Tests.{not-true, not-false}
 use mir.Syntax.{w32}
 use Rattle.laws.specs.Bounded.{every}

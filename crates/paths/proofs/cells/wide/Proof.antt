@@ -1,6 +1,4 @@
-use mathlib.Core.Path.{_≡_, _∙_}
 use mir.Facts.{toZ-ofZ}
-use Rattle.laws.proofs.Linear.{zneeds}
 use Rattle.laws.proofs.Signed.{widens}
 use Rattle.paths.proofs.cells.wide.Statement.{statement}
 use Rattle.paths.proofs.cells.wide.Tie as tie

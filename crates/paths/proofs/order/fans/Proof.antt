@@ -1,10 +1,6 @@
 use Rattle.paths.proofs.order.fans.Statement.{statement}
 use Rattle.paths.proofs.order.fans.Tie as tie
-use Rattle.paths.proofs.order.fans.Reads as reads
-use Rattle.paths.proofs.order.fans.Lts as lts
-use Rattle.paths.proofs.cells.fan_in.Reads as fan-in-reads
-use Rattle.paths.proofs.order.bytes.Reads as bytes-reads
-use mathlib.Core.Path.{_≡_, sym, _∙_}
+use mathlib.Core.Path.{_≡_, _∙_}
 use mathlib.Core.List.{List}
 use Prim.Native.Nat.{ℕ, _≤_, _-_}
 use native.Mathlib.Omega.{arith}

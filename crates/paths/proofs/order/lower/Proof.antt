@@ -1,14 +1,11 @@
 use Rattle.paths.proofs.order.lower.Statement.{statement}
 use Rattle.paths.proofs.order.lower.Tie as tie
-use Rattle.paths.proofs.order.lower.Reads as reads
-use Rattle.paths.proofs.order.lower.Lts as lts
-use Rattle.paths.proofs.order.lowered.Reads as lowered-reads
-use mathlib.Core.Path.{_≡_, refl, sym, ap, _∙_}
+use mathlib.Core.Path.{_≡_, ap, _∙_}
 use mathlib.Core.List.{List}
-use Prim.Native.Nat.{ℕ, _≤_, _<_, _+_, _-_}
+use Prim.Native.Nat.{ℕ, _≤_, _+_, _-_}
 use native.Mathlib.Omega.{arith}
 use lib.IntN.{ℤ, pos}
-use lib.ListN.{length, getD}
+use lib.ListN.{getD}
 use mir.Syntax.{w32}
 use mir.Val.{toZ, ofZ}
 use Rattle.laws.proofs.Signed.{back}

@@ -1,8 +1,5 @@
 use Rattle.paths.proofs.order.ready.Statement.{statement}
 use Rattle.paths.proofs.order.ready.Tie as tie
-use Rattle.paths.proofs.order.ready.Reads as reads
-use Rattle.paths.proofs.order.ready.Lts as lts
-use mathlib.Core.Path.{_≡_}
 use mathlib.Core.Logic.{_≢_}
 use Prim.Native.Nat.{ℕ, _≤_, _<_, _-_}
 use native.Mathlib.Omega.{arith}

@@ -1,19 +1,11 @@
 use Rattle.paths.proofs.order.topological_order.Statement.{statement}
 use Rattle.paths.proofs.order.topological_order.Tie as tie
-use Rattle.paths.proofs.order.topological_order.Reads as reads
-use Rattle.paths.proofs.order.topological_order.Lts as lts
-use Rattle.paths.proofs.order.fans.Reads as fans-reads
-use Rattle.paths.proofs.order.lower.Reads as lower-reads
-use Rattle.paths.proofs.order.ready.Reads as ready-reads
-use mathlib.Core.Path.{_≡_, refl, sym, ap, _∙_, subst}
-use mathlib.Core.Logic.{_≢_}
-use mathlib.Core.Bool.{true, false}
+use mathlib.Core.Path.{_≡_, sym, ap, _∙_}
 use mathlib.Core.List.{List}
 use Prim.Native.Nat.{ℕ, _≤_, _<_, _+_, _-_, _*_}
 use native.Mathlib.Omega.{arith}
 use native.Mathlib.Numerals.{add-one}
-use lib.Dec.{T}
-use lib.IntN.{ℤ, pos}
+use lib.IntN.{ℤ}
 use lib.ListN.{length, getD, set, length-set}
 use lib.Seq.{getD-set-same, getD-set-other}
 use Rattle.laws.proofs.Booleans.{is-true, is-false}

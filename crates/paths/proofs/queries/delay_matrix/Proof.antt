@@ -1,5 +1,5 @@
 use borrow.Author.Needs.{needs}
-use mathlib.Core.Path.{_≡_, refl}
+use mathlib.Core.Path.{refl}
 use Rattle.timing.specs.Queries.{matrixInto, matrixCall}
 use Rattle.paths.proofs.Answering.{answers-on, answers-refused, scratch-on, scratch-same}
 use Rattle.paths.proofs.queries.delay_matrix.Statement.{statement}

@@ -1,16 +1,10 @@
 use Rattle.paths.proofs.queries.fill_matrix.Statement.{statement}
 use Rattle.paths.proofs.queries.fill_matrix.Tie as tie
-use Rattle.paths.proofs.queries.fill_matrix.Reads as reads
-use Rattle.paths.proofs.queries.fill_matrix.Lts as lts
-use Rattle.paths.proofs.arrivals.delays_from.Reads as delays-from-reads
-use Rattle.paths.proofs.queries.copy_out.Reads as copy-out-reads
-
-use mathlib.Core.Path.{_≡_, refl, sym, ap, _∙_}
-use mathlib.Core.List.{List, _++_}
-use Prim.Native.Nat.{ℕ, _≤_, _<_, _+_, _-_, _*_}
+use mathlib.Core.Path.{_≡_, refl, ap, _∙_}
+use mathlib.Core.List.{_++_}
+use Prim.Native.Nat.{_≤_, _+_, _-_, _*_}
 use native.Mathlib.Omega.{arith}
-use lib.IntN.{ℤ, pos}
-use lib.ListN.{length, getD, take, drop, length-drop, length-append}
+use lib.ListN.{length, drop, length-drop, length-append}
 use Rattle.laws.specs.Lists.{rows}
 use Rattle.laws.proofs.Grid.{row-of}
 use Rattle.laws.proofs.Lists.{length-rows}
@@ -20,6 +14,7 @@ use Rattle.paths.proofs.MatrixRows.{entry, matrix-length, row-length, r
 use Rattle.paths.proofs.Starting.{filled-drop}
 use Rattle.graph.specs.Graph.{longest, walk}
 use Rattle.timing.specs.Table.{graphOf}
+
 abbrev Inv-loop : tie.InvT-loop
 Inv-loop board table list scratch₀ destination₀ m n i₀ scratch destination i = (i ≤ m) × (length scratch ≡ length scratch₀) × (drop (board .vertices) scratch ≡ drop (board .vertices) scratch₀) × (destination ≡ rows n i (entry board table) ++ drop (n * i) destination₀)
 

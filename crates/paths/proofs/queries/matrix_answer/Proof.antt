@@ -1,6 +1,6 @@
 use borrow.Author.Needs.{needs}
-use mathlib.Core.Path.{_≡_, refl}
-use Prim.Native.Nat.{ℕ, _*_, _≤_}
+use mathlib.Core.Path.{refl}
+use Prim.Native.Nat.{_*_, _≤_}
 use native.Mathlib.Nat.{mul-le-mul}
 use native.Mathlib.Omega.{arith}
 use Rattle.laws.proofs.Grid.{square}
@@ -23,13 +23,10 @@ least s = square (s .args .board .vertices) (omega (arith, s .pre .0 .lent .size
 mul-if1 : tie.Need-mul-if1
 mul-if1 c = omega (arith, small (c .before .args .board) (c .before .pre .0 .lent .sized))
 
-returns : tie.Need-returns
-returns c = let s = c .before .before in (matrix-short _ _ _ _ _ (c .if1 .taken), refl)
-
 fill-matrix-requires : tie.Need-fill-matrix-requires
 fill-matrix-requires c κs =
     let s = c .before .before .before .before in
-    (s .pre .0, omega (arith, s .pre .1, least s), c .before .before .if1 .left)
+    (s .pre .0, omega (arith, s .pre .1, least s), c .before .before .if1 .taken)
 
 same-length : tie.Need-same-length
 same-length c = search needs
@@ -37,16 +34,18 @@ same-length c = search needs
 same-length-2 : tie.Need-same-length-2
 same-length-2 c = search needs
 
-returns-2 : tie.Need-returns-2
-returns-2 c =
+returns : tie.Need-returns
+returns c =
     let f = c .before .before in
     let e = f .before .before .before in
-    let s = e .before .before in
-    (
-      matrix-done _ _ _ _ _ (e .if1 .left) _ (f .fill-matrix .ensures .0),
+    let s = e .before .before in (
+      matrix-done _ _ _ _ _ (e .if1 .taken) _ (f .fill-matrix .ensures .0),
       drop-further (s .args .board .vertices) (s .args .board .vertices * s .args .board .vertices) (s .args .scratch .now) (f .fill-matrix .last .1 .1 .1 .0) (least s) (f .fill-matrix .ensures .1),
     )
 
+returns-2 : tie.Need-returns-2
+returns-2 c = (matrix-short _ _ _ _ _ (c .if1 .left), refl)
+
 pub matrix-answer-spec : {M : Type 1} → statement M
 matrix-answer-spec =
-    tie.close (tie.spec mul-if1 returns fill-matrix-requires same-length same-length-2 returns-2)
+    tie.close (tie.spec mul-if1 fill-matrix-requires same-length same-length-2 returns returns-2)
