@@ -1,0 +1,15 @@
+pub mod SumCells
+pub mod Tabulated
+pub mod ShrunkRows
+pub mod ShrunkTable
+pub mod Members
+pub mod Sets
+pub mod Truth
+pub mod Free
+pub mod LeastOf
+pub mod Marking
+pub mod CentreCells
+pub mod StarChain
+pub mod Rewriting
+pub mod RowCells
+pub mod StarTable

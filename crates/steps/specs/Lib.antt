@@ -1,0 +1,5 @@
+pub mod Verdict
+pub mod ShrunkRow
+pub mod Members
+pub mod StarCells
+pub mod StarReady
