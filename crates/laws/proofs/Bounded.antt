@@ -8,6 +8,7 @@ use native.Mathlib.Nat.{not-suc-le-zero}
 use native.Mathlib.Decide.{ℕ-discrete}
 use native.Mathlib.Numerals.{add-one}
 use native.Mathlib.Omega.{arith}
+use borrow.Author.Tests.{lt-ltb, le-ltb}
 use lib.Dec.{T, T-not, eqb, eqb→eq, ltb, ltb→lt, lt→ltb}
 use Rattle.laws.specs.Bounded.{every, some, first, member, each}
 use Rattle.laws.proofs.Booleans.{or-l, or-r, or-cases, and-i, and-e, true-or-not, cond-elim, is-false}
@@ -76,6 +77,21 @@ first-below (suc n) f i l h =
     go : (i < n → T (f i) → first n f < n) → T (not (ltb (first n f) n)) → T (not (f n)) → Dec (i ≡ n) → ⊥
     go ih b c (yes e) = T-not (f n) c (subst (λ (x : ℕ). T (f x)) e h)
     go ih b c (no ne) = T-not (ltb (first n f) n) b (lt→ltb (first n f) n (ih (omega arith) h))
+
+-- a search that ends with n, and one that stops at i
+pub first-none : (n : ℕ) (f : ℕ → Bool) → ((j : ℕ) → j < n → f j ≡ false) → first n f ≡ n
+unfolding first
+first-none zero f h = refl
+first-none (suc n) f h = simp (first-none n f (λ j l. h j (omega arith)), le-ltb n n (omega arith), h n (omega arith))
+
+pub first-found : (n : ℕ) (f : ℕ → Bool) (i : ℕ) → i < n → ((j : ℕ) → j < i → f j ≡ false) → f i ≡ true → first n f ≡ i
+unfolding first
+first-found zero f i l h e = absurd (not-suc-le-zero l)
+first-found (suc n) f i l h e = go (first-found n f i) (ℕ-discrete i n)
+  where
+    go : (i < n → ((j : ℕ) → j < i → f j ≡ false) → f i ≡ true → first n f ≡ i) → Dec (i ≡ n) → cond (ltb (first n f) n) (first n f) (cond (f n) n (suc n)) ≡ i
+    go ih (yes q) = simp (first-none n f (λ j k. h j (omega arith)), le-ltb n n (omega arith), subst (λ (x : ℕ). f x ≡ true) q e) (sym q)
+    go ih (no q) = simp (ih (omega arith) h e, lt-ltb i n (omega arith))
 
 pub each-at : (xs : List ℕ) (f : ℕ → Bool) → T (each xs f) → (x : ℕ) → T (member x xs) → T (f x)
 unfolding each member

@@ -1,0 +1,380 @@
+// Star: the conditions, and the table after an accepted step.
+use crate::verdict::Fit;
+use paths::Board;
+use paths::cells;
+use timing::Refusal;
+ghost use mathlib.Core.Path.{_≡_};
+ghost use mathlib.Core.Bool.{true, false, _&&_};
+ghost use Prim.Native.Nat.{ℕ, _+_, _*_, _<_, _≤_};
+ghost use lib.Dec.{T, ltb};
+ghost use lib.IntN.{pos, _-ℤ_, _+ℤ_};
+ghost use lib.ListN.{length, getD, drop};
+ghost use Rattle.laws.specs.Integers.{eqZ, minZ};
+ghost use Rattle.laws.specs.Bounded.{each, member};
+ghost use Rattle.graph.specs.Delay.{at, ticks, present};
+ghost use Rattle.timing.specs.Limits.{maxVertices, delayLimit, fits};
+ghost use Rattle.timing.specs.Table.{graphOf, withGraph};
+ghost use Rattle.paths.specs.Board.{Lent};
+ghost use Rattle.paths.specs.Cells.{cellAt};
+ghost use Rattle.reduction.specs.Outcome.{isInner, unused};
+ghost use Rattle.reduction.specs.Star.{nonEmpty, distinct, toCentre, coveredArcs, starVerdict, starred};
+ghost use Rattle.plans.specs.Verdict.{fitMeaning};
+ghost use Rattle.laws.specs.Lists.{tabulate};
+ghost use Rattle.plans.specs.StarCells.{leastGap, meeting, clearedCell, sourceCell, centreCell, cellAfter};
+ghost use Rattle.plans.specs.StarReady.{below, VertexSet, Bundle, StarReady};
+
+// How many arcs are covered, and whether the delays to the centre are in range.
+struct Weight {
+    covered: usize,
+    in_range: bool,
+}
+
+fn all_below(xs: &[usize], n: usize) -> bool
+    ensures { λ r. ⌜ r ≡ below n (now (xs .entry)) ⌝ }
+{
+    let mut i = 0;
+    while i < xs.len() {
+        if n <= xs[i] {
+            return false;
+        }
+        i += 1;
+    }
+    true
+}
+
+// Refusal 7.
+fn exist(sources: &[usize], targets: &[usize], k: usize, n: usize) -> bool
+    ensures { λ r. ⌜ r ≡ (below n (now (sources .entry)) && below n (now (targets .entry)) && ltb k n) ⌝ }
+{
+    if !all_below(sources, n) {
+        return false;
+    }
+    if !all_below(targets, n) {
+        return false;
+    }
+    k < n
+}
+
+// Whether x stands in the list, from place `from` on.
+fn found(xs: &[usize], from: usize, x: usize) -> bool
+    requires { ⌜ from ≤ length (now xs) ⌝ }
+    ensures { λ r. ⌜ r ≡ member x (drop from (now (xs .entry))) ⌝ }
+{
+    let mut i = from;
+    while i < xs.len() {
+        if x == xs[i] {
+            return true;
+        }
+        i += 1;
+    }
+    false
+}
+
+// Whether vertices below n are a set with a member; a list that is too long is not searched.
+fn is_set(xs: &[usize], n: usize) -> bool
+    requires { ⌜ T (below n (now xs)) ⌝ }
+    ensures { λ r. ⌜ r ≡ (nonEmpty (now (xs .entry)) && distinct (now (xs .entry))) ⌝ }
+{
+    if xs.len() == 0 {
+        return false;
+    }
+    if n < xs.len() {
+        return false;
+    }
+    let mut i = 0;
+    while i < xs.len() {
+        if found(xs, i + 1, xs[i]) {
+            return false;
+        }
+        i += 1;
+    }
+    true
+}
+
+// Whether k is inner and no arc touches it.
+fn is_free(board: Board, table: &[i32], k: usize) -> bool
+    requires { ⌜ Lent board (now table) × (k < board .vertices) ⌝ }
+    ensures { λ r. ⌜ r ≡ (isInner (board .inputs) (board .outputs) (board .vertices) k && unused (board .vertices) (graphOf (board .vertices) (now (table .entry))) k) ⌝ }
+{
+    let roles = board.inputs + board.outputs;
+    if k < roles {
+        return false;
+    }
+    if cells::fan_in(board, table, k) != 0 {
+        return false;
+    }
+    cells::fan_out(board, table, k) == 0
+}
+
+// Whether a row has an arc to each target.
+fn row_joined(row: &[i32], targets: &[usize]) -> bool
+    requires { ⌜ T (below (length (now row)) (now targets)) ⌝ }
+    ensures { λ r. ⌜ r ≡ each (now (targets .entry)) (λ t. present (cellAt (now (row .entry)) t)) ⌝ }
+{
+    let mut i = 0;
+    while i < targets.len() {
+        let t = targets[i];
+        if !cells::is_arc(row[t]) {
+            return false;
+        }
+        i += 1;
+    }
+    true
+}
+
+// Whether each source has an arc to each target.
+fn all_joined(board: Board, table: &[i32], sources: &[usize], targets: &[usize]) -> bool
+    requires { ⌜ Lent board (now table) × T (below (board .vertices) (now sources)) × T (below (board .vertices) (now targets)) ⌝ }
+    ensures { λ r. ⌜ r ≡ each (now (sources .entry)) (λ s. each (now (targets .entry)) (λ t. present (graphOf (board .vertices) (now (table .entry)) s t))) ⌝ }
+{
+    let n = board.vertices;
+    let mut i = 0;
+    while i < sources.len() {
+        let s = sources[i];
+        let at = n * s;
+        if !row_joined(&table[at..], targets) {
+            return false;
+        }
+        i += 1;
+    }
+    true
+}
+
+fn difference(a: i32, b: i32) -> i64
+    ensures { λ r. ⌜ r ≡ a -ℤ b ⌝ }
+{
+    (a as i64) - (b as i64)
+}
+
+fn lesser(a: i64, b: i64) -> i64
+    ensures { λ r. ⌜ r ≡ minZ a b ⌝ }
+{
+    if b < a {
+        return b;
+    }
+    a
+}
+
+// Whether an arc's delay is its sum through the centre.
+fn is_covered(delay: i32, first: i32, e: i64) -> bool
+    ensures { λ r. ⌜ r ≡ eqZ delay (e +ℤ first) ⌝ }
+{
+    difference(delay, first) == e
+}
+
+// The least difference between a row and the first source's, over the targets.
+fn least_difference(row: &[i32], first: &[i32; Board::MAX_VERTICES], targets: &[usize]) -> i64
+    requires { ⌜ T (below (length (now row)) (now targets)) × T (below maxVertices (now targets)) × T (nonEmpty (now targets)) ⌝ }
+    ensures { λ r. ⌜ at r ≡ leastGap (now (row .entry)) (now (first .entry)) (now (targets .entry)) ⌝ }
+{
+    let mut i = targets.len() - 1;
+    let last = targets[i];
+    let mut e = difference(row[last], first[last]);
+    while 0 < i {
+        i -= 1;
+        let t = targets[i];
+        e = lesser(difference(row[t], first[t]), e);
+    }
+    e
+}
+
+// How many targets' arcs are equal to their sum through the centre.
+fn row_covered(row: &[i32], first: &[i32; Board::MAX_VERTICES], targets: &[usize], e: i64) -> usize
+    requires { ⌜ T (below (length (now row)) (now targets)) × T (below maxVertices (now targets)) ⌝ }
+    ensures { λ r. ⌜ r ≡ meeting (now (row .entry)) (now (first .entry)) (now (targets .entry)) e ⌝ }
+{
+    let mut total = 0;
+    let mut i = 0;
+    while i < targets.len() {
+        let t = targets[i];
+        if is_covered(row[t], first[t], e) {
+            total += 1;
+        }
+        i += 1;
+    }
+    total
+}
+
+// What one source adds.
+fn weigh(row: &[i32], first: &[i32; Board::MAX_VERTICES], targets: &[usize]) -> Weight
+    requires { ⌜ T (below (length (now row)) (now targets)) × T (below maxVertices (now targets)) × T (nonEmpty (now targets)) ⌝ }
+    ensures { λ r. ⌜ (r .covered ≡ meeting (now (row .entry)) (now (first .entry)) (now (targets .entry)) (ticks (leastGap (now (row .entry)) (now (first .entry)) (now (targets .entry))))) × (r .in_range ≡ fits delayLimit (leastGap (now (row .entry)) (now (first .entry)) (now (targets .entry)))) ⌝ }
+{
+    let e = least_difference(row, first, targets);
+    Weight {
+        covered: row_covered(row, first, targets, e),
+        in_range: cells::in_range(e),
+    }
+}
+
+// The n cells from `at` on.
+fn copy_row(table: &[i32], at: usize, n: usize) -> [i32; Board::MAX_VERTICES]
+    requires { ⌜ (n ≤ maxVertices) × (at + n ≤ length (now table)) ⌝ }
+    ensures { λ r. ⌜ ((v : ℕ) → v < n → getD r v (pos 0) ≡ getD (now (table .entry)) (at + v) (pos 0)) ⌝ }
+{
+    let mut row = [0i32; Board::MAX_VERTICES];
+    let mut v = 0;
+    while v < n {
+        row[v] = table[at + v];
+        v += 1;
+    }
+    row
+}
+
+// What all sources make.
+fn weigh_all(board: Board, table: &[i32], sources: &[usize], targets: &[usize]) -> Weight
+    requires { ⌜ Lent board (now table) × Bundle (board .vertices) (now sources) (now targets) (graphOf (board .vertices) (now table)) ⌝ }
+    ensures { λ r. ⌜ (r .covered ≡ coveredArcs (board .vertices) (now (sources .entry)) (now (targets .entry)) (graphOf (board .vertices) (now (table .entry)))) × (r .in_range ≡ each (now (sources .entry)) (λ s. fits delayLimit (toCentre (now (sources .entry)) (now (targets .entry)) (graphOf (board .vertices) (now (table .entry))) s))) ⌝ }
+{
+    let n = board.vertices;
+    let first = copy_row(table, n * sources[0], n);
+    let mut covered = 0;
+    let mut in_range = true;
+    let mut i = 0;
+    while i < sources.len() {
+        let at = n * sources[i];
+        let one = weigh(&table[at..], &first, targets);
+        covered += one.covered;
+        if !one.in_range {
+            in_range = false;
+        }
+        i += 1;
+    }
+    Weight { covered, in_range }
+}
+
+// The conditions, in the order of document 01: 7, 9, 8, 10, 13, 14.
+pub fn star_verdict(
+    board: Board,
+    table: &[i32],
+    sources: &[usize],
+    targets: &[usize],
+    k: usize,
+) -> Fit
+    requires { ⌜ Lent board (now table) × ((u v : ℕ) → T (fits delayLimit (graphOf (board .vertices) (now table) u v))) ⌝ }
+    ensures { λ r. ⌜ fitMeaning r ≡ starVerdict (board .inputs) (board .outputs) (board .vertices) (now (sources .entry)) (now (targets .entry)) k (graphOf (board .vertices) (now (table .entry))) ⌝ }
+{
+    let n = board.vertices;
+    if !exist(sources, targets, k, n) {
+        return Fit::Refused(Refusal::WrongVertex);
+    }
+    if !is_set(sources, n) {
+        return Fit::Refused(Refusal::WrongSet);
+    }
+    if !is_set(targets, n) {
+        return Fit::Refused(Refusal::WrongSet);
+    }
+    if !is_free(board, table, k) {
+        return Fit::Refused(Refusal::NumberTaken);
+    }
+    if !all_joined(board, table, sources, targets) {
+        return Fit::Refused(Refusal::WrongArcs);
+    }
+    let weight = weigh_all(board, table, sources, targets);
+    if weight.covered <= sources.len() + targets.len() {
+        return Fit::Refused(Refusal::NothingSaved);
+    }
+    if !weight.in_range {
+        return Fit::Refused(Refusal::DelayOutOfRange);
+    }
+    Fit::Accepted
+}
+
+// The marks of a list's members.
+fn marks(xs: &[usize]) -> [bool; Board::MAX_VERTICES]
+    requires { ⌜ T (below maxVertices (now xs)) ⌝ }
+    ensures { λ r. ⌜ ((v : ℕ) → v < maxVertices → getD r v false ≡ member v (now (xs .entry))) ⌝ }
+{
+    let mut marked = [false; Board::MAX_VERTICES];
+    let mut i = 0;
+    while i < xs.len() {
+        let x = xs[i];
+        marked[x] = true;
+        i += 1;
+    }
+    marked
+}
+
+// A delay that fits a cell.
+fn narrow(x: i64) -> i32
+    requires { ⌜ T (fits delayLimit (at x)) ⌝ }
+    ensures { λ r. ⌜ r ≡ x ⌝ }
+{
+    x as i32
+}
+
+// The centre's row: the first source's delays at the targets.
+fn centre_row(row: &mut [i32], first: &[i32; Board::MAX_VERTICES], targets: &[usize])
+    requires { ⌜ VertexSet (length (now row)) (now targets) × (length (now row) ≤ maxVertices) ⌝ }
+    ensures { λ _. ⌜ now (row .exit) ≡ tabulate (length (now (row .entry))) (centreCell (now (row .entry)) (now (first .entry)) (now (targets .entry))) ⌝ }
+{
+    let mut i = 0;
+    while i < targets.len() {
+        let t = targets[i];
+        row[t] = first[t];
+        i += 1;
+    }
+}
+
+// Clears the covered arcs of a source's row.
+fn clear_covered(row: &mut [i32], first: &[i32; Board::MAX_VERTICES], targets: &[usize], e: i64)
+    requires { ⌜ VertexSet (length (now row)) (now targets) × (length (now row) ≤ maxVertices) ⌝ }
+    ensures { λ _. ⌜ now (row .exit) ≡ tabulate (length (now (row .entry))) (clearedCell (now (row .entry)) (now (first .entry)) (now (targets .entry)) e) ⌝ }
+{
+    let mut i = 0;
+    while i < targets.len() {
+        let t = targets[i];
+        if is_covered(row[t], first[t], e) {
+            row[t] = Board::ABSENT;
+        }
+        i += 1;
+    }
+}
+
+// A source's row.
+fn source_row(row: &mut [i32], first: &[i32; Board::MAX_VERTICES], targets: &[usize], k: usize)
+    requires { ⌜ VertexSet (length (now row)) (now targets) × (length (now row) ≤ maxVertices) × (k < length (now row)) × T (fits delayLimit (leastGap (now row) (now first) (now targets))) ⌝ }
+    ensures { λ _. ⌜ now (row .exit) ≡ tabulate (length (now (row .entry))) (sourceCell (now (row .entry)) (now (first .entry)) (now (targets .entry)) k (ticks (leastGap (now (row .entry)) (now (first .entry)) (now (targets .entry))))) ⌝ }
+{
+    let e = least_difference(row, first, targets);
+    clear_covered(row, first, targets, e);
+    row[k] = narrow(e);
+}
+
+// The row of u.
+fn row_after(
+    row: &mut [i32],
+    first: &[i32; Board::MAX_VERTICES],
+    targets: &[usize],
+    k: usize,
+    u: usize,
+    source: bool,
+)
+    requires { ⌜ VertexSet (length (now row)) (now targets) × (length (now row) ≤ maxVertices) × (k < length (now row)) × (source ≡ true → T (fits delayLimit (leastGap (now row) (now first) (now targets)))) ⌝ }
+    ensures { λ _. ⌜ now (row .exit) ≡ tabulate (length (now (row .entry))) (cellAfter (now (row .entry)) (now (first .entry)) (now (targets .entry)) k u source) ⌝ }
+{
+    if u == k {
+        centre_row(row, first, targets);
+        return;
+    }
+    if source {
+        source_row(row, first, targets, k);
+    }
+}
+
+// The step: one pass over the rows.
+pub fn star_apply(board: Board, table: &mut [i32], sources: &[usize], targets: &[usize], k: usize)
+    requires { ⌜ Lent board (now table) × StarReady (board .inputs) (board .outputs) (board .vertices) (now sources) (now targets) k (graphOf (board .vertices) (now table)) ⌝ }
+    ensures { λ _. ⌜ now (table .exit) ≡ withGraph (board .vertices) (starred (now (sources .entry)) (now (targets .entry)) k (graphOf (board .vertices) (now (table .entry)))) (now (table .entry)) ⌝ }
+{
+    let n = board.vertices;
+    let first = copy_row(table, n * sources[0], n);
+    let is_source = marks(sources);
+    let mut u = 0;
+    while u < n {
+        let at = n * u;
+        let end = at + n;
+        row_after(&mut table[at..end], &first, targets, k, u, is_source[u]);
+        u += 1;
+    }
+}

@@ -1,0 +1,13 @@
+// What a step's conditions say.
+use timing::Refusal;
+
+pub enum Fit {
+    Accepted,
+    Refused(Refusal),
+}
+
+// A driver and its delay.
+pub enum Driven {
+    By(usize, i32),
+    Refused(Refusal),
+}

@@ -1,5 +1,0 @@
-pub mod Verdict
-pub mod ShrunkRow
-pub mod Members
-pub mod StarCells
-pub mod StarReady
