@@ -27,16 +27,19 @@ use Rattle.paths.proofs.Sizes.{sizes-fit}
 use Rattle.paths.proofs.Checking.{call-on, call-refused}
 
 -- what follows the checks, over any sizes
-abbrev pub Part : Type 0
-Part = ℕ → ℕ → ℕ → Graph → Verdict (List ℤ)
+abbrev pub Part : Type 0 → Type 0
+Part A = ℕ → ℕ → ℕ → Graph → Verdict A
 
 module _ {m n N s : ℕ} {t : List ℤ} {o : List ℕ} {made : Made} (c : Checking m n N s t o made) where
-  pub answers-on : (b : Board) → made ≡ M.Board b → (f : Part) (before after : List ℤ) (r : Answer) → Answers (f (b .inputs) (b .outputs) (b .vertices) (graphOf (b .vertices) t)) before after r
-      → Answers (checked m n N s t then f m n N) before after r
-  answers-on b q f before after r h =
+  -- the checks passed: what holds of what follows them holds of the call
+  pub call-is : {A : Type 0} (P : Verdict A → Type 0) (f : Part A) (b : Board) → made ≡ M.Board b → P (f (b .inputs) (b .outputs) (b .vertices) (graphOf (b .vertices) t)) → P (checked m n N s t then f m n N)
+  call-is P f b q h =
       let e = call-on m n N s t b made (c .answer) q (f m n N) in
-      subst (λ (v : Verdict (List ℤ)). Answers v before after r) (sym (e .0))
-      (subst (λ (x : Board). Answers (f (x .inputs) (x .outputs) (x .vertices) (graphOf (x .vertices) t)) before after r) (sym (e .1)) h)
+      subst P (sym (e .0)) (subst (λ (x : Board). P (f (x .inputs) (x .outputs) (x .vertices) (graphOf (x .vertices) t))) (sym (e .1)) h)
+
+  pub answers-on : (b : Board) → made ≡ M.Board b → (f : Part (List ℤ)) (before after : List ℤ) (r : Answer) → Answers (f (b .inputs) (b .outputs) (b .vertices) (graphOf (b .vertices) t)) before after r
+      → Answers (checked m n N s t then f m n N) before after r
+  answers-on b q f before after r h = call-is (λ (v : Verdict (List ℤ)). Answers v before after r) f b q h
 
   pub answers-refused : (x : Refusal) → made ≡ M.Refused x → (f : Graph → Verdict (List ℤ)) (before : List ℤ) → Answers (checked m n N s t then f) before before (A.Refused x)
   answers-refused x q f before =

@@ -17,3 +17,9 @@ pub mod LoweredSums
 pub mod Drivers
 pub mod MergedRows
 pub mod MergedTable
+pub mod Differences
+pub mod DifferenceCells
+pub mod SharedRows
+pub mod PathDelays
+pub mod ShareConditions
+pub mod Vectors

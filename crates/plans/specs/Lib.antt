@@ -1,5 +1,8 @@
 pub mod Verdict
 pub mod ShrunkRow
+pub mod Comparing
+pub mod SharedRow
+pub mod Sharing
 pub mod MergedRow
 pub mod Members
 pub mod StarCells

@@ -1,6 +1,8 @@
-// The six steps over lent memory.
+// Each step's plan on a table that has passed its checks: its conditions, and its new table.
+pub mod common;
 pub mod merge_back;
 pub mod rows;
+pub mod share;
 pub mod shrink;
 pub mod star;
 pub mod sums;

@@ -11,3 +11,9 @@ pub enum Driven {
     By(usize, i32),
     Refused(Refusal),
 }
+
+// Of a share: the number by which two rows or columns differ.
+pub enum Difference {
+    Common(i64),
+    Refused(Refusal),
+}

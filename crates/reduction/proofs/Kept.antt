@@ -53,6 +53,10 @@ pub gain-leaves : {m n N : ℕ} {t : List ℤ} {r : Reduced} → Gain m n N t r 
 gain-leaves h = record { passing = passed-passes (h .kept .passed); same-length = h .kept .same-length; past = h .kept .past; counted = h .counted }
 
 module _ (m n N : ℕ) where
+  -- the table with the new graph reads back as that graph
+  pub put-back : (t : List ℤ) (g′ : Graph) → Better m n N (graphOf N t) g′ → graphOf N (withGraph N g′ t) ≡ g′
+  put-back t g′ b = graphOf-withGraph N g′ t (sound-within (b .sound)) (λ u v z e. not-mark z (subst (λ (d : Delay). T (fits delayLimit d)) e (sound-fits (b .sound) u v)))
+
   -- the new graph, put into the table
   put-gain : (t : List ℤ) (g′ : Graph) → Passed m n N t → Better m n N (graphOf N t) g′ → Gain m n N t (oneStep N t g′)
   unfolding matrix
@@ -71,7 +75,7 @@ module _ (m n N : ℕ) where
       room = leb→le (N * N) (length t) (p .table)
 
       back : graphOf N (withGraph N g′ t) ≡ g′
-      back = graphOf-withGraph N g′ t (sound-within (b .sound)) (λ u v z e. not-mark z (subst (λ (d : Delay). T (fits delayLimit d)) e (sound-fits (b .sound) u v)))
+      back = put-back t g′ b
 
   -- an accepted step has passed its checks, and its plan is accepted
   pub step-parts : (s : ℕ) (q : Step) (t : List ℤ) (r : Reduced) → stepCall m n N s q t ≡ accepted r

@@ -1,0 +1,81 @@
+-- The greatest delays from a vertex as `delays_from` leaves them: how large they are, and what is read in the cells.
+use mathlib.Core.Path.{_≡_, refl, sym, ap, _∙_, subst}
+use mathlib.Core.Logic.{_≢_}
+use mathlib.Core.Bool.{Bool, true, false, cond}
+use mathlib.Core.List.{List}
+use Prim.Native.Nat.{ℕ, _+_, _-_, _*_, _≤_, _<_}
+use native.Mathlib.Omega.{arith}
+use lib.Dec.{T, eqb}
+use lib.IntN.{ℤ}
+use lib.ListN.{length, drop}
+use lib.Seq.{drop-drop}
+use Rattle.laws.proofs.Booleans.{eqb-same, eqb-other}
+use Rattle.laws.proofs.Linear.{zarith}
+use Rattle.graph.specs.Delay.{Delay, absent, at, immediate}
+use Rattle.graph.specs.Graph.{Graph, longest, walk}
+use Rattle.graph.proofs.Span.{InSpan, span-le}
+use Rattle.graph.proofs.Longest.{longest-is}
+use Rattle.graph.proofs.Closure.{walk-other}
+use Rattle.graph.proofs.Propagation.{propagated-one}
+use Rattle.timing.specs.Limits.{delayLimit, arrivalLimit, absentWide, fits}
+use Rattle.timing.specs.Table.{readCell, writeCell, graphOf}
+use Rattle.timing.specs.Delays.{arrivalIn}
+use Rattle.timing.proofs.Checks.{sound-within, sound-fits}
+use Rattle.timing.proofs.Limits.{fits-bounds, fits-span, span-fits}
+use Rattle.timing.proofs.Table.{graphOf-within, read-absent, read-at}
+use Rattle.paths.specs.declared.board.Board.{Board}
+use Rattle.paths.specs.Arrivals.{filled, Passable}
+use Rattle.paths.proofs.Pushing.{pushed, pushed-span, pushed-all}
+use Rattle.paths.proofs.Starting.{stored-length, stored-cell, stored-drop}
+
+-- cells past the first m are as they were where those past the first n ≤ m are
+pub drop-later : {A : Type 0} (n m : ℕ) (x y : List A) → n ≤ m → drop n x ≡ drop n y → drop m x ≡ drop m y
+drop-later n m x y h e =
+    let s : n + (m - n) ≡ m = omega arith in
+    ap (λ (k : ℕ). drop k x) (sym s) ∙ sym (drop-drop (m - n) n x) ∙ ap (drop (m - n)) e ∙ drop-drop (m - n) n y ∙ ap (λ (k : ℕ). drop k y) s
+
+-- a delay within the limits is read back
+read-near : (d : Delay) → T (fits arrivalLimit d) → readCell absentWide (writeCell absentWide d) ≡ d
+read-near absent t = read-absent absentWide absentWide refl
+read-near (at z) t = read-at absentWide z (λ e. let b = fits-bounds arrivalLimit z t in let lo = b .0 in omega zarith)
+
+-- a signal at i alone
+abbrev alone : ℕ → ℕ → Delay
+alone i v = cond (eqb v i) immediate absent
+
+alone-span : (b : Bool) → InSpan 0 (cond b immediate absent)
+alone-span true = (omega arith, omega arith)
+alone-span false = tt
+
+module _ {b : Board} {t : List ℤ} {o : List ℕ} (p : Passable b t o) (i : ℕ) (hi : i < b .vertices) where
+  abbrev n : ℕ
+  n = b .vertices
+
+  abbrev g : Graph
+  g = graphOf n t
+
+  -- at most 90 arcs of at most 1,000,000,000
+  pub walk-near : (v : ℕ) → v < b .vertices → T (fits arrivalLimit (walk (longest (graphOf (b .vertices) t) (b .vertices)) i v))
+  walk-near v hv =
+      subst (λ (d : Delay). T (fits arrivalLimit d))
+      (pushed-all (graphOf-within n t) (p .order) (alone i) v
+      ∙ propagated-one n (p .sound .acyclic) (longest-is n g (sound-within (p .sound)) (p .sound .acyclic)) (alone i) i hi (rw (eqb-same i)) (λ u _ ne. rw (eqb-other u i ne)) v hv)
+      (span-fits arrivalLimit (pushed g o (alone i) n v) (span-le (0 + n * delayLimit) arrivalLimit (pushed g o (alone i) n v) (omega (arith, p .lent .sized .few))
+      (pushed-span (graphOf-within n t) (p .order) (alone i) 0 delayLimit (λ v _. alone-span (eqb v i)) (λ u v. fits-span delayLimit (g u v) (sound-fits (p .sound) u v)) n v (omega arith) hv)))
+
+  -- f is what `delays_from` leaves of f₀
+  module _ (f₀ f : List ℤ) (room : b .vertices ≤ length f₀) (e : f ≡ filled (b .vertices) (walk (longest (graphOf (b .vertices) t) (b .vertices)) i) f₀) where
+    pub held-length : length f ≡ length f₀
+    held-length = ap length e ∙ stored-length n _ f₀ room
+
+    pub held-past : drop (b .vertices) f ≡ drop (b .vertices) f₀
+    held-past = ap (drop n) e ∙ stored-drop n _ f₀
+
+    pub held-walk : (v : ℕ) → v < b .vertices → arrivalIn f v ≡ walk (longest (graphOf (b .vertices) t) (b .vertices)) i v
+    held-walk v hv = ap (λ (l : List ℤ). arrivalIn l v) e ∙ ap (readCell absentWide) (stored-cell n _ f₀ v hv) ∙ read-near (walk (longest g n) i v) (walk-near v hv)
+
+    pub held-near : (v : ℕ) → v < b .vertices → T (fits arrivalLimit (arrivalIn f v))
+    held-near v hv = subst (λ (d : Delay). T (fits arrivalLimit d)) (sym (held-walk v hv)) (walk-near v hv)
+
+    pub held : (v : ℕ) → v < b .vertices → i ≢ v → arrivalIn f v ≡ longest (graphOf (b .vertices) t) (b .vertices) i v
+    held v hv ne = held-walk v hv ∙ walk-other (longest g n) i v ne
