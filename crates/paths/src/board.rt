@@ -20,6 +20,9 @@ pub enum Made {
 impl Board {
     pub const MAX_VERTICES: usize = 90;
 
+    // The cells of a table of that many vertices.
+    pub const MAX_CELLS: usize = 8_100;
+
     pub const MIN_DELAY: i64 = -1_000_000_000;
 
     pub const MAX_DELAY: i64 = 1_000_000_000;

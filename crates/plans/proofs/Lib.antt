@@ -5,7 +5,6 @@ pub mod ShrunkTable
 pub mod Members
 pub mod Sets
 pub mod Truth
-pub mod Free
 pub mod LeastOf
 pub mod Marking
 pub mod CentreCells
@@ -23,3 +22,12 @@ pub mod SharedRows
 pub mod PathDelays
 pub mod ShareConditions
 pub mod Vectors
+pub mod TightPaths
+pub mod Somewhere
+pub mod TightCells
+pub mod LentParts
+pub mod WalkBounds
+pub mod AliveSweep
+pub mod FewerArcs
+pub mod MarkedRows
+pub mod PruneOutcome

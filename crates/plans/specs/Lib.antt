@@ -7,3 +7,5 @@ pub mod MergedRow
 pub mod Members
 pub mod StarCells
 pub mod StarReady
+pub mod TightArcs
+pub mod PruneMarks

@@ -1,6 +1,7 @@
 // Each step's plan on a table that has passed its checks: its conditions, and its new table.
 pub mod common;
 pub mod merge_back;
+pub mod prune;
 pub mod rows;
 pub mod share;
 pub mod shrink;

@@ -1,13 +1,16 @@
 // Rows of a table, and the roles of vertices.
 use paths::Board;
+use paths::cells;
 ghost use mathlib.Core.Path.{_≡_};
+ghost use mathlib.Core.Bool.{_&&_};
 ghost use Prim.Native.Nat.{ℕ, _<_, _≤_};
 ghost use lib.IntN.{pos};
 ghost use lib.ListN.{length, getD};
 ghost use Rattle.laws.specs.Lists.{tabulate};
 ghost use Rattle.timing.specs.Limits.{maxVertices, absentCell};
-ghost use Rattle.reduction.specs.Outcome.{isOutput, isInner};
-ghost use Rattle.paths.specs.Board.{Sized};
+ghost use Rattle.timing.specs.Table.{graphOf};
+ghost use Rattle.reduction.specs.Outcome.{isOutput, isInner, unused};
+ghost use Rattle.paths.specs.Board.{Sized, Lent};
 
 pub fn is_inner(board: Board, k: usize) -> bool
     requires { ⌜ Sized board ⌝ }
@@ -31,6 +34,20 @@ pub fn is_output(board: Board, k: usize) -> bool
         return false;
     }
     k < m + o
+}
+
+// Whether k is an inner vertex that no arc touches.
+pub fn is_free(board: Board, table: &[i32], k: usize) -> bool
+    requires { ⌜ Lent board (now table) × (k < board .vertices) ⌝ }
+    ensures { λ r. ⌜ r ≡ (isInner (board .inputs) (board .outputs) (board .vertices) k && unused (board .vertices) (graphOf (board .vertices) (now (table .entry))) k) ⌝ }
+{
+    if !is_inner(board, k) {
+        return false;
+    }
+    if cells::fan_in(board, table, k) != 0 {
+        return false;
+    }
+    cells::fan_out(board, table, k) == 0
 }
 
 // A row, in an array.

@@ -118,26 +118,14 @@ pub fn share_outputs_apply(board: Board, table: &mut [i32], a: usize, b: usize, 
     }
 }
 
-fn is_output(board: Board, v: usize) -> bool
-    requires { ⌜ Sized board ⌝ }
-    ensures { λ r. ⌜ r ≡ isOutput (board .inputs) (board .outputs) v ⌝ }
-{
-    let m = board.inputs;
-    let o = board.outputs;
-    if v < m {
-        return false;
-    }
-    v < m + o
-}
-
 fn two_outputs(board: Board, a: usize, b: usize) -> bool
     requires { ⌜ Sized board ⌝ }
     ensures { λ r. ⌜ r ≡ (isOutput (board .inputs) (board .outputs) a && isOutput (board .inputs) (board .outputs) b && not (eqb a b)) ⌝ }
 {
-    if !is_output(board, a) {
+    if !rows::is_output(board, a) {
         return false;
     }
-    if !is_output(board, b) {
+    if !rows::is_output(board, b) {
         return false;
     }
     a != b
@@ -235,20 +223,6 @@ fn two_inputs(board: Board, a: usize, b: usize, k: usize) -> bool
     k < board.vertices
 }
 
-// Whether k is an inner vertex that no arc touches.
-fn is_free(board: Board, table: &[i32], k: usize) -> bool
-    requires { ⌜ Lent board (now table) × (k < board .vertices) ⌝ }
-    ensures { λ r. ⌜ r ≡ (isInner (board .inputs) (board .outputs) (board .vertices) k && unused (board .vertices) (graphOf (board .vertices) (now (table .entry))) k) ⌝ }
-{
-    if !rows::is_inner(board, k) {
-        return false;
-    }
-    if cells::fan_in(board, table, k) != 0 {
-        return false;
-    }
-    cells::fan_out(board, table, k) == 0
-}
-
 // The outputs' delays are compared: those in the second N cells less those in the first N.
 fn outputs_difference(board: Board, delays: &[i64]) -> Difference
     requires { ⌜ TwoVectors board (now delays) ⌝ }
@@ -311,7 +285,7 @@ pub fn share_inputs_verdict(
     if !two_inputs(board, a, b, k) {
         return Difference::Refused(Refusal::WrongVertex);
     }
-    if !is_free(board, table, k) {
+    if !rows::is_free(board, table, k) {
         return Difference::Refused(Refusal::NumberTaken);
     }
     let found = rows_difference(board, table, list, scratch, a, b);

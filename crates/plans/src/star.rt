@@ -1,4 +1,6 @@
 // Star: the conditions, and the table after an accepted step.
+use crate::rows;
+use crate::sums;
 use crate::verdict::Fit;
 use paths::Board;
 use paths::cells;
@@ -89,21 +91,6 @@ fn is_set(xs: &[usize], n: usize) -> bool
         i += 1;
     }
     true
-}
-
-// Whether k is inner and no arc touches it.
-fn is_free(board: Board, table: &[i32], k: usize) -> bool
-    requires { ⌜ Lent board (now table) × (k < board .vertices) ⌝ }
-    ensures { λ r. ⌜ r ≡ (isInner (board .inputs) (board .outputs) (board .vertices) k && unused (board .vertices) (graphOf (board .vertices) (now (table .entry))) k) ⌝ }
-{
-    let roles = board.inputs + board.outputs;
-    if k < roles {
-        return false;
-    }
-    if cells::fan_in(board, table, k) != 0 {
-        return false;
-    }
-    cells::fan_out(board, table, k) == 0
 }
 
 // Whether a row has an arc to each target.
@@ -264,7 +251,7 @@ pub fn star_verdict(
     if !is_set(targets, n) {
         return Fit::Refused(Refusal::WrongSet);
     }
-    if !is_free(board, table, k) {
+    if !rows::is_free(board, table, k) {
         return Fit::Refused(Refusal::NumberTaken);
     }
     if !all_joined(board, table, sources, targets) {
@@ -293,14 +280,6 @@ fn marks(xs: &[usize]) -> [bool; Board::MAX_VERTICES]
         i += 1;
     }
     marked
-}
-
-// A delay that fits a cell.
-fn narrow(x: i64) -> i32
-    requires { ⌜ T (fits delayLimit (at x)) ⌝ }
-    ensures { λ r. ⌜ r ≡ x ⌝ }
-{
-    x as i32
 }
 
 // The centre's row: the first source's delays at the targets.
@@ -338,7 +317,7 @@ fn source_row(row: &mut [i32], first: &[i32; Board::MAX_VERTICES], targets: &[us
 {
     let e = least_difference(row, first, targets);
     clear_covered(row, first, targets, e);
-    row[k] = narrow(e);
+    row[k] = sums::narrow(e);
 }
 
 // The row of u.

@@ -4,8 +4,8 @@ use borrow.Author.Tests.{not-true, not-false}
 use Rattle.timing.specs.Table.{graphOf}
 use Rattle.reduction.specs.Outcome.{isInner}
 use Rattle.plans.proofs.ShareConditions.{used, used-out}
-use Rattle.plans.proofs.share.is_free.Statement.{statement}
-use Rattle.plans.proofs.share.is_free.Tie as tie
+use Rattle.plans.proofs.rows.is_free.Statement.{statement}
+use Rattle.plans.proofs.rows.is_free.Tie as tie
 
 is-inner-requires : tie.Need-is-inner-requires
 is-inner-requires c κs = c .pre .0 .sized
