@@ -1,0 +1,73 @@
+use borrow.Author.Needs.{needs}
+use mathlib.Core.Path.{refl}
+use Rattle.timing.specs.Table.{graphOf}
+use Rattle.reduction.specs.Shrink.{shrinkVerdict, shrunk}
+use Rattle.reduction.specs.Steps.{shrink, plan}
+use Rattle.plans.specs.Verdict.{fitMeaning}
+use Rattle.steps.proofs.Reducing.{said, still-lent, step-done, step-refused}
+use Rattle.steps.proofs.Ready.{shrink-ready}
+use Rattle.steps.proofs.apply.apply_shrink.Statement.{statement}
+use Rattle.steps.proofs.apply.apply_shrink.Tie as tie
+
+shrink-verdict-requires : tie.Need-shrink-verdict-requires
+shrink-verdict-requires c κs = search needs
+
+enum-told : tie.Need-enum-told
+enum-told c = search needs
+
+shrink-apply-requires : tie.Need-shrink-apply-requires
+shrink-apply-requires c κs =
+    let v = c .before .before .before in
+    let s = v .before .before in
+    let b = s .args .board in
+    let r = shrink-ready (b .inputs) (b .outputs) (b .vertices) (s .args .k) (graphOf (b .vertices) (s .args .table .now)) (said fitMeaning (v .shrink-verdict .ensures) (c .before .enum-told .given .1)) in
+    (s .pre .lent, r .0, r .1)
+
+arcs-requires : tie.Need-arcs-requires
+arcs-requires c κs =
+    let a = c .before .before in
+    still-lent (a .before .before .before .before .before .before .pre .lent) (a .shrink-apply .last .1 .0) (a .shrink-apply .kept .1 .0)
+
+enum-known-fit : tie.Need-enum-known-fit
+enum-known-fit c = search needs
+
+same-length : tie.Need-same-length
+same-length c = search needs
+
+returns : tie.Need-returns
+unfolding plan
+returns c =
+    let a = c .before .before .before in
+    let v = a .before .before .before .before in
+    let s = v .before .before in
+    let b = s .args .board in
+    let t = s .args .table .now in
+    step-done b t (shrink (s .args .k)) (shrinkVerdict (b .inputs) (b .outputs) (b .vertices) (s .args .k) (graphOf (b .vertices) t)) (λ _. shrunk (s .args .k) (graphOf (b .vertices) t)) refl
+    (s .pre) tt (said fitMeaning (v .shrink-verdict .ensures) (a .before .before .enum-told .given .1)) (a .shrink-apply .last .1 .0) (a .shrink-apply .ensures) (c .arcs .result) (c .arcs .ensures)
+
+same-length-2 : tie.Need-same-length-2
+same-length-2 c = search needs
+
+returns-2 : tie.Need-returns-2
+unfolding plan
+returns-2 c =
+    let v = c .before .before .before in
+    let s = v .before .before in
+    let b = s .args .board in
+    let t = s .args .table .now in
+    step-refused b t (shrink (s .args .k)) (shrinkVerdict (b .inputs) (b .outputs) (b .vertices) (s .args .k) (graphOf (b .vertices) t)) (λ _. shrunk (s .args .k) (graphOf (b .vertices) t)) refl
+    _ (said fitMeaning (v .shrink-verdict .ensures) (c .before .fit .given .1))
+
+pub apply-shrink-spec : {M : Type 1} → statement M
+apply-shrink-spec =
+    tie.close
+    (tie.spec
+    shrink-verdict-requires
+    enum-told
+    shrink-apply-requires
+    arcs-requires
+    enum-known-fit
+    same-length
+    returns
+    same-length-2
+    returns-2)

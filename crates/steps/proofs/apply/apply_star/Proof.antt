@@ -1,0 +1,77 @@
+use borrow.Author.Needs.{needs}
+use mathlib.Core.Path.{refl}
+use Rattle.timing.specs.Table.{graphOf}
+use Rattle.timing.proofs.Checks.{sound-fits}
+use Rattle.reduction.specs.Star.{starVerdict, starred}
+use Rattle.reduction.specs.Steps.{star, plan}
+use Rattle.plans.specs.Verdict.{fitMeaning}
+use Rattle.plans.proofs.StarChain.{star-ready}
+use Rattle.steps.proofs.Reducing.{said, still-lent, step-done, step-refused}
+use Rattle.steps.proofs.apply.apply_star.Statement.{statement}
+use Rattle.steps.proofs.apply.apply_star.Tie as tie
+
+star-verdict-requires : tie.Need-star-verdict-requires
+star-verdict-requires c κs = (c .before .before .before .pre .lent, sound-fits (c .before .before .before .pre .sound))
+
+enum-told : tie.Need-enum-told
+enum-told c = search needs
+
+star-apply-requires : tie.Need-star-apply-requires
+star-apply-requires c κs =
+    let v = c .before .before .before in
+    let s = v .before .before .before .before in
+    let b = s .args .board in
+    let t = s .args .table .now in
+    let g = graphOf (b .vertices) t in
+    (s .pre .lent, star-ready (b .inputs) (b .outputs) (b .vertices) (s .args .sources .now) (s .args .targets .now) (s .args .k) g tt (sound-fits (s .pre .sound)) (said fitMeaning (v .star-verdict .ensures) (c .before .enum-told .given .1)))
+
+arcs-requires : tie.Need-arcs-requires
+arcs-requires c κs =
+    let a = c .before .before in
+    still-lent (a .before .before .before .before .before .before .before .before .pre .lent) (a .star-apply .last .1 .0) (a .star-apply .kept .1 .0)
+
+enum-known-fit : tie.Need-enum-known-fit
+enum-known-fit c = search needs
+
+same-length : tie.Need-same-length
+same-length c = search needs
+
+returns : tie.Need-returns
+unfolding plan
+returns c =
+    let a = c .before .before .before in
+    let v = a .before .before .before .before in
+    let s = v .before .before .before .before in
+    let b = s .args .board in
+    let t = s .args .table .now in
+    let g = graphOf (b .vertices) t in
+    step-done b t (star (s .args .sources .now) (s .args .targets .now) (s .args .k)) (starVerdict (b .inputs) (b .outputs) (b .vertices) (s .args .sources .now) (s .args .targets .now) (s .args .k) g) (λ _. starred (s .args .sources .now) (s .args .targets .now) (s .args .k) g) refl
+    (s .pre) tt (said fitMeaning (v .star-verdict .ensures) (a .before .before .enum-told .given .1)) (a .star-apply .last .1 .0) (a .star-apply .ensures) (c .arcs .result) (c .arcs .ensures)
+
+same-length-2 : tie.Need-same-length-2
+same-length-2 c = search needs
+
+returns-2 : tie.Need-returns-2
+unfolding plan
+returns-2 c =
+    let v = c .before .before .before in
+    let s = v .before .before .before .before in
+    let b = s .args .board in
+    let t = s .args .table .now in
+    let g = graphOf (b .vertices) t in
+    step-refused b t (star (s .args .sources .now) (s .args .targets .now) (s .args .k)) (starVerdict (b .inputs) (b .outputs) (b .vertices) (s .args .sources .now) (s .args .targets .now) (s .args .k) g) (λ _. starred (s .args .sources .now) (s .args .targets .now) (s .args .k) g) refl
+    _ (said fitMeaning (v .star-verdict .ensures) (c .before .fit .given .1))
+
+pub apply-star-spec : {M : Type 1} → statement M
+apply-star-spec =
+    tie.close
+    (tie.spec
+    star-verdict-requires
+    enum-told
+    star-apply-requires
+    arcs-requires
+    enum-known-fit
+    same-length
+    returns
+    same-length-2
+    returns-2)

@@ -1,0 +1,39 @@
+-- What a step's answer means, and what becomes of the table.
+use mathlib.Core.Path.{_≡_}
+use mathlib.Core.List.{List}
+use Prim.Native.Nat.{ℕ}
+use lib.IntN.{ℤ}
+use Rattle.graph.specs.Graph.{Graph}
+use Rattle.timing.specs.Refusal.{number, Verdict, refused, accepted, _then_}
+use Rattle.timing.specs.Table.{graphOf}
+use Rattle.timing.proofs.Checks.{Sound}
+use Rattle.reduction.specs.Outcome.{Reduced, oneStep}
+use Rattle.reduction.specs.Steps.{Step, plan}
+use Rattle.paths.specs.declared.board.Board.{Board}
+use Rattle.paths.specs.Board.{Lent}
+use Rattle.steps.specs.declared.answer.Answer.{Answer}
+use Rattle.steps.specs.declared.answer.Answer.the-variants as A
+
+-- document 01's number, or the table afterwards, one step and the arcs left
+abbrev pub answerMeaning : Answer → List ℤ → Verdict Reduced
+answerMeaning (A.Left a) table = accepted (record { table = table; steps = 1; arcsLeft = a })
+answerMeaning (A.Refused r) table = refused (number r)
+
+-- a refused step changes no cell
+abbrev pub tableAfter : Verdict Reduced → List ℤ → List ℤ
+tableAfter (refused r) table = table
+tableAfter (accepted x) table = x .table
+
+-- r and the table afterwards are what verdict v says
+pub record Reduces (v : Verdict Reduced) (before after : List ℤ) (r : Answer) : Type 0 where
+  pub answer : answerMeaning r after ≡ v
+  pub table : after ≡ tableAfter v before
+
+-- a step on table t, whose graph g has passed its checks
+abbrev pub stepOn : Step → List ℤ → ℕ → ℕ → ℕ → Graph → Verdict Reduced
+stepOn q t m n N g = plan m n N q g then λ g′. accepted (oneStep N t g′)
+
+-- a table that has passed its checks
+pub record Checked (b : Board) (t : List ℤ) : Type 0 where
+  pub lent : Lent b t
+  pub sound : Sound (b .inputs) (b .outputs) (b .vertices) (graphOf (b .vertices) t)

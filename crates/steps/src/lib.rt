@@ -1,0 +1,3 @@
+// The six steps as calls over lent memory.
+pub mod answer;
+pub mod apply;
