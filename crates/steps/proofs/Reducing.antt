@@ -25,7 +25,8 @@ use Rattle.paths.proofs.Checking.{call-refused}
 use Rattle.paths.proofs.Answering.{call-is}
 use Rattle.steps.specs.declared.answer.Answer.{Answer}
 use Rattle.steps.specs.declared.answer.Answer.the-variants as A
-use Rattle.steps.specs.Reduces.{tableAfter, Reduces, stepOn, Checked}
+use Rattle.steps.specs.declared.step.Step as S
+use Rattle.steps.specs.Reduces.{tableAfter, Reduces, stepOn, Checked, stepMeaning}
 
 -- a verdict from its answer r, once r is known to be x
 pub said : {Answered Value : Type 0} (meaning : Answered → Verdict Value) {r x : Answered} {v : Verdict Value} → meaning r ≡ v → r ≡ x → v ≡ meaning x
@@ -76,3 +77,8 @@ module _ {m n N s : ℕ} {t : List ℤ} {o : List ℕ} {made : Made} (c : Checki
   call-refuses x p =
       let e = call-refused m n N s t x made (c .answer) p (stepOn q t m n N) in
       record { answer = sym e; table = sym (ap (λ (v : Verdict Reduced). tableAfter v t) e) }
+
+-- a step that is known to be x
+pub step-is : (b : Board) (t : List ℤ) (q x : S.Step) → q ≡ x → (after : List ℤ) (r : Answer)
+    → Reduces (stepOn (stepMeaning x) t (b .inputs) (b .outputs) (b .vertices) (graphOf (b .vertices) t)) t after r → Reduces (stepOn (stepMeaning q) t (b .inputs) (b .outputs) (b .vertices) (graphOf (b .vertices) t)) t after r
+step-is b t q x e after r h = subst (λ (y : S.Step). Reduces (stepOn (stepMeaning y) t (b .inputs) (b .outputs) (b .vertices) (graphOf (b .vertices) t)) t after r) (sym e) h

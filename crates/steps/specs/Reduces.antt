@@ -8,11 +8,13 @@ use Rattle.timing.specs.Refusal.{number, Verdict, refused, accepted, _then_}
 use Rattle.timing.specs.Table.{graphOf}
 use Rattle.timing.proofs.Checks.{Sound}
 use Rattle.reduction.specs.Outcome.{Reduced, oneStep}
-use Rattle.reduction.specs.Steps.{Step, plan}
+use Rattle.reduction.specs.Steps.{Step, shrink, share-inputs, share-outputs, prune, merge-back, plan}
 use Rattle.paths.specs.declared.board.Board.{Board}
 use Rattle.paths.specs.Board.{Lent}
 use Rattle.steps.specs.declared.answer.Answer.{Answer}
 use Rattle.steps.specs.declared.answer.Answer.the-variants as A
+use Rattle.steps.specs.declared.step.Step as S
+use Rattle.steps.specs.declared.step.Step.the-variants as W
 
 -- document 01's number, or the table afterwards, one step and the arcs left
 abbrev pub answerMeaning : Answer → List ℤ → Verdict Reduced
@@ -37,3 +39,11 @@ stepOn q t m n N g = plan m n N q g then λ g′. accepted (oneStep N t g′)
 pub record Checked (b : Board) (t : List ℤ) : Type 0 where
   pub lent : Lent b t
   pub sound : Sound (b .inputs) (b .outputs) (b .vertices) (graphOf (b .vertices) t)
+
+-- the step that the code's name stands for
+abbrev pub stepMeaning : S.Step → Step
+stepMeaning (W.Shrink k) = shrink k
+stepMeaning (W.ShareInputs a b k) = share-inputs a b k
+stepMeaning (W.ShareOutputs a b) = share-outputs a b
+stepMeaning W.Prune = prune
+stepMeaning (W.MergeBack o) = merge-back o

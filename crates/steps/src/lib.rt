@@ -1,3 +1,5 @@
 // The six steps as calls over lent memory.
 pub mod answer;
 pub mod apply;
+pub mod calls;
+pub mod step;

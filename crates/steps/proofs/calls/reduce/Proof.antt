@@ -1,0 +1,62 @@
+use borrow.Author.Needs.{needs}
+use mathlib.Core.Path.{refl}
+use Rattle.paths.proofs.Answering.{scratch-on, scratch-same}
+use Rattle.steps.specs.Reduces.{stepMeaning}
+use Rattle.steps.proofs.Reducing.{call-done, call-refuses}
+use Rattle.steps.proofs.calls.reduce.Statement.{statement}
+use Rattle.steps.proofs.calls.reduce.Tie as tie
+
+bytes-requires : tie.Need-bytes-requires
+bytes-requires c κs = search needs
+
+checked-requires : tie.Need-checked-requires
+checked-requires c κs = search needs
+
+enum-known-lent : tie.Need-enum-known-lent
+enum-known-lent c = search needs
+
+apply-step-requires : tie.Need-apply-step-requires
+apply-step-requires c κs =
+    let k = c .before .before .before .before in
+    k .before .before .checked .ensures .passable _ (k .lent .given .1)
+
+enum-known-lent-2 : tie.Need-enum-known-lent-2
+enum-known-lent-2 c = search needs
+
+same-length : tie.Need-same-length
+same-length c = search needs
+
+same-length-2 : tie.Need-same-length-2
+same-length-2 c = search needs
+
+returns : tie.Need-returns
+returns c =
+    let a = c .before .before in
+    let k = a .before .before .before .before .before in
+    let h = k .before .before .checked .ensures in
+    let s = k .before .before .before .before .before .before in
+    (call-done h (stepMeaning (s .args .step)) _ (k .lent .given .1) _ _ (a .apply-step .ensures .0), scratch-on h _ (k .lent .given .1) _ _ refl (a .apply-step .ensures .1))
+
+same-length-3 : tie.Need-same-length-3
+same-length-3 c = search needs
+
+returns-2 : tie.Need-returns-2
+returns-2 c =
+    let k = c .before in
+    let s = k .before .before .before .before .before .before in
+    (call-refuses (k .before .before .checked .ensures) (stepMeaning (s .args .step)) _ (k .lent2 .given .1), scratch-same)
+
+pub reduce-spec : {M : Type 1} → statement M
+reduce-spec =
+    tie.close
+    (tie.spec
+    bytes-requires
+    checked-requires
+    enum-known-lent
+    apply-step-requires
+    enum-known-lent-2
+    same-length
+    same-length-2
+    returns
+    same-length-3
+    returns-2)

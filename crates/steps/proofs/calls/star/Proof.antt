@@ -1,0 +1,58 @@
+use borrow.Author.Needs.{needs}
+use mathlib.Core.Path.{refl}
+use Rattle.reduction.specs.Steps.{star}
+use Rattle.paths.proofs.Answering.{scratch-on, scratch-same}
+use Rattle.steps.proofs.Reducing.{passed, call-done, call-refuses}
+use Rattle.steps.proofs.calls.star.Statement.{statement}
+use Rattle.steps.proofs.calls.star.Tie as tie
+
+bytes-requires : tie.Need-bytes-requires
+bytes-requires c κs = search needs
+
+checked-requires : tie.Need-checked-requires
+checked-requires c κs = search needs
+
+enum-known-lent : tie.Need-enum-known-lent
+enum-known-lent c = search needs
+
+apply-star-requires : tie.Need-apply-star-requires
+apply-star-requires c κs =
+    let k = c .before .before in
+    passed (k .before .before .checked .ensures .passable _ (k .lent .given .1) .0)
+
+enum-known-lent-2 : tie.Need-enum-known-lent-2
+enum-known-lent-2 c = search needs
+
+same-length : tie.Need-same-length
+same-length c = search needs
+
+returns : tie.Need-returns
+returns c =
+    let a = c .before in
+    let k = a .before .before .before in
+    let h = k .before .before .checked .ensures in
+    let s = k .before .before .before .before .before .before .before .before in
+    (call-done h (star (s .args .sources .now) (s .args .targets .now) (s .args .k)) _ (k .lent .given .1) _ _ (a .apply-star .ensures), scratch-on h _ (k .lent .given .1) _ _ refl refl)
+
+same-length-2 : tie.Need-same-length-2
+same-length-2 c = search needs
+
+returns-2 : tie.Need-returns-2
+returns-2 c =
+    let k = c .before in
+    let s = k .before .before .before .before .before .before .before .before in
+    (call-refuses (k .before .before .checked .ensures) (star (s .args .sources .now) (s .args .targets .now) (s .args .k)) _ (k .lent2 .given .1), scratch-same)
+
+pub star-spec : {M : Type 1} → statement M
+star-spec =
+    tie.close
+    (tie.spec
+    bytes-requires
+    checked-requires
+    enum-known-lent
+    apply-star-requires
+    enum-known-lent-2
+    same-length
+    returns
+    same-length-2
+    returns-2)
