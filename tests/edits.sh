@@ -7,7 +7,7 @@ found=0
 for log in target/must-fail/*/*/.log; do
     [ -f "$log" ] || continue
     found=$((found + 1))
-    first=$(grep -m 1 ': error' "$log")
+    first=$(grep -m 1 -e ': error' -e 'it is not proved that' "$log")
     case $first in
     "" | *"not in scope"* | *"has no \`Need-"* | *"parse"* | *"expected a"* | *"is private"*)
         echo "$log: not refused at a fact: $first"

@@ -1,11 +1,9 @@
 // Arrivals: each vertex in topological order pushes its own along its arcs, so that every arc is looked at once.
 use crate::board::Board;
-use crate::cells;
 ghost use mathlib.Core.Path.{_≡_};
 ghost use Prim.Native.Nat.{ℕ, _+_, _*_, _<_, _≤_};
 ghost use lib.Dec.{T};
-ghost use lib.IntN.{ℤ, pos};
-ghost use lib.ListN.{length, getD};
+ghost use lib.ListN.{length};
 ghost use Rattle.graph.specs.Graph.{longest, walk, propagated};
 ghost use Rattle.timing.specs.Limits.{maxVertices, delayLimit, absentCell, fits};
 ghost use Rattle.timing.specs.Table.{readCell, graphOf};

@@ -1,10 +1,8 @@
 // Cells and arcs of a table: checks 4 and 5, fan counts, present cells.
 use crate::board::Board;
 ghost use mathlib.Core.Path.{_≡_};
-ghost use mathlib.Core.Bool.{not};
-ghost use Prim.Native.Nat.{ℕ, _+_, _*_, _<_, _≤_};
-ghost use lib.IntN.{ℤ, pos};
-ghost use lib.ListN.{length, getD};
+ghost use Prim.Native.Nat.{_+_, _*_, _<_, _≤_};
+ghost use lib.ListN.{length};
 ghost use Rattle.laws.specs.Bounded.{every, sum};
 ghost use Rattle.graph.specs.Delay.{at, present};
 ghost use Rattle.graph.specs.Count.{bit, fanIn, fanOut, arcs};

@@ -38,7 +38,7 @@ use Rattle.plans.proofs.Marking.{or-none}
 use Rattle.plans.proofs.Somewhere.{some-same, some-none, and-true}
 use Rattle.plans.proofs.TightPaths.{arc-is, live-is}
 use Rattle.plans.proofs.Truth.{no-first}
-use Rattle.plans.proofs.WalkBounds.{walk-near, read-far}
+use Rattle.plans.proofs.WalkBounds.{walk-far, read-far}
 
 -- nothing leads on from a vertex that is not reached
 gone : (x y : Delay) → x ≡ absent → (present y && eqD y x) ≡ false
@@ -61,7 +61,7 @@ sweep {b} {t} {o} p i hi f₀ f room size e marks cells = record {
   input = hi;
   room = omega arith;
   arrivals = λ v h. ap (λ (x : List ℤ). arrivalIn x v) e ∙ ap (readCell absentWide) (stored-cell (b .vertices) (λ v. writeCell absentWide (walk (longest (graphOf (b .vertices) t) (b .vertices)) i v)) f₀ v h)
-      ∙ read-far (walk (longest (graphOf (b .vertices) t) (b .vertices)) i v) (walk-near p i (omega (arith, p .sound .room)) v h);
+      ∙ read-far (walk (longest (graphOf (b .vertices) t) (b .vertices)) i v) (walk-far p i (omega (arith, p .sound .room)) v h);
   cells = cells;
 }
 
@@ -146,7 +146,7 @@ module _ {b : Board} {i : ℕ} {t : List ℤ} {o : List ℕ} {f : List ℤ} {mar
     reached ne = record {
       there = ne;
       near = subst (λ (d : Delay). T (fits reachedLimit d)) (sym (S .arrivals x x-in) ∙ read-at absentWide (getD f x (pos 0)) ne)
-          (walk-near (S .passable) i (omega (arith, S .input, S .passable .sound .room)) x x-in);
+          (walk-far (S .passable) i (omega (arith, S .input, S .passable .sound .room)) x x-in);
     }
 
     -- x is not reached: none of its arcs decides, and it is not alive

@@ -3,12 +3,11 @@ use mathlib.Core.Path.{_≡_, refl, sym, ap, _∙_, subst}
 use mathlib.Core.Logic.{_≢_}
 use mathlib.Core.Bool.{Bool, true, false, cond}
 use mathlib.Core.List.{List}
-use Prim.Native.Nat.{ℕ, _+_, _-_, _*_, _≤_, _<_}
+use Prim.Native.Nat.{ℕ, _+_, _*_, _≤_, _<_}
 use native.Mathlib.Omega.{arith}
 use lib.Dec.{T, eqb}
 use lib.IntN.{ℤ}
 use lib.ListN.{length, drop}
-use lib.Seq.{drop-drop}
 use Rattle.laws.proofs.Booleans.{eqb-same, eqb-other}
 use Rattle.laws.proofs.Linear.{zarith}
 use Rattle.graph.specs.Delay.{Delay, absent, at, immediate}
@@ -27,12 +26,6 @@ use Rattle.paths.specs.declared.board.Board.{Board}
 use Rattle.paths.specs.Arrivals.{filled, Passable}
 use Rattle.paths.proofs.Pushing.{pushed, pushed-span, pushed-all}
 use Rattle.paths.proofs.Starting.{stored-length, stored-cell, stored-drop}
-
--- cells past the first m are as they were where those past the first n ≤ m are
-pub drop-later : {A : Type 0} (n m : ℕ) (x y : List A) → n ≤ m → drop n x ≡ drop n y → drop m x ≡ drop m y
-drop-later n m x y h e =
-    let s : n + (m - n) ≡ m = omega arith in
-    ap (λ (k : ℕ). drop k x) (sym s) ∙ sym (drop-drop (m - n) n x) ∙ ap (drop (m - n)) e ∙ drop-drop (m - n) n y ∙ ap (λ (k : ℕ). drop k y) s
 
 -- a delay within the limits is read back
 read-near : (d : Delay) → T (fits arrivalLimit d) → readCell absentWide (writeCell absentWide d) ≡ d

@@ -21,7 +21,8 @@ use Rattle.paths.specs.Arrivals.{filled, Passable}
 use Rattle.plans.specs.Comparing.{Comparable}
 use Rattle.plans.specs.Sharing.{TwoVectors}
 use Rattle.plans.proofs.Differences.{common-same}
-use Rattle.plans.proofs.PathDelays.{drop-later, walk-near, held-length, held-past, held-walk}
+use Rattle.paths.proofs.Answering.{drop-further}
+use Rattle.plans.proofs.PathDelays.{walk-near, held-length, held-past, held-walk}
 
 -- ---- the cells from the n-th on, lent as `&mut f[n..]`, that came back as y
 module _ (n : ℕ) (f y : List ℤ) (h : n ≤ length f) where
@@ -89,7 +90,7 @@ module _ {b : Board} {t : List ℤ} {o : List ℕ} (p : Passable b t o) (i j : �
     pub both-past : drop (b .vertices + b .vertices) (putMid (b .vertices) (length f₁ - b .vertices) f₁ y) ≡ drop (b .vertices + b .vertices) f₀
     both-past =
         sym (drop-drop N N x) ∙ ap (drop N) (joined-drop N f₁ y first-room) ∙ held-past p j hj (rest N f₁ y first-room) y rest-room q ∙ ap (drop N) (rest-is N f₁ y first-room)
-        ∙ drop-drop N N f₁ ∙ drop-later N (N + N) f₁ f₀ (omega arith) (held-past p i hi f₀ f₁ (omega arith) e)
+        ∙ drop-drop N N f₁ ∙ drop-further N (N + N) f₀ f₁ (omega arith) (held-past p i hi f₀ f₁ (omega arith) e)
 
     -- of two inputs: the matrix's rows
     pub both-common : i < b .inputs → j < b .inputs

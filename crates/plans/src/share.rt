@@ -17,7 +17,7 @@ ghost use Rattle.laws.specs.Lists.{tabulate};
 ghost use Rattle.timing.specs.Limits.{maxVertices, scratchCells};
 ghost use Rattle.timing.specs.Table.{graphOf, withGraph};
 ghost use Rattle.timing.specs.Delays.{matrix, column, arrivalIn};
-ghost use Rattle.reduction.specs.Outcome.{isInput, isOutput, isInner, unused};
+ghost use Rattle.reduction.specs.Outcome.{isInput, isOutput};
 ghost use Rattle.reduction.specs.Common.{commonDifference};
 ghost use Rattle.reduction.specs.ShareInputs.{shareInputsVerdict, inputsShared};
 ghost use Rattle.reduction.specs.ShareOutputs.{shareOutputsVerdict, outputsShared};

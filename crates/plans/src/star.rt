@@ -18,7 +18,6 @@ ghost use Rattle.timing.specs.Limits.{maxVertices, delayLimit, fits};
 ghost use Rattle.timing.specs.Table.{graphOf, withGraph};
 ghost use Rattle.paths.specs.Board.{Lent};
 ghost use Rattle.paths.specs.Cells.{cellAt};
-ghost use Rattle.reduction.specs.Outcome.{isInner, unused};
 ghost use Rattle.reduction.specs.Star.{nonEmpty, distinct, toCentre, coveredArcs, starVerdict, starred};
 ghost use Rattle.plans.specs.Verdict.{fitMeaning};
 ghost use Rattle.laws.specs.Lists.{tabulate};

@@ -1,5 +1,5 @@
 -- A step's answer from its plan, and a call's from its checks and its step.
-use mathlib.Core.Path.{_≡_, refl, sym, ap, _∙_, subst}
+use mathlib.Core.Path.{_≡_, sym, ap, _∙_, subst}
 use mathlib.Core.List.{List}
 use Prim.Native.Nat.{ℕ}
 use native.Mathlib.Omega.{arith}
@@ -10,7 +10,6 @@ use Rattle.graph.specs.Count.{arcs}
 use Rattle.timing.specs.declared.Refusal.{Refusal}
 use Rattle.timing.specs.Refusal.{number, Verdict, refused, accepted, _then_}
 use Rattle.timing.specs.Table.{graphOf, withGraph}
-use Rattle.timing.specs.Checks.{checked}
 use Rattle.reduction.specs.Outcome.{Reduced, oneStep}
 use Rattle.reduction.specs.Steps.{Step, plan, stepCall}
 use Rattle.reduction.proofs.Steps.{plan-better}

@@ -14,7 +14,7 @@ use Rattle.timing.specs.Table.{graphOf}
 use Rattle.reduction.specs.Outcome.{isInput, isInner, unused}
 use Rattle.paths.specs.declared.board.Board.{Board}
 use Rattle.plans.specs.Sharing.{inputsSaved}
-use Rattle.plans.proofs.PathDelays.{drop-later}
+use Rattle.paths.proofs.Answering.{drop-further}
 use Rattle.plans.proofs.ShareConditions.{vectors-fit, two-inputs, inputs-wrong, number-taken, inputs-common, inputs-refused}
 use Rattle.plans.proofs.share.share_inputs_verdict.Statement.{statement}
 use Rattle.plans.proofs.share.share_inputs_verdict.Tie as tie
@@ -94,7 +94,7 @@ module _ (c : tie.After-rows-difference) where
   e = passed there
 
   past : drop (scratchCells (N e)) (c .rows-difference .last .1 .1 .1 .0) ≡ drop (scratchCells (N e)) (start e .args .scratch .now)
-  past = drop-later (N e + N e) (scratchCells (N e)) (c .rows-difference .last .1 .1 .1 .0) (start e .args .scratch .now) (fits e) (c .rows-difference .ensures .1)
+  past = drop-further (N e + N e) (scratchCells (N e)) (start e .args .scratch .now) (c .rows-difference .last .1 .1 .1 .0) (fits e) (c .rows-difference .ensures .1)
 
 enum-known-found : tie.Need-enum-known-found
 enum-known-found c = search needs

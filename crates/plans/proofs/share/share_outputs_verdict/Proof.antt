@@ -16,7 +16,7 @@ use Rattle.timing.specs.Table.{graphOf}
 use Rattle.reduction.specs.Outcome.{isOutput}
 use Rattle.paths.specs.declared.board.Board.{Board}
 use Rattle.plans.specs.Sharing.{TwoOutputs, outputsSaved}
-use Rattle.plans.proofs.PathDelays.{drop-later}
+use Rattle.paths.proofs.Answering.{drop-further}
 use Rattle.plans.proofs.ShareConditions.{vector-fits, two-outputs, outputs-wrong, outputs-common, outputs-refused}
 use Rattle.plans.proofs.share.share_outputs_verdict.Statement.{statement}
 use Rattle.plans.proofs.share.share_outputs_verdict.Tie as tie
@@ -71,7 +71,7 @@ module _ (c : tie.After-columns-difference) where
   after = c .columns-difference .last .1 .1 .1 .0
 
   past : drop (scratchCells (N passed)) after ≡ drop (scratchCells (N passed)) (start passed .args .scratch .now)
-  past = drop-later (N passed) (scratchCells (N passed)) after (start passed .args .scratch .now) (fits passed) (c .columns-difference .ensures .1)
+  past = drop-further (N passed) (scratchCells (N passed)) (start passed .args .scratch .now) after (fits passed) (c .columns-difference .ensures .1)
 
 enum-known-found : tie.Need-enum-known-found
 enum-known-found c = search needs
@@ -97,7 +97,7 @@ returns-2 c =
     let e = passed d in (
       w .outputs-saved .ensures .0 ∙ ap (outputsSaved (N e) (g e) (a e) (b e)) (e-is k)
           ∙ outputs-common (board e .inputs) (board e .outputs) (N e) (a e) (b e) (g e) (right e) (d .columns-difference .result) (d .columns-difference .ensures .0) _ (k .before .found .given .1),
-      drop-later (N e) (scratchCells (N e)) _ (after d) (fits e) (w .outputs-saved .ensures .1) ∙ past d,
+      drop-further (N e) (scratchCells (N e)) (after d) _ (fits e) (w .outputs-saved .ensures .1) ∙ past d,
     )
 
 enum-told : tie.Need-enum-told
