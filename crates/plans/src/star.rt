@@ -198,13 +198,7 @@ fn copy_row(table: &[i32], at: usize, n: usize) -> [i32; Board::MAX_VERTICES]
     requires { ⌜ (n ≤ maxVertices) × (at + n ≤ length (now table)) ⌝ }
     ensures { λ r. ⌜ ((v : ℕ) → v < n → getD r v (pos 0) ≡ getD (now (table .entry)) (at + v) (pos 0)) ⌝ }
 {
-    let mut row = [0i32; Board::MAX_VERTICES];
-    let mut v = 0;
-    while v < n {
-        row[v] = table[at + v];
-        v += 1;
-    }
-    row
+    rows::row_copy(&table[at..], n)
 }
 
 // What all sources make.
