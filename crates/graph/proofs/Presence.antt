@@ -2,18 +2,26 @@
 use mathlib.Core.Path.{_≡_, refl, sym, ap, subst}
 use mathlib.Core.Logic.{_⊎_, inl, inr}
 use mathlib.Core.Bool.{not}
-use Prim.Native.Nat.{_+_, _≤_, _<_}
+use Prim.Native.Nat.{ℕ, _+_, _*_, _≤_, _<_}
 use native.Mathlib.Omega.{arith}
 use lib.Dec.{T}
 use lib.IntN.{ℤ}
+use Rattle.laws.specs.Bounded.{sum}
+use Rattle.laws.proofs.Sums.{sum-most, sum-bound}
 use Rattle.graph.specs.Delay.{Delay, absent, at, present, ticks, _⋓_, _⊕_, _⊑_}
-use Rattle.graph.specs.Count.{bit}
+use Rattle.graph.specs.Graph.{Graph}
+use Rattle.graph.specs.Count.{bit, fanOut, arcs}
 use Rattle.graph.proofs.Delay.{⋓-elim}
 
 pub bit-le : (x : Delay) → bit x ≤ 1
 unfolding bit
 bit-le absent = omega arith
 bit-le (at a) = omega arith
+
+-- each vertex has at most N arcs out
+pub arcs-few : (N : ℕ) (g : Graph) → arcs N g ≤ N * N
+unfolding arcs fanOut
+arcs-few N g = sum-most N N (λ u. sum N (λ v. bit (g u v))) (λ u. sum-bound N (λ v. bit (g u v)) (λ v. bit-le (g u v)))
 
 pub present-l : (x y : Delay) → T (present (x ⊕ y)) → T (present x)
 present-l absent y t = t

@@ -1,8 +1,8 @@
 -- Laws of finite sums.
 use mathlib.Core.Path.{_≡_, refl, sym, ap, ap₂, _∙_}
 use mathlib.Core.Logic.{_≢_}
-use Prim.Native.Nat.{ℕ, zero, suc, _+_, _≤_, _<_}
-use native.Mathlib.Nat.{not-suc-le-zero}
+use Prim.Native.Nat.{ℕ, zero, suc, _+_, _*_, _≤_, _<_}
+use native.Mathlib.Nat.{not-suc-le-zero, mul-suc}
 use native.Mathlib.Decide.{ℕ-discrete}
 use native.Mathlib.Numerals.{add-one}
 use native.Mathlib.Omega.{arith}
@@ -39,12 +39,14 @@ pub sum-more : (f : ℕ → ℕ) (i : ℕ) → sum (i + 1) f ≡ sum i f + f i
 unfolding sum
 sum-more f i = rw (add-one i)
 
-pub sum-bound : (n : ℕ) (f : ℕ → ℕ) → ((i : ℕ) → f i ≤ 1) → sum n f ≤ n
+pub sum-most : (n k : ℕ) (f : ℕ → ℕ) → ((i : ℕ) → f i ≤ k) → sum n f ≤ k * n
 unfolding sum
-sum-bound zero f h = omega arith
-sum-bound (suc n) f h = omega (arith, sum-bound n f h, h n)
+sum-most zero k f h = omega arith
+sum-most (suc n) k f h = let e : k * suc n ≡ k * n + k = mul-suc k n in omega (arith, e, sum-most n k f h, h n)
 
--- a sum above 0 has a term above 0
+pub sum-bound : (n : ℕ) (f : ℕ → ℕ) → ((i : ℕ) → f i ≤ 1) → sum n f ≤ n
+sum-bound n f h = omega (arith, sum-most n 1 f h)
+
 pub sum-some : (n : ℕ) (f : ℕ → ℕ) → 0 < sum n f → (p : ℕ) × (p < n) × (0 < f p)
 unfolding sum
 sum-some zero f h = absurd (omega arith)

@@ -9,7 +9,7 @@ use lib.IntN.{ℤ}
 use lib.ListN.{length}
 use Rattle.laws.proofs.Booleans.{T-true, true-is}
 use Rattle.graph.specs.Graph.{Graph}
-use Rattle.timing.specs.Limits.{scratchCells}
+use Rattle.timing.specs.Limits.{maxVertices, scratchCells}
 use Rattle.timing.specs.declared.Refusal.{Refusal}
 use Rattle.timing.specs.declared.Refusal.the-variants.{Sizes, TableShort, ScratchShort, OddCell, ArcIntoInput, Cycle}
 use Rattle.timing.specs.Refusal.{number, Verdict, refused, accepted, require, _then_}
@@ -29,7 +29,10 @@ use Rattle.paths.proofs.Sizes.{sizes, sized, sizes-fit}
 
 -- a refusal with its equation
 pub refusal : {m n N s : ℕ} {t : List ℤ} {o : List ℕ} (r : Refusal) → boardChecked m n N s t ≡ refused (number r) → Checking m n N s t o (M.Refused r)
-refusal r e = record { answer = sym e; passable = λ b z. absurd (let q : _≡_ {A = ℕ} 0 1 = cc in omega arith) }
+refusal r e = record { answer = sym e; passable = λ b z. absurd (never b z); long = λ b z. absurd (never b z) }
+  where
+    never : (b : Board) → M.Refused r ≡ M.Board b → ⊥
+    never b z = let q : _≡_ {A = ℕ} 0 1 = cc in omega arith
 
 -- check 1 fails
 pub sizes-refused : (m n N s : ℕ) (t : List ℤ) (r : ℕ) → boardOf m n N ≡ refused r → boardChecked m n N s t ≡ refused r
@@ -79,14 +82,15 @@ module _ (b : Board) (z : Sized b) (s : ℕ) (t : List ℤ) where
           unfolding boardChecked checked
           cycle e = simp (one, le-leb (N * N) (length t) two, le-leb (N * N) s three, four, five, e)
 
-          pub all-passed : {o : List ℕ} → noCycle N (graphOf N t) ≡ true → TopologicalOrder N (graphOf N t) o → Checking (b .inputs) (b .outputs) (b .vertices) s t o (M.Board b)
+          pub all-passed : {o : List ℕ} → noCycle N (graphOf N t) ≡ true → TopologicalOrder N (graphOf N t) o → length o ≡ maxVertices → Checking (b .inputs) (b .outputs) (b .vertices) s t o (M.Board b)
           unfolding boardChecked checked
-          all-passed {o} six order = record {
+          all-passed {o} six order long = record {
             answer = simp (one, le-leb (N * N) (length t) two, le-leb (N * N) s three, four, five, six);
             passable = λ x e. subst (λ (y : Board). Passable y t o × (scratchCells (y .vertices) ≤ s)) (same x e) (
               record { lent = record { sized = z; room = two }; order = order; sound = sound-of m (b .outputs) N (graphOf N t) (graphOf-within N t) (sizes-fit b z) (true-is four) (true-is five) (true-is six) },
               three,
             );
+            long = λ _ _. long;
           }
             where
               same : (x : Board) → M.Board b ≡ M.Board x → b ≡ x

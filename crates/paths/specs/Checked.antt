@@ -3,8 +3,9 @@ use mathlib.Core.Path.{_≡_}
 use mathlib.Core.List.{List}
 use Prim.Native.Nat.{ℕ, _≤_}
 use lib.IntN.{ℤ}
+use lib.ListN.{length}
 use Rattle.timing.specs.Refusal.{Verdict, accepted, _then_}
-use Rattle.timing.specs.Limits.{scratchCells}
+use Rattle.timing.specs.Limits.{maxVertices, scratchCells}
 use Rattle.timing.specs.Checks.{checked}
 use Rattle.paths.specs.declared.board.Board.{Board}
 use Rattle.paths.specs.declared.board.Made.{Made}
@@ -20,3 +21,4 @@ boardChecked m n N s t = checked m n N s t then λ _. accepted (record { inputs 
 pub record Checking (m n N s : ℕ) (t : List ℤ) (o : List ℕ) (r : Made) : Type 0 where
   pub answer : boardMeaning r ≡ boardChecked m n N s t
   pub passable : (b : Board) → r ≡ M.Board b → Passable b t o × (scratchCells (b .vertices) ≤ s)
+  pub long : (b : Board) → r ≡ M.Board b → length o ≡ maxVertices

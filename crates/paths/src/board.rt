@@ -23,6 +23,9 @@ impl Board {
     // The cells of a table of that many vertices.
     pub const MAX_CELLS: usize = 8_100;
 
+    // The cells of the largest delay matrix: 45 inputs and 45 outputs.
+    pub const MAX_PAIRS: usize = 2_025;
+
     pub const MIN_DELAY: i64 = -1_000_000_000;
 
     pub const MAX_DELAY: i64 = 1_000_000_000;

@@ -37,7 +37,7 @@ fn copy_out(row: &mut [i64], f: &[i64], m: usize)
 }
 
 // The matrix, one pass over the arcs for each input.
-fn fill_matrix(
+pub fn fill_matrix(
     board: Board,
     table: &[i32],
     list: &[u8; Board::MAX_VERTICES],

@@ -160,7 +160,7 @@ fn columns_difference(
 }
 
 // What is left to ask where e is the common difference.
-fn outputs_saved(
+pub fn outputs_saved(
     board: Board,
     table: &[i32],
     list: &[u8; Board::MAX_VERTICES],
@@ -256,7 +256,7 @@ fn rows_difference(
 }
 
 // What is left to ask where e is the common difference.
-fn inputs_saved(board: Board, table: &[i32], b: usize, e: i64) -> Difference
+pub fn inputs_saved(board: Board, table: &[i32], b: usize, e: i64) -> Difference
     requires { ⌜ Lent board (now table) × (b < board .vertices) ⌝ }
     ensures { λ r. ⌜ differenceMeaning r ≡ inputsSaved (board .vertices) (graphOf (board .vertices) (now (table .entry))) b e ⌝ }
 {

@@ -35,7 +35,7 @@ use Rattle.reduction.proofs.Rounds.{All, Refuses, Gains, rounds-kept, r
 
 -- ---- lists of tries
 
-all-append : (P : Try → Type 0) (xs ys : List Try) → All P xs → All P ys → All P (xs ++ ys)
+pub all-append : (P : Try → Type 0) (xs ys : List Try) → All P xs → All P ys → All P (xs ++ ys)
 all-append P [] ys h k = k
 all-append P (x ∷ xs) ys h k = (h .0, all-append P xs ys (h .1) k)
 
@@ -44,7 +44,7 @@ append-all P [] ys h = (tt, h)
 append-all P (x ∷ xs) ys h = let k = append-all P xs ys (h .1) in ((h .0, k .0), k .1)
 
 module _ (P : Try → Type 0) where
-  all-map : (f : ℕ → Try) (xs : List ℕ) → ((x : ℕ) → P (f x)) → All P (map f xs)
+  pub all-map : (f : ℕ → Try) (xs : List ℕ) → ((x : ℕ) → P (f x)) → All P (map f xs)
   all-map f [] h = tt
   all-map f (x ∷ xs) h = (h x, all-map f xs h)
 
@@ -52,7 +52,7 @@ module _ (P : Try → Type 0) where
   all-pairsWith f a [] h = tt
   all-pairsWith f a (b ∷ bs) h = cond-elim (λ (r : List Try). All P r) (eqb a b) (pairsWith f a bs) (f a b ∷ pairsWith f a bs) (λ _. all-pairsWith f a bs h) (λ _. (h a b, all-pairsWith f a bs h))
 
-  all-pairs : (f : ℕ → ℕ → Try) (as′ bs : List ℕ) → ((a b : ℕ) → P (f a b)) → All P (pairs f as′ bs)
+  pub all-pairs : (f : ℕ → ℕ → Try) (as′ bs : List ℕ) → ((a b : ℕ) → P (f a b)) → All P (pairs f as′ bs)
   all-pairs f [] bs h = tt
   all-pairs f (a ∷ rest) bs h = all-append P (pairsWith f a bs) (pairs f rest bs) (all-pairsWith f a bs h) (all-pairs f rest bs h)
 
@@ -93,7 +93,7 @@ module _ (P : Try → Type 0) where
 module _ (m n N : ℕ) where
   -- ---- the run's tries gain
 
-  step-gains : (s : ℕ) (q : Step) → Gains m n N (tryStep m n N s q)
+  pub step-gains : (s : ℕ) (q : Step) → Gains m n N (tryStep m n N s q)
   step-gains s q t r e =
       let h : stepCall m n N s q t ≡ accepted r = inside (stepCall m n N s q t) e in
       (step-gain m n N s q t r h, omega (arith, step-one m n N s q t r h))
@@ -101,7 +101,7 @@ module _ (m n N : ℕ) where
       inside : (x : Verdict Reduced) → tried x ≡ tried (accepted r) → x ≡ accepted r
       inside x z = cc
 
-  share-gains : (s a b : ℕ) → Gains m n N (tryShareInputs m n N s a b)
+  pub share-gains : (s a b : ℕ) → Gains m n N (tryShareInputs m n N s a b)
   unfolding tryShareInputs
   share-gains s a b t r = cond-elim (λ (x : Attempt). x ≡ tried (accepted r) → Gain m n N t r × (0 < r .steps)) (ltb (freshNumber m n N (graphOf N t)) N)
       (tryStep m n N s (share-inputs a b (freshNumber m n N (graphOf N t))) t) skipped (λ _. step-gains s (share-inputs a b (freshNumber m n N (graphOf N t))) t r) (λ _ e. absurd (never e))

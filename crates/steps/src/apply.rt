@@ -1,7 +1,5 @@
-// Each step on a table that has passed its checks: its conditions, then its new table.
-use crate::answer::Answer;
+// Each step on a table that has passed its checks: its conditions, then its new table. No arc is counted here.
 use paths::Board;
-use paths::cells;
 use plans::merge_back;
 use plans::prune;
 use plans::share;
@@ -18,33 +16,33 @@ ghost use Rattle.timing.specs.Limits.{scratchCells};
 ghost use Rattle.timing.specs.Table.{graphOf};
 ghost use Rattle.reduction.specs.Steps.{shrink, share-inputs, share-outputs, prune, merge-back, star};
 ghost use Rattle.paths.specs.Arrivals.{Passable};
-ghost use Rattle.steps.specs.Reduces.{Reduces, stepOn, Checked};
+ghost use Rattle.steps.specs.Reduces.{Applies, newTable, Checked};
 
-pub fn apply_shrink(board: Board, table: &mut [i32], k: usize) -> Answer
+pub fn apply_shrink(board: Board, table: &mut [i32], k: usize) -> Fit
     requires { ⌜ Checked board (now table) ⌝ }
-    ensures { λ r. ⌜ Reduces (stepOn (shrink k) (now (table .entry)) (board .inputs) (board .outputs) (board .vertices) (graphOf (board .vertices) (now (table .entry)))) (now (table .entry)) (now (table .exit)) r ⌝ }
+    ensures { λ r. ⌜ Applies (newTable (shrink k) (now (table .entry)) (board .inputs) (board .outputs) (board .vertices) (graphOf (board .vertices) (now (table .entry)))) (now (table .entry)) (now (table .exit)) r ⌝ }
 {
     let fit = shrink::shrink_verdict(board, table, k);
     match fit {
         Fit::Accepted => {
             shrink::shrink_apply(board, table, k);
-            Answer::Left(cells::arcs(board, table))
+            Fit::Accepted
         }
-        Fit::Refused(r) => Answer::Refused(r),
+        Fit::Refused(r) => Fit::Refused(r),
     }
 }
 
-pub fn apply_merge_back(board: Board, table: &mut [i32], o: usize) -> Answer
+pub fn apply_merge_back(board: Board, table: &mut [i32], o: usize) -> Fit
     requires { ⌜ Checked board (now table) ⌝ }
-    ensures { λ r. ⌜ Reduces (stepOn (merge-back o) (now (table .entry)) (board .inputs) (board .outputs) (board .vertices) (graphOf (board .vertices) (now (table .entry)))) (now (table .entry)) (now (table .exit)) r ⌝ }
+    ensures { λ r. ⌜ Applies (newTable (merge-back o) (now (table .entry)) (board .inputs) (board .outputs) (board .vertices) (graphOf (board .vertices) (now (table .entry)))) (now (table .entry)) (now (table .exit)) r ⌝ }
 {
     let driven = merge_back::merge_back_verdict(board, table, o);
     match driven {
         Driven::By(v, d) => {
             merge_back::merge_back_apply(board, table, v, o, d);
-            Answer::Left(cells::arcs(board, table))
+            Fit::Accepted
         }
-        Driven::Refused(r) => Answer::Refused(r),
+        Driven::Refused(r) => Fit::Refused(r),
     }
 }
 
@@ -54,17 +52,17 @@ pub fn apply_star(
     sources: &[usize],
     targets: &[usize],
     k: usize,
-) -> Answer
+) -> Fit
     requires { ⌜ Checked board (now table) ⌝ }
-    ensures { λ r. ⌜ Reduces (stepOn (star (now (sources .entry)) (now (targets .entry)) k) (now (table .entry)) (board .inputs) (board .outputs) (board .vertices) (graphOf (board .vertices) (now (table .entry)))) (now (table .entry)) (now (table .exit)) r ⌝ }
+    ensures { λ r. ⌜ Applies (newTable (star (now (sources .entry)) (now (targets .entry)) k) (now (table .entry)) (board .inputs) (board .outputs) (board .vertices) (graphOf (board .vertices) (now (table .entry)))) (now (table .entry)) (now (table .exit)) r ⌝ }
 {
     let fit = star::star_verdict(board, table, sources, targets, k);
     match fit {
         Fit::Accepted => {
             star::star_apply(board, table, sources, targets, k);
-            Answer::Left(cells::arcs(board, table))
+            Fit::Accepted
         }
-        Fit::Refused(r) => Answer::Refused(r),
+        Fit::Refused(r) => Fit::Refused(r),
     }
 }
 
@@ -76,18 +74,18 @@ pub fn apply_share_inputs(
     a: usize,
     b: usize,
     k: usize,
-) -> Answer
+) -> Fit
     requires { ⌜ Passable board (now table) (now list) × (scratchCells (board .vertices) ≤ length (now scratch)) ⌝ }
-    ensures { λ r. ⌜ Reduces (stepOn (share-inputs a b k) (now (table .entry)) (board .inputs) (board .outputs) (board .vertices) (graphOf (board .vertices) (now (table .entry)))) (now (table .entry)) (now (table .exit)) r ⌝ }
+    ensures { λ r. ⌜ Applies (newTable (share-inputs a b k) (now (table .entry)) (board .inputs) (board .outputs) (board .vertices) (graphOf (board .vertices) (now (table .entry)))) (now (table .entry)) (now (table .exit)) r ⌝ }
     ensures { λ _. ⌜ drop (scratchCells (board .vertices)) (now (scratch .exit)) ≡ drop (scratchCells (board .vertices)) (now (scratch .entry)) ⌝ }
 {
     let difference = share::share_inputs_verdict(board, table, list, scratch, a, b, k);
     match difference {
         Difference::Common(e) => {
             share::share_inputs_apply(board, table, a, b, k, sums::narrow(e));
-            Answer::Left(cells::arcs(board, table))
+            Fit::Accepted
         }
-        Difference::Refused(r) => Answer::Refused(r),
+        Difference::Refused(r) => Fit::Refused(r),
     }
 }
 
@@ -98,18 +96,18 @@ pub fn apply_share_outputs(
     scratch: &mut [i64],
     a: usize,
     b: usize,
-) -> Answer
+) -> Fit
     requires { ⌜ Passable board (now table) (now list) × (scratchCells (board .vertices) ≤ length (now scratch)) ⌝ }
-    ensures { λ r. ⌜ Reduces (stepOn (share-outputs a b) (now (table .entry)) (board .inputs) (board .outputs) (board .vertices) (graphOf (board .vertices) (now (table .entry)))) (now (table .entry)) (now (table .exit)) r ⌝ }
+    ensures { λ r. ⌜ Applies (newTable (share-outputs a b) (now (table .entry)) (board .inputs) (board .outputs) (board .vertices) (graphOf (board .vertices) (now (table .entry)))) (now (table .entry)) (now (table .exit)) r ⌝ }
     ensures { λ _. ⌜ drop (scratchCells (board .vertices)) (now (scratch .exit)) ≡ drop (scratchCells (board .vertices)) (now (scratch .entry)) ⌝ }
 {
     let difference = share::share_outputs_verdict(board, table, list, scratch, a, b);
     match difference {
         Difference::Common(e) => {
             share::share_outputs_apply(board, table, a, b, sums::narrow(e));
-            Answer::Left(cells::arcs(board, table))
+            Fit::Accepted
         }
-        Difference::Refused(r) => Answer::Refused(r),
+        Difference::Refused(r) => Fit::Refused(r),
     }
 }
 
@@ -118,14 +116,10 @@ pub fn apply_prune(
     table: &mut [i32],
     list: &[u8; Board::MAX_VERTICES],
     scratch: &mut [i64],
-) -> Answer
+) -> Fit
     requires { ⌜ Passable board (now table) (now list) × (scratchCells (board .vertices) ≤ length (now scratch)) ⌝ }
-    ensures { λ r. ⌜ Reduces (stepOn prune (now (table .entry)) (board .inputs) (board .outputs) (board .vertices) (graphOf (board .vertices) (now (table .entry)))) (now (table .entry)) (now (table .exit)) r ⌝ }
+    ensures { λ r. ⌜ Applies (newTable prune (now (table .entry)) (board .inputs) (board .outputs) (board .vertices) (graphOf (board .vertices) (now (table .entry)))) (now (table .entry)) (now (table .exit)) r ⌝ }
     ensures { λ _. ⌜ drop (scratchCells (board .vertices)) (now (scratch .exit)) ≡ drop (scratchCells (board .vertices)) (now (scratch .entry)) ⌝ }
 {
-    let fit = prune::prune_step(board, table, list, scratch);
-    match fit {
-        Fit::Accepted => Answer::Left(cells::arcs(board, table)),
-        Fit::Refused(r) => Answer::Refused(r),
-    }
+    prune::prune_step(board, table, list, scratch)
 }

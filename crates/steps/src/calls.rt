@@ -1,4 +1,5 @@
-// The six steps as calls: any arguments, the checks first.
+// The six steps as calls: any arguments, the checks first, the count of arcs last.
+use crate::answer;
 use crate::answer::Answer;
 use crate::apply;
 use crate::step;
@@ -26,7 +27,10 @@ pub fn reduce(
     let mut list = order::bytes();
     let lent = checks::checked(inputs, outputs, vertices, table, scratch.len(), &mut list);
     match lent {
-        Made::Board(board) => step::apply_step(board, table, &list, scratch, step),
+        Made::Board(board) => {
+            let fit = step::apply_step(board, table, &list, scratch, step);
+            answer::counted(board, table, fit)
+        }
         Made::Refused(r) => Answer::Refused(r),
     }
 }
@@ -146,7 +150,10 @@ pub fn star(
     let mut list = order::bytes();
     let lent = checks::checked(inputs, outputs, vertices, table, scratch.len(), &mut list);
     match lent {
-        Made::Board(board) => apply::apply_star(board, table, sources, targets, k),
+        Made::Board(board) => {
+            let fit = apply::apply_star(board, table, sources, targets, k);
+            answer::counted(board, table, fit)
+        }
         Made::Refused(r) => Answer::Refused(r),
     }
 }

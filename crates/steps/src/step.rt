@@ -1,14 +1,14 @@
 // The five steps of the automatic run, as one function.
-use crate::answer::Answer;
 use crate::apply;
 use paths::Board;
+use plans::verdict::Fit;
 ghost use mathlib.Core.Path.{_≡_};
 ghost use Prim.Native.Nat.{_≤_};
 ghost use lib.ListN.{length, drop};
 ghost use Rattle.timing.specs.Limits.{scratchCells};
 ghost use Rattle.timing.specs.Table.{graphOf};
 ghost use Rattle.paths.specs.Arrivals.{Passable};
-ghost use Rattle.steps.specs.Reduces.{Reduces, stepOn, stepMeaning};
+ghost use Rattle.steps.specs.Reduces.{Applies, newTable, stepMeaning};
 
 // A step with its vertices, any numbers.
 pub enum Step {
@@ -25,9 +25,9 @@ pub fn apply_step(
     list: &[u8; Board::MAX_VERTICES],
     scratch: &mut [i64],
     step: Step,
-) -> Answer
+) -> Fit
     requires { ⌜ Passable board (now table) (now list) × (scratchCells (board .vertices) ≤ length (now scratch)) ⌝ }
-    ensures { λ r. ⌜ Reduces (stepOn (stepMeaning step) (now (table .entry)) (board .inputs) (board .outputs) (board .vertices) (graphOf (board .vertices) (now (table .entry)))) (now (table .entry)) (now (table .exit)) r ⌝ }
+    ensures { λ r. ⌜ Applies (newTable (stepMeaning step) (now (table .entry)) (board .inputs) (board .outputs) (board .vertices) (graphOf (board .vertices) (now (table .entry)))) (now (table .entry)) (now (table .exit)) r ⌝ }
     ensures { λ _. ⌜ drop (scratchCells (board .vertices)) (now (scratch .exit)) ≡ drop (scratchCells (board .vertices)) (now (scratch .entry)) ⌝ }
 {
     match step {

@@ -95,7 +95,7 @@ returns-6 c =
     let f = h .before .before in
     let e = f .before .before in
     let yes-is = not-false _ (c .if5 .left) in
-    all-passed _ (start e .pre .0) _ _ (two e) (three e) (four f) (five h) (sym (q .topological-order .ensures .answer) ∙ yes-is) (q .topological-order .ensures .order (true-is yes-is))
+    all-passed _ (start e .pre .0) _ _ (two e) (three e) (four f) (five h) (sym (q .topological-order .ensures .answer) ∙ yes-is) (q .topological-order .ensures .order (true-is yes-is)) (q .topological-order .ensures .long)
 
 pub table-checked-spec : {M : Type 1} → statement M
 table-checked-spec =

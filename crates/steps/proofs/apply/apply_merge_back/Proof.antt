@@ -1,12 +1,12 @@
 use borrow.Author.Needs.{needs}
-use mathlib.Core.Path.{refl, ap, _∙_}
+use mathlib.Core.Path.{refl, ap}
 use lib.IntN.{ℤ}
-use Rattle.timing.specs.Table.{graphOf, withGraph}
+use Rattle.timing.specs.Table.{graphOf}
 use Rattle.timing.proofs.Checks.{sound-fits}
-use Rattle.reduction.specs.MergeBack.{mergeBackVerdict, mergedBack}
+use Rattle.reduction.specs.MergeBack.{mergedBack}
 use Rattle.reduction.specs.Steps.{merge-back, plan}
 use Rattle.plans.specs.Verdict.{drivenMeaning}
-use Rattle.steps.proofs.Reducing.{said, still-lent, step-done, step-refused}
+use Rattle.steps.proofs.Reducing.{said, step-handed, step-refused}
 use Rattle.steps.proofs.Ready.{merge-ready}
 use Rattle.steps.proofs.apply.apply_merge_back.Statement.{statement}
 use Rattle.steps.proofs.apply.apply_merge_back.Tie as tie
@@ -25,11 +25,6 @@ merge-back-apply-requires c κs =
     let r = merge-ready (s .args .board) (s .args .table .now) (s .args .o) (s .pre) (d .driven .given .0 .0) (d .driven .given .0 .1 .0) (said drivenMeaning (v .merge-back-verdict .ensures) (d .driven .given .1)) in
     (s .pre .lent, r .1, r .2)
 
-arcs-requires : tie.Need-arcs-requires
-arcs-requires c κs =
-    let a = c .before .before in
-    still-lent (a .before .before .before .before .before .before .before .pre .lent) (a .merge-back-apply .last .1 .0) (a .merge-back-apply .kept .1 .0)
-
 enum-known-driven-2 : tie.Need-enum-known-driven-2
 enum-known-driven-2 c = search needs
 
@@ -39,19 +34,17 @@ same-length c = search needs
 returns : tie.Need-returns
 unfolding plan
 returns c =
-    let a = c .before .before .before in
+    let a = c .before in
     let d = a .before .before .before in
     let v = d .before .before in
     let s = v .before .before in
     let b = s .args .board in
     let t = s .args .table .now in
-    let g = graphOf (b .vertices) t in
     let x = d .driven .given .0 .0 in
     let y = d .driven .given .0 .1 .0 in
     let e = said drivenMeaning (v .merge-back-verdict .ensures) (d .driven .given .1) in
     let r = merge-ready b t (s .args .o) (s .pre) x y e in
-    step-done b t (merge-back (s .args .o)) (mergeBackVerdict (b .inputs) (b .outputs) (b .vertices) (s .args .o) g) (λ z. mergedBack (z .0) (s .args .o) (z .1) g) refl
-    (s .pre) (x, y) e (a .merge-back-apply .last .1 .0) (a .merge-back-apply .ensures ∙ ap (λ (z : ℤ). withGraph (b .vertices) (mergedBack x (s .args .o) z g) t) (r .0)) (c .arcs .result) (c .arcs .ensures)
+    step-handed b t (merge-back (s .args .o)) (λ z. mergedBack (z .0) (s .args .o) (z .1) (graphOf (b .vertices) t)) e (ap (λ (z : ℤ). (x, z)) (r .0)) refl (a .merge-back-apply .last .1 .0) (a .merge-back-apply .ensures)
 
 same-length-2 : tie.Need-same-length-2
 same-length-2 c = search needs
@@ -63,9 +56,7 @@ returns-2 c =
     let s = v .before .before in
     let b = s .args .board in
     let t = s .args .table .now in
-    let g = graphOf (b .vertices) t in
-    step-refused b t (merge-back (s .args .o)) (mergeBackVerdict (b .inputs) (b .outputs) (b .vertices) (s .args .o) g) (λ z. mergedBack (z .0) (s .args .o) (z .1) g) refl
-    _ (said drivenMeaning (v .merge-back-verdict .ensures) (c .before .driven2 .given .1))
+    step-refused b t (merge-back (s .args .o)) (λ z. mergedBack (z .0) (s .args .o) (z .1) (graphOf (b .vertices) t)) _ (said drivenMeaning (v .merge-back-verdict .ensures) (c .before .driven2 .given .1)) refl
 
 pub apply-merge-back-spec : {M : Type 1} → statement M
 apply-merge-back-spec =
@@ -74,7 +65,6 @@ apply-merge-back-spec =
     merge-back-verdict-requires
     enum-known-driven
     merge-back-apply-requires
-    arcs-requires
     enum-known-driven-2
     same-length
     returns

@@ -1,10 +1,10 @@
 use borrow.Author.Needs.{needs}
 use mathlib.Core.Path.{refl}
 use Rattle.timing.specs.Table.{graphOf}
-use Rattle.reduction.specs.Shrink.{shrinkVerdict, shrunk}
+use Rattle.reduction.specs.Shrink.{shrunk}
 use Rattle.reduction.specs.Steps.{shrink, plan}
 use Rattle.plans.specs.Verdict.{fitMeaning}
-use Rattle.steps.proofs.Reducing.{said, still-lent, step-done, step-refused}
+use Rattle.steps.proofs.Reducing.{said, step-done, step-refused}
 use Rattle.steps.proofs.Ready.{shrink-ready}
 use Rattle.steps.proofs.apply.apply_shrink.Statement.{statement}
 use Rattle.steps.proofs.apply.apply_shrink.Tie as tie
@@ -23,11 +23,6 @@ shrink-apply-requires c κs =
     let r = shrink-ready (b .inputs) (b .outputs) (b .vertices) (s .args .k) (graphOf (b .vertices) (s .args .table .now)) (said fitMeaning (v .shrink-verdict .ensures) (c .before .enum-told .given .1)) in
     (s .pre .lent, r .0, r .1)
 
-arcs-requires : tie.Need-arcs-requires
-arcs-requires c κs =
-    let a = c .before .before in
-    still-lent (a .before .before .before .before .before .before .pre .lent) (a .shrink-apply .last .1 .0) (a .shrink-apply .kept .1 .0)
-
 enum-known-fit : tie.Need-enum-known-fit
 enum-known-fit c = search needs
 
@@ -37,13 +32,12 @@ same-length c = search needs
 returns : tie.Need-returns
 unfolding plan
 returns c =
-    let a = c .before .before .before in
+    let a = c .before in
     let v = a .before .before .before .before in
     let s = v .before .before in
     let b = s .args .board in
     let t = s .args .table .now in
-    step-done b t (shrink (s .args .k)) (shrinkVerdict (b .inputs) (b .outputs) (b .vertices) (s .args .k) (graphOf (b .vertices) t)) (λ _. shrunk (s .args .k) (graphOf (b .vertices) t)) refl
-    (s .pre) tt (said fitMeaning (v .shrink-verdict .ensures) (a .before .before .enum-told .given .1)) (a .shrink-apply .last .1 .0) (a .shrink-apply .ensures) (c .arcs .result) (c .arcs .ensures)
+    step-done b t (shrink (s .args .k)) (λ _. shrunk (s .args .k) (graphOf (b .vertices) t)) tt (said fitMeaning (v .shrink-verdict .ensures) (a .before .before .enum-told .given .1)) refl (a .shrink-apply .last .1 .0) (a .shrink-apply .ensures)
 
 same-length-2 : tie.Need-same-length-2
 same-length-2 c = search needs
@@ -55,8 +49,7 @@ returns-2 c =
     let s = v .before .before in
     let b = s .args .board in
     let t = s .args .table .now in
-    step-refused b t (shrink (s .args .k)) (shrinkVerdict (b .inputs) (b .outputs) (b .vertices) (s .args .k) (graphOf (b .vertices) t)) (λ _. shrunk (s .args .k) (graphOf (b .vertices) t)) refl
-    _ (said fitMeaning (v .shrink-verdict .ensures) (c .before .fit .given .1))
+    step-refused b t (shrink (s .args .k)) (λ _. shrunk (s .args .k) (graphOf (b .vertices) t)) _ (said fitMeaning (v .shrink-verdict .ensures) (c .before .fit .given .1)) refl
 
 pub apply-shrink-spec : {M : Type 1} → statement M
 apply-shrink-spec =
@@ -65,7 +58,6 @@ apply-shrink-spec =
     shrink-verdict-requires
     enum-told
     shrink-apply-requires
-    arcs-requires
     enum-known-fit
     same-length
     returns

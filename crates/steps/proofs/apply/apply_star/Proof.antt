@@ -2,11 +2,11 @@ use borrow.Author.Needs.{needs}
 use mathlib.Core.Path.{refl}
 use Rattle.timing.specs.Table.{graphOf}
 use Rattle.timing.proofs.Checks.{sound-fits}
-use Rattle.reduction.specs.Star.{starVerdict, starred}
+use Rattle.reduction.specs.Star.{starred}
 use Rattle.reduction.specs.Steps.{star, plan}
 use Rattle.plans.specs.Verdict.{fitMeaning}
 use Rattle.plans.proofs.StarChain.{star-ready}
-use Rattle.steps.proofs.Reducing.{said, still-lent, step-done, step-refused}
+use Rattle.steps.proofs.Reducing.{said, step-done, step-refused}
 use Rattle.steps.proofs.apply.apply_star.Statement.{statement}
 use Rattle.steps.proofs.apply.apply_star.Tie as tie
 
@@ -25,11 +25,6 @@ star-apply-requires c κs =
     let g = graphOf (b .vertices) t in
     (s .pre .lent, star-ready (b .inputs) (b .outputs) (b .vertices) (s .args .sources .now) (s .args .targets .now) (s .args .k) g tt (sound-fits (s .pre .sound)) (said fitMeaning (v .star-verdict .ensures) (c .before .enum-told .given .1)))
 
-arcs-requires : tie.Need-arcs-requires
-arcs-requires c κs =
-    let a = c .before .before in
-    still-lent (a .before .before .before .before .before .before .before .before .pre .lent) (a .star-apply .last .1 .0) (a .star-apply .kept .1 .0)
-
 enum-known-fit : tie.Need-enum-known-fit
 enum-known-fit c = search needs
 
@@ -39,14 +34,12 @@ same-length c = search needs
 returns : tie.Need-returns
 unfolding plan
 returns c =
-    let a = c .before .before .before in
+    let a = c .before in
     let v = a .before .before .before .before in
     let s = v .before .before .before .before in
     let b = s .args .board in
     let t = s .args .table .now in
-    let g = graphOf (b .vertices) t in
-    step-done b t (star (s .args .sources .now) (s .args .targets .now) (s .args .k)) (starVerdict (b .inputs) (b .outputs) (b .vertices) (s .args .sources .now) (s .args .targets .now) (s .args .k) g) (λ _. starred (s .args .sources .now) (s .args .targets .now) (s .args .k) g) refl
-    (s .pre) tt (said fitMeaning (v .star-verdict .ensures) (a .before .before .enum-told .given .1)) (a .star-apply .last .1 .0) (a .star-apply .ensures) (c .arcs .result) (c .arcs .ensures)
+    step-done b t (star (s .args .sources .now) (s .args .targets .now) (s .args .k)) (λ _. starred (s .args .sources .now) (s .args .targets .now) (s .args .k) (graphOf (b .vertices) t)) tt (said fitMeaning (v .star-verdict .ensures) (a .before .before .enum-told .given .1)) refl (a .star-apply .last .1 .0) (a .star-apply .ensures)
 
 same-length-2 : tie.Need-same-length-2
 same-length-2 c = search needs
@@ -58,9 +51,7 @@ returns-2 c =
     let s = v .before .before .before .before in
     let b = s .args .board in
     let t = s .args .table .now in
-    let g = graphOf (b .vertices) t in
-    step-refused b t (star (s .args .sources .now) (s .args .targets .now) (s .args .k)) (starVerdict (b .inputs) (b .outputs) (b .vertices) (s .args .sources .now) (s .args .targets .now) (s .args .k) g) (λ _. starred (s .args .sources .now) (s .args .targets .now) (s .args .k) g) refl
-    _ (said fitMeaning (v .star-verdict .ensures) (c .before .fit .given .1))
+    step-refused b t (star (s .args .sources .now) (s .args .targets .now) (s .args .k)) (λ _. starred (s .args .sources .now) (s .args .targets .now) (s .args .k) (graphOf (b .vertices) t)) _ (said fitMeaning (v .star-verdict .ensures) (c .before .fit .given .1)) refl
 
 pub apply-star-spec : {M : Type 1} → statement M
 apply-star-spec =
@@ -69,7 +60,6 @@ apply-star-spec =
     star-verdict-requires
     enum-told
     star-apply-requires
-    arcs-requires
     enum-known-fit
     same-length
     returns

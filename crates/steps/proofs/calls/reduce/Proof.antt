@@ -2,7 +2,7 @@ use borrow.Author.Needs.{needs}
 use mathlib.Core.Path.{refl}
 use Rattle.paths.proofs.Answering.{scratch-on, scratch-same}
 use Rattle.steps.specs.Reduces.{stepMeaning}
-use Rattle.steps.proofs.Reducing.{call-done, call-refuses}
+use Rattle.steps.proofs.Reducing.{still-lent, call-done, call-refuses}
 use Rattle.steps.proofs.calls.reduce.Statement.{statement}
 use Rattle.steps.proofs.calls.reduce.Tie as tie
 
@@ -20,6 +20,12 @@ apply-step-requires c κs =
     let k = c .before .before .before .before in
     k .before .before .checked .ensures .passable _ (k .lent .given .1)
 
+counted-requires : tie.Need-counted-requires
+counted-requires c κs =
+    let a = c .before .before .before in
+    let k = a .before .before .before .before .before in
+    still-lent (k .before .before .checked .ensures .passable _ (k .lent .given .1) .0 .lent) (a .apply-step .last .1 .0) (a .apply-step .kept .1 .0)
+
 enum-known-lent-2 : tie.Need-enum-known-lent-2
 enum-known-lent-2 c = search needs
 
@@ -31,11 +37,11 @@ same-length-2 c = search needs
 
 returns : tie.Need-returns
 returns c =
-    let a = c .before .before in
+    let a = c .before .before .before .before in
     let k = a .before .before .before .before .before in
     let h = k .before .before .checked .ensures in
     let s = k .before .before .before .before .before .before in
-    (call-done h (stepMeaning (s .args .step)) _ (k .lent .given .1) _ _ (a .apply-step .ensures .0), scratch-on h _ (k .lent .given .1) _ _ refl (a .apply-step .ensures .1))
+    (call-done h (stepMeaning (s .args .step)) _ (k .lent .given .1) _ _ (a .apply-step .ensures .0) _ (c .counted .ensures), scratch-on h _ (k .lent .given .1) _ _ refl (a .apply-step .ensures .1))
 
 same-length-3 : tie.Need-same-length-3
 same-length-3 c = search needs
@@ -54,6 +60,7 @@ reduce-spec =
     checked-requires
     enum-known-lent
     apply-step-requires
+    counted-requires
     enum-known-lent-2
     same-length
     same-length-2

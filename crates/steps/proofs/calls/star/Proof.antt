@@ -2,7 +2,7 @@ use borrow.Author.Needs.{needs}
 use mathlib.Core.Path.{refl}
 use Rattle.reduction.specs.Steps.{star}
 use Rattle.paths.proofs.Answering.{scratch-on, scratch-same}
-use Rattle.steps.proofs.Reducing.{passed, call-done, call-refuses}
+use Rattle.steps.proofs.Reducing.{passed, still-lent, call-done, call-refuses}
 use Rattle.steps.proofs.calls.star.Statement.{statement}
 use Rattle.steps.proofs.calls.star.Tie as tie
 
@@ -20,6 +20,12 @@ apply-star-requires c κs =
     let k = c .before .before in
     passed (k .before .before .checked .ensures .passable _ (k .lent .given .1) .0)
 
+counted-requires : tie.Need-counted-requires
+counted-requires c κs =
+    let a = c .before .before in
+    let k = a .before .before .before in
+    still-lent (k .before .before .checked .ensures .passable _ (k .lent .given .1) .0 .lent) (a .apply-star .last .1 .0) (a .apply-star .kept .1 .0)
+
 enum-known-lent-2 : tie.Need-enum-known-lent-2
 enum-known-lent-2 c = search needs
 
@@ -28,11 +34,11 @@ same-length c = search needs
 
 returns : tie.Need-returns
 returns c =
-    let a = c .before in
+    let a = c .before .before .before in
     let k = a .before .before .before in
     let h = k .before .before .checked .ensures in
     let s = k .before .before .before .before .before .before .before .before in
-    (call-done h (star (s .args .sources .now) (s .args .targets .now) (s .args .k)) _ (k .lent .given .1) _ _ (a .apply-star .ensures), scratch-on h _ (k .lent .given .1) _ _ refl refl)
+    (call-done h (star (s .args .sources .now) (s .args .targets .now) (s .args .k)) _ (k .lent .given .1) _ _ (a .apply-star .ensures) _ (c .counted .ensures), scratch-on h _ (k .lent .given .1) _ _ refl refl)
 
 same-length-2 : tie.Need-same-length-2
 same-length-2 c = search needs
@@ -51,6 +57,7 @@ star-spec =
     checked-requires
     enum-known-lent
     apply-star-requires
+    counted-requires
     enum-known-lent-2
     same-length
     returns

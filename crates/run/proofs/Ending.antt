@@ -1,0 +1,71 @@
+-- The rounds as the loop makes them: one accepts nothing and is the last, or it leaves fewer arcs.
+use mathlib.Core.Path.{_≡_, sym, ap, _∙_, subst}
+use mathlib.Core.Logic.{_≢_}
+use mathlib.Core.Bool.{Bool, false, not, cond}
+use mathlib.Core.List.{List}
+use Prim.Native.Nat.{ℕ, suc, _<_}
+use native.Mathlib.Omega.{arith}
+use lib.Dec.{T, eqb}
+use lib.IntN.{ℤ}
+use Rattle.laws.proofs.Booleans.{eqb-same, eqb-other}
+use Rattle.graph.specs.Count.{arcs}
+use Rattle.timing.specs.Table.{graphOf}
+use Rattle.timing.specs.declared.Refusal.{Refusal}
+use Rattle.timing.specs.Refusal.{Verdict, accepted}
+use Rattle.reduction.specs.Outcome.{Reduced}
+use Rattle.reduction.specs.Run.{Progress, Try, round, rounds, tries, reduce, runCall}
+use Rattle.reduction.proofs.Rounds.{round-less, fuel-enough}
+use Rattle.reduction.proofs.Run.{tries-gain}
+use Rattle.paths.specs.declared.board.Board.{Board}
+use Rattle.paths.specs.declared.board.Made.{Made}
+use Rattle.paths.specs.declared.board.Made.the-variants as M
+use Rattle.paths.specs.Checked.{Checking}
+use Rattle.paths.proofs.Checking.{call-refused}
+use Rattle.paths.proofs.Answering.{call-is}
+use Rattle.steps.specs.Reduces.{tableAfter}
+use Rattle.run.specs.declared.answer.Ran.{Ran}
+use Rattle.run.specs.declared.answer.Ran.the-variants as R
+use Rattle.run.specs.Running.{progress}
+use Rattle.run.specs.Runs.{Runs, runOn}
+
+module _ (m n N s : ℕ) (p q : Progress) (way : round (tries m n N s) p ≡ q) where
+  abbrev arcsAt : Progress → ℕ
+  arcsAt x = arcs N (graphOf N (x .table))
+
+  pub last-round : q .steps ≡ p .steps → rounds (suc (arcs N (graphOf N (p .table)))) (tries m n N s) p ≡ q
+  unfolding rounds
+  last-round e = rw (ap (λ (x : Progress). eqb (x .steps) (p .steps)) way ∙ ap (λ (x : ℕ). eqb x (p .steps)) e ∙ eqb-same (p .steps)) way
+
+  module _ (ne : q .steps ≢ p .steps) where
+    other : eqb (round (tries m n N s) p .steps) (p .steps) ≡ false
+    other = ap (λ (x : Progress). eqb (x .steps) (p .steps)) way ∙ eqb-other (q .steps) (p .steps) ne
+
+    pub fewer-arcs : arcs N (graphOf N (q .table)) < arcs N (graphOf N (p .table))
+    fewer-arcs = subst (λ (x : Progress). arcsAt x < arcsAt p) way (round-less m n N (tries m n N s) (tries-gain m n N s) (arcsAt p) p (omega arith) (subst (λ (x : Bool). T (not x)) (sym other) tt))
+
+    pub next-round : rounds (suc (arcs N (graphOf N (q .table)))) (tries m n N s) q ≡ rounds (suc (arcs N (graphOf N (p .table)))) (tries m n N s) p
+    unfolding rounds
+    next-round =
+        fuel-enough m n N (tries m n N s) (tries-gain m n N s) (suc (arcsAt q)) (arcsAt p) q (omega arith) fewer-arcs
+        ∙ ap (rounds (arcsAt p) (tries m n N s)) (sym way)
+        ∙ sym (ap (λ (x : Bool). cond x (round (tries m n N s) p) (rounds (arcsAt p) (tries m n N s) (round (tries m n N s) p))) other)
+
+-- what the loop answers
+pub runs-done : (m n N s : ℕ) (t after : List ℤ) (c a : ℕ) → reduce m n N s t ≡ progress after c → a ≡ arcs N (graphOf N after) → Runs (runOn s t m n N) t after (R.Accepted c a)
+runs-done m n N s t after c a whole count = record {
+  answer = ap (λ (x : ℕ). accepted (record { table = after; steps = c; arcsLeft = x })) count
+      ∙ sym (ap (λ (p : Progress). accepted (record { table = p .table; steps = p .steps; arcsLeft = arcs N (graphOf N (p .table)) })) whole);
+  table = sym (ap (λ (p : Progress). p .table) whole);
+}
+
+-- the call, from its checks and its rounds
+module _ {m n N s : ℕ} {t : List ℤ} {o : List ℕ} {made : Made} (c : Checking m n N s t o made) where
+  pub run-done : (b : Board) → made ≡ M.Board b → (after : List ℤ) (r : Ran) → Runs (runOn s t (b .inputs) (b .outputs) (b .vertices)) t after r → Runs (runCall m n N s t) t after r
+  unfolding runCall
+  run-done b e after r h = call-is c (λ (v : Verdict Reduced). Runs v t after r) (λ m n N _. runOn s t m n N) b e h
+
+  pub run-refused : (x : Refusal) → made ≡ M.Refused x → Runs (runCall m n N s t) t t (R.Refused x)
+  unfolding runCall
+  run-refused x e =
+      let q = call-refused m n N s t x made (c .answer) e (λ _. runOn s t m n N) in
+      record { answer = sym q; table = sym (ap (λ (v : Verdict Reduced). tableAfter v t) q) }

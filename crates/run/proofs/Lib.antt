@@ -1,0 +1,13 @@
+pub mod Moving
+pub mod FreshNumber
+pub mod Lines
+pub mod PairTries
+pub mod Sharing
+pub mod Applied
+pub mod Trying
+pub mod Sweeping
+pub mod ShareVerdicts
+pub mod TriedShares
+pub mod Rounding
+pub mod Ending
+pub mod HeldMatrix

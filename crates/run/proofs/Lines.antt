@@ -1,0 +1,57 @@
+-- Rows and columns among the matrix's cells.
+use mathlib.Core.Path.{_≡_, sym, ap, _∙_, subst}
+use mathlib.Core.List.{List}
+use Prim.Native.Nat.{ℕ, suc, _+_, _-_, _*_, _≤_, _<_}
+use native.Mathlib.Nat.{mul-le-mul-right}
+use native.Mathlib.Omega.{arith}
+use lib.Dec.{T, leb, leb→le}
+use lib.IntN.{ℤ}
+use Rattle.laws.specs.Bounded.{every}
+use Rattle.laws.proofs.Bounded.{every-at}
+use Rattle.laws.proofs.Grid.{row-of}
+use Rattle.graph.specs.Delay.{Delay}
+use Rattle.graph.specs.Graph.{longest}
+use Rattle.timing.specs.Limits.{maxVertices, arrivalLimit, fits}
+use Rattle.timing.specs.Table.{graphOf}
+use Rattle.timing.specs.Delays.{matrix, arrivalIn}
+use Rattle.paths.specs.declared.board.Board.{Board}
+use Rattle.paths.specs.Board.{Sized}
+use Rattle.run.specs.declared.side.Side.{Side}
+use Rattle.run.specs.declared.side.Side.the-variants.{Inputs, Outputs}
+use Rattle.run.specs.Sides.{OnSide, firstOf, countOf, acrossOf, lineOf, placeOf}
+use Rattle.run.specs.Running.{Held}
+
+-- 45 inputs and 45 outputs have the most pairs
+few-pairs : T (every (suc maxVertices) (λ m. leb ((maxVertices - m) * m) 2025))
+unfolding every
+few-pairs = tt
+
+pub pairs-fit : {b : Board} → Sized b → b .outputs * b .inputs ≤ 2025
+pairs-fit {b} z =
+    let m = b .inputs in
+    let less : b .outputs * m ≤ (maxVertices - m) * m = mul-le-mul-right m (omega (arith, z .roles, z .few)) in
+    omega (arith, less, leb→le ((maxVertices - m) * m) 2025 (every-at (suc maxVertices) (λ x. leb ((maxVertices - x) * x) 2025) few-pairs m (omega (arith, z .roles, z .few))))
+
+pub side-fits : (side : Side) (b : Board) → Sized b → firstOf side (b .inputs) + countOf side (b .inputs) (b .outputs) ≤ maxVertices
+side-fits Inputs b z = omega (arith, z .roles, z .few)
+side-fits Outputs b z = omega (arith, z .roles, z .few)
+
+pub across-few : (side : Side) (b : Board) → Sized b → acrossOf side (b .inputs) (b .outputs) ≤ maxVertices
+across-few Inputs b z = omega (arith, z .roles, z .few)
+across-few Outputs b z = omega (arith, z .roles, z .few)
+
+-- an entry's place is among the first m × n cells
+pub place-in : (b : Board) (side : Side) (v j : ℕ) → OnSide b side v → j < acrossOf side (b .inputs) (b .outputs) → placeOf side (b .inputs) (b .outputs) v j < b .outputs * b .inputs
+place-in b Inputs v j h l = omega (arith, row-of (b .outputs) v (b .inputs) (omega (arith, h .below)))
+place-in b Outputs v j h l = omega (arith, row-of (b .outputs) j (b .inputs) l, h .from, h .below)
+
+-- and the cell there holds it
+module _ {b : Board} {M t : List ℤ} (held : Held b M t) where
+  pub held-line : (side : Side) (v j : ℕ) → OnSide b side v → j < acrossOf side (b .inputs) (b .outputs) → arrivalIn M (placeOf side (b .inputs) (b .outputs) v j) ≡ lineOf side (b .inputs) (b .vertices) (graphOf (b .vertices) t) v j
+  unfolding matrix
+  held-line Inputs v j h l = held .cells v j (omega (arith, h .below)) l
+  held-line Outputs v j h l = held .cells j (v - b .inputs) l (omega (arith, h .from, h .below)) ∙ ap (longest (graphOf (b .vertices) t) (b .vertices) j) (omega (arith, h .from))
+
+  pub near-line : (side : Side) (v j : ℕ) → OnSide b side v → j < acrossOf side (b .inputs) (b .outputs) → T (fits arrivalLimit (arrivalIn M (placeOf side (b .inputs) (b .outputs) v j)))
+  near-line Inputs v j h l = subst (λ (d : Delay). T (fits arrivalLimit d)) (sym (held .cells v j (omega (arith, h .below)) l)) (held .near v j (omega (arith, h .below)) l)
+  near-line Outputs v j h l = let k : v - b .inputs < b .outputs = omega (arith, h .from, h .below) in subst (λ (d : Delay). T (fits arrivalLimit d)) (sym (held .cells j (v - b .inputs) l k)) (held .near j (v - b .inputs) l k)

@@ -1,0 +1,103 @@
+-- The share tries of a side under way: what has been kept, and that the tries that are left lead where all of them lead from the start.
+use mathlib.Core.Path.{_≡_, refl, sym, ap, _∙_, subst}
+use mathlib.Core.List.{List, [], _∷_}
+use Prim.Native.Nat.{ℕ, _+_, _≤_, _<_}
+use native.Mathlib.Omega.{arith}
+use lib.IntN.{ℤ}
+use lib.ListN.{length, drop}
+use Rattle.timing.specs.Limits.{scratchCells}
+use Rattle.reduction.specs.Steps.{share-outputs}
+use Rattle.reduction.specs.Run.{Progress, Try, round, numbers}
+use Rattle.reduction.proofs.Rounds.{All, Gains}
+use Rattle.reduction.proofs.Run.{all-pairs, step-gains, share-gains}
+use Rattle.paths.specs.declared.board.Board.{Board}
+use Rattle.run.specs.declared.side.Side.{Side}
+use Rattle.run.specs.declared.side.Side.the-variants.{Inputs, Outputs}
+use Rattle.run.specs.declared.share_tries.Tally.{Tally}
+use Rattle.run.specs.Sides.{firstOf, countOf, tryShare, shareTries}
+use Rattle.run.specs.Running.{progress, Running, Held, Ready, Reaches}
+use Rattle.run.proofs.Moving.{running-on, held-on, same-length-on}
+
+pub share-try-gains : (m n N : ℕ) (side : Side) (s a b : ℕ) → Gains m n N (tryShare m n N side s a b)
+share-try-gains m n N Inputs s a b = share-gains m n N s a b
+share-try-gains m n N Outputs s a b = step-gains m n N s (share-outputs a b)
+
+pub share-tries-gain : (m n N : ℕ) (side : Side) (s : ℕ) → All (Gains m n N) (shareTries m n N side s)
+share-tries-gain m n N side s = all-pairs (Gains m n N) (tryShare m n N side s) (numbers (firstOf side m) (countOf side m n)) (numbers (firstOf side m) (countOf side m n)) (share-try-gains m n N side s)
+
+-- from table₀ with tries `all` to table with tries `left`
+pub record Sharing (b : Board) (M : List ℤ) (side : Side) (all : ℕ → List Try) (table₀ scratch₀ : List ℤ) (steps : ℕ) (left : ℕ → List Try) (table : List ℤ) (list : List ℕ) (scratch : List ℤ) (tally : Tally) : Type 0 where
+  pub running : Running b (progress table (tally .steps))
+  pub held : Held b M table
+  pub ready : Ready side b table list (tally .fresh)
+  pub long : length table ≡ length table₀
+  pub scratch-long : length scratch ≡ length scratch₀
+  pub past : drop (scratchCells (b .vertices)) scratch ≡ drop (scratchCells (b .vertices)) scratch₀
+  pub way : (s : ℕ) → scratchCells (b .vertices) ≤ s → round (left s) (progress table (tally .steps)) ≡ round (all s) (progress table₀ steps)
+
+module _ {b : Board} {M : List ℤ} {side : Side} {table scratch : List ℤ} (tally : Tally) where
+  -- nothing tried yet; the tries may be said in another way
+  pub sharing-none : {list : List ℕ} (all left : ℕ → List Try) → ((s : ℕ) → all s ≡ left s) → Running b (progress table (tally .steps)) → Held b M table → Ready side b table list (tally .fresh)
+      → Sharing b M side all table scratch (tally .steps) left table list scratch tally
+  sharing-none all left e run held ready = record {
+    running = run;
+    held = held;
+    ready = ready;
+    long = refl;
+    scratch-long = refl;
+    past = refl;
+    way = λ s _. ap (λ (qs : List Try). round qs (progress table (tally .steps))) (sym (e s));
+  }
+
+  -- one try
+  pub sharing-one : (x y : ℕ) (all left : ℕ → List Try) → ((s : ℕ) → all s ≡ tryShare (b .inputs) (b .outputs) (b .vertices) side s x y ∷ left s) → Running b (progress table (tally .steps)) → Held b M table
+      → (table′ : List ℤ) (list′ : List ℕ) (scratch′ : List ℤ) (tally′ : Tally)
+      → Reaches (b .vertices) (λ s. tryShare (b .inputs) (b .outputs) (b .vertices) side s x y ∷ []) (progress table (tally .steps)) (progress table′ (tally′ .steps))
+      → Ready side b table′ list′ (tally′ .fresh) → length scratch′ ≡ length scratch → drop (scratchCells (b .vertices)) scratch′ ≡ drop (scratchCells (b .vertices)) scratch
+      → Sharing b M side all table scratch (tally .steps) left table′ list′ scratch′ tally′
+  unfolding round
+  sharing-one x y all left e run held table′ list′ scratch′ tally′ reaches ready size past = record {
+    running = running-on b q p p′ gain reaches run;
+    held = held-on b q p p′ gain reaches M held;
+    ready = ready;
+    long = same-length-on b q p p′ gain reaches;
+    scratch-long = size;
+    past = past;
+    way = λ s room. ap (round (left s)) (sym (reaches s room)) ∙ ap (λ (qs : List Try). round qs p) (sym (e s));
+  }
+    where
+      q : ℕ → List Try
+      q s = tryShare (b .inputs) (b .outputs) (b .vertices) side s x y ∷ []
+
+      p : Progress
+      p = progress table (tally .steps)
+
+      p′ : Progress
+      p′ = progress table′ (tally′ .steps)
+
+      gain : (s : ℕ) → All (Gains (b .inputs) (b .outputs) (b .vertices)) (q s)
+      gain s = (share-try-gains (b .inputs) (b .outputs) (b .vertices) side s x y, tt)
+
+-- one way after another
+pub sharing-on : {b : Board} {M : List ℤ} {side : Side} {all left left′ : ℕ → List Try} {table₀ scratch₀ : List ℤ} {steps : ℕ} {table : List ℤ} {list : List ℕ} {scratch : List ℤ} {tally : Tally}
+    {table′ : List ℤ} {list′ : List ℕ} {scratch′ : List ℤ} {tally′ : Tally}
+    → Sharing b M side all table₀ scratch₀ steps left table list scratch tally → Sharing b M side left table scratch (tally .steps) left′ table′ list′ scratch′ tally′
+    → Sharing b M side all table₀ scratch₀ steps left′ table′ list′ scratch′ tally′
+sharing-on h k = record {
+  running = k .running;
+  held = k .held;
+  ready = k .ready;
+  long = k .long ∙ h .long;
+  scratch-long = k .scratch-long ∙ h .scratch-long;
+  past = k .past ∙ h .past;
+  way = λ s room. k .way s room ∙ h .way s room;
+}
+
+-- the same state, under other names
+pub sharing-is : {b : Board} {M : List ℤ} {side : Side} {all left : ℕ → List Try} {table₀ scratch₀ : List ℤ} {steps : ℕ} {table table′ : List ℤ} {list list′ : List ℕ} {scratch scratch′ : List ℤ} {tally tally′ : Tally}
+    → table ≡ table′ → list ≡ list′ → scratch ≡ scratch′ → tally ≡ tally′ → Sharing b M side all table₀ scratch₀ steps left table′ list′ scratch′ tally′ → Sharing b M side all table₀ scratch₀ steps left table list scratch tally
+sharing-is {b} {M} {side} {all} {left} {table₀} {scratch₀} {steps} {table} {table′} {list} {list′} {scratch} {scratch′} {tally} {tally′} t l s c h =
+    subst (λ (x : List ℤ). Sharing b M side all table₀ scratch₀ steps left x list scratch tally) (sym t)
+    (subst (λ (x : List ℕ). Sharing b M side all table₀ scratch₀ steps left table′ x scratch tally) (sym l)
+    (subst (λ (x : List ℤ). Sharing b M side all table₀ scratch₀ steps left table′ list′ x tally) (sym s)
+    (subst (λ (x : Tally). Sharing b M side all table₀ scratch₀ steps left table′ list′ scratch′ x) (sym c) h)))

@@ -1,0 +1,51 @@
+use borrow.Author.Needs.{needs}
+use mathlib.Core.Path.{_≡_, sym, _∙_, subst}
+use Prim.Native.Nat.{ℕ}
+use native.Mathlib.Omega.{arith}
+use lib.Dec.{T}
+use Rattle.timing.specs.Table.{graphOf}
+use Rattle.timing.proofs.Checks.{acyclic-noCycle}
+use Rattle.run.specs.declared.side.Side.the-variants.{Inputs, Outputs}
+use Rattle.run.proofs.fresh.renew.Statement.{statement}
+use Rattle.run.proofs.fresh.renew.Tie as tie
+
+enum-told : tie.Need-enum-told
+enum-told c = search needs
+
+fresh-number-requires : tie.Need-fresh-number-requires
+fresh-number-requires c κs = search needs
+
+enum-told-2 : tie.Need-enum-told-2
+enum-told-2 c = search needs
+
+topological-order-requires : tie.Need-topological-order-requires
+topological-order-requires c κs = search needs
+
+other : Inputs ≡ Outputs → ⊥
+other q = let z : _≡_ {A = ℕ} 0 1 = cc in omega arith
+
+returns : tie.Need-returns
+returns c =
+    let e = c .before .enum-told .given .1 in
+    let s = c .before .before .before in
+    record { long = s .pre .1; fresh = λ _. c .fresh-number .ensures; order = λ q. absurd (other (sym e ∙ q)) }
+
+returns-2 : tie.Need-returns-2
+returns-2 c =
+    let e = c .before .before .enum-told2 .given .1 in
+    let s = c .before .before .before .before in
+    let h = c .topological-order .ensures in
+    let N = s .args .board .vertices in
+    let rises : T (c .topological-order .result) = subst T (sym (h .answer)) (acyclic-noCycle N (graphOf N (s .args .table .now)) (s .pre .0 .sound .acyclic)) in
+    record { long = h .long; fresh = λ q. absurd (other (sym q ∙ e)); order = λ _. record { lent = s .pre .0 .lent; order = h .order rises; sound = s .pre .0 .sound } }
+
+pub renew-spec : {M : Type 1} → statement M
+renew-spec =
+    tie.close
+    (tie.spec
+    enum-told
+    fresh-number-requires
+    enum-told-2
+    topological-order-requires
+    returns
+    returns-2)

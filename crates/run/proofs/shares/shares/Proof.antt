@@ -1,0 +1,396 @@
+use borrow.Author.Needs.{needs}
+use mathlib.Core.Path.{_≡_, refl, sym, ap, _∙_, subst}
+use mathlib.Core.List.{List, []}
+use Prim.Native.Nat.{ℕ, _+_, _-_, _*_, _≤_, _<_}
+use native.Mathlib.Omega.{arith}
+use lib.Dec.{T}
+use lib.IntN.{ℤ, pos}
+use lib.ListN.{length, getD}
+use mir.Syntax.{w64}
+use mir.Val.{toZ, ofZ}
+use Rattle.laws.proofs.Booleans.{split}
+use Rattle.laws.proofs.Signed.{back}
+use Rattle.graph.specs.Delay.{Delay}
+use Rattle.timing.specs.Limits.{maxVertices, arrivalLimit, absentWide, fits}
+use Rattle.timing.specs.Table.{readCell, graphOf}
+use Rattle.timing.specs.Delays.{arrivalIn}
+use Rattle.reduction.specs.Run.{Try, round}
+use Rattle.paths.specs.declared.board.Board.{Board}
+use Rattle.paths.specs.Board.{Sized}
+use Rattle.plans.specs.declared.common.Seen.{Seen}
+use Rattle.plans.specs.Verdict.{differenceMeaning}
+use Rattle.plans.specs.Comparing.{compared, seen, settled}
+use Rattle.plans.proofs.Differences.{seen-none, seen-more, seen-clash, seen-common}
+use Rattle.run.specs.declared.side.Side.{Side}
+use Rattle.run.specs.Sides.{OnSide, firstOf, countOf, acrossOf, lineOf, placeOf, tryShare, shareTries}
+use Rattle.run.specs.Comparing.{comparedBy}
+use Rattle.run.specs.Running.{progress, Held}
+use Rattle.run.proofs.Lines.{side-fits, across-few, pairs-fit, place-in, held-line, near-line}
+use Rattle.run.proofs.PairTries.{firstsLeft, secondsLeft, firsts-all, firsts-done, seconds-all, seconds-done, seconds-same, seconds-other}
+use Rattle.run.proofs.Sharing.{Sharing, sharing-none, sharing-one, sharing-on, sharing-is}
+use Rattle.run.proofs.shares.shares.Statement.{statement}
+use Rattle.run.proofs.shares.shares.Tie as tie
+
+-- a row or column of the table's matrix
+abbrev line : Board → Side → List ℤ → ℕ → ℕ → Delay
+line board side table v = lineOf side (board .inputs) (board .vertices) (graphOf (board .vertices) table) v
+
+-- the number after the side's last vertex
+abbrev last : Board → Side → ℕ
+last board side = firstOf side (board .inputs) + countOf side (board .inputs) (board .outputs)
+
+abbrev atFirst : Board → Side → ℕ → ℕ → List Try
+atFirst board side a s = firstsLeft (tryShare (board .inputs) (board .outputs) (board .vertices) side s) (firstOf side (board .inputs)) (countOf side (board .inputs) (board .outputs)) a
+
+abbrev atSecond : Board → Side → ℕ → ℕ → ℕ → List Try
+atSecond board side a b s = secondsLeft (tryShare (board .inputs) (board .outputs) (board .vertices) side s) (firstOf side (board .inputs)) (countOf side (board .inputs) (board .outputs)) a b
+
+abbrev Inv-compare : tie.InvT-compare
+Inv-compare board table list scratch matrix side steps from end across fresh tally a b seen₀ j₀ sees j =
+    (j ≤ acrossOf side (board .inputs) (board .outputs)) × (sees ≡ seen j (line board side table a) (line board side table b))
+
+abbrev μ-compare : tie.MeasureT-compare
+μ-compare board table list scratch matrix side steps from end across fresh tally a b seen₀ j₀ sees j = acrossOf side (board .inputs) (board .outputs) - j
+
+abbrev Inv-seconds : tie.InvT-seconds
+Inv-seconds board table₀ list₀ scratch₀ matrix side steps from end across fresh tally₀ a b₀ table list scratch tally b =
+    (firstOf side (board .inputs) ≤ b) × (b ≤ last board side) × Sharing board matrix side (atSecond board side a (firstOf side (board .inputs))) table₀ scratch₀ (tally₀ .steps) (atSecond board side a b) table list scratch tally
+
+abbrev μ-seconds : tie.MeasureT-seconds
+μ-seconds board table₀ list₀ scratch₀ matrix side steps from end across fresh tally₀ a b₀ table list scratch tally b = last board side - b
+
+abbrev Inv-firsts : tie.InvT-firsts
+Inv-firsts board table₀ list₀ scratch₀ matrix side steps from end across fresh tally₀ a₀ table list scratch tally a =
+    (firstOf side (board .inputs) ≤ a) × (a ≤ last board side) × Sharing board matrix side (shareTries (board .inputs) (board .outputs) (board .vertices) side) table₀ scratch₀ steps (atFirst board side a) table list scratch tally
+
+abbrev μ-firsts : tie.MeasureT-firsts
+μ-firsts board table₀ list₀ scratch₀ matrix side steps from end across fresh tally₀ a₀ table list scratch tally a = last board side - a
+
+first-requires : tie.Need-first-requires Inv-compare μ-compare Inv-seconds μ-seconds Inv-firsts μ-firsts
+first-requires c κs = tt
+
+end-requires : tie.Need-end-requires Inv-compare μ-compare Inv-seconds μ-seconds Inv-firsts μ-firsts
+end-requires c κs = c .before .pre .0 .checked .lent .sized
+
+across-requires : tie.Need-across-requires Inv-compare μ-compare Inv-seconds μ-seconds Inv-firsts μ-firsts
+across-requires c κs = tt
+
+renew-requires : tie.Need-renew-requires Inv-compare μ-compare Inv-seconds μ-seconds Inv-firsts μ-firsts
+renew-requires c κs = let s = c .before .before .before .before .before in (s .pre .0 .checked, s .pre .2)
+
+-- before the loops
+module _ (r : tie.After-renew Inv-compare μ-compare Inv-seconds μ-seconds Inv-firsts μ-firsts) where
+  abbrev start : tie.Start Inv-compare μ-compare Inv-seconds μ-seconds Inv-firsts μ-firsts
+  start = r .before .before .before .before .before .before
+
+  abbrev board : Board
+  board = start .args .board
+
+  abbrev side : Side
+  side = start .args .side
+
+  abbrev m : ℕ
+  m = board .inputs
+
+  abbrev n : ℕ
+  n = board .outputs
+
+  from-is : r .before .before .before .before .before .first .result ≡ firstOf side m
+  from-is = r .before .before .before .before .before .first .ensures
+
+  end-is : r .before .before .before .before .end .result ≡ firstOf side m + countOf side m n
+  end-is = r .before .before .before .before .end .ensures
+
+  across-is : r .before .before .before .across .result ≡ acrossOf side m n
+  across-is = r .before .before .before .across .ensures
+
+  -- the side's vertices are few
+  end-few : firstOf side m + countOf side m n ≤ maxVertices
+  end-few = omega (arith, side-fits side board (start .pre .0 .checked .lent .sized))
+
+firsts-holds : tie.Need-firsts-holds Inv-compare μ-compare Inv-seconds μ-seconds Inv-firsts μ-firsts
+firsts-holds c =
+    let s = start c in (
+      omega (arith, from-is c),
+      omega (arith, from-is c),
+      sharing-none (record { steps = s .args .steps; fresh = c .renew .result }) (shareTries (m c) (n c) (s .args .board .vertices) (side c)) (atFirst (board c) (side c) (c .before .before .before .before .before .first .result)) (λ q. firsts-all (tryShare (m c) (n c) (s .args .board .vertices) (side c) q) (firstOf (side c) (m c)) (countOf (side c) (m c) (n c)) ∙ ap (λ (x : ℕ). atFirst (board c) (side c) x q) (sym (from-is c))) (s .pre .0) (s .pre .1) (c .renew .ensures),
+    )
+
+-- in a turn over a
+module _ (f : tie.In-firsts Inv-compare μ-compare Inv-seconds μ-seconds Inv-firsts μ-firsts) where
+  abbrev firsts : tie.At-firsts Inv-compare μ-compare Inv-seconds μ-seconds Inv-firsts μ-firsts
+  firsts = f .before
+
+  abbrev renewed : tie.After-renew Inv-compare μ-compare Inv-seconds μ-seconds Inv-firsts μ-firsts
+  renewed = firsts .before
+
+  abbrev a : ℕ
+  a = firsts .firsts .a
+
+  on-a : OnSide (board renewed) (side renewed) a
+  on-a = record { from = firsts .firsts .inv .0; below = omega (arith, f .firsts-test .taken, end-is renewed) }
+
+seconds-holds : tie.Need-seconds-holds Inv-compare μ-compare Inv-seconds μ-seconds Inv-firsts μ-firsts
+seconds-holds c =
+    let r = renewed c in
+    let h = firsts c .firsts .inv .2 in (
+      omega (arith, from-is r),
+      omega (arith, from-is r),
+      sharing-none (firsts c .firsts .tally) (atSecond (board r) (side r) (a c) (firstOf (side r) (m r))) (atSecond (board r) (side r) (a c) (r .before .before .before .before .before .first .result)) (λ q. ap (λ (x : ℕ). atSecond (board r) (side r) (a c) x q) (sym (from-is r))) (h .running) (h .held) (h .ready),
+    )
+
+-- in a turn over b
+module _ (k : tie.In-seconds Inv-compare μ-compare Inv-seconds μ-seconds Inv-firsts μ-firsts) where
+  abbrev seconds : tie.At-seconds Inv-compare μ-compare Inv-seconds μ-seconds Inv-firsts μ-firsts
+  seconds = k .before
+
+  abbrev turn : tie.In-firsts Inv-compare μ-compare Inv-seconds μ-seconds Inv-firsts μ-firsts
+  turn = seconds .before
+
+  abbrev b : ℕ
+  b = seconds .seconds .b
+
+  abbrev table : List ℤ
+  table = seconds .seconds .table
+
+  abbrev the-board : Board
+  the-board = board (renewed turn)
+
+  abbrev the-side : Side
+  the-side = side (renewed turn)
+
+  on-b : OnSide the-board the-side b
+  on-b = record { from = seconds .seconds .inv .0; below = omega (arith, k .seconds-test .taken, end-is (renewed turn)) }
+
+  -- the rows or columns that are compared
+  abbrev line-a : ℕ → Delay
+  line-a = line the-board the-side table (a turn)
+
+  abbrev line-b : ℕ → Delay
+  line-b = line the-board the-side table b
+
+compare-holds : tie.Need-compare-holds Inv-compare μ-compare Inv-seconds μ-seconds Inv-firsts μ-firsts
+compare-holds c = (omega arith, seen-none _ _)
+
+settle-requires : tie.Need-settle-requires Inv-compare μ-compare Inv-seconds μ-seconds Inv-firsts μ-firsts
+settle-requires c κs = tt
+
+-- in a turn of the comparison
+module _ (e : tie.Else2 Inv-compare μ-compare Inv-seconds μ-seconds Inv-firsts μ-firsts) where
+  abbrev compare : tie.At-compare Inv-compare μ-compare Inv-seconds μ-seconds Inv-firsts μ-firsts
+  compare = e .before
+
+  abbrev pair : tie.In-seconds Inv-compare μ-compare Inv-seconds μ-seconds Inv-firsts μ-firsts
+  pair = compare .before .before
+
+  abbrev j : ℕ
+  j = compare .compare .j
+
+  abbrev M : List ℤ
+  M = start (renewed (turn pair)) .args .matrix .now
+
+  inside : j < acrossOf (the-side pair) (the-board pair .inputs) (the-board pair .outputs)
+  inside = omega (arith, e .if2 .left, across-is (renewed (turn pair)))
+
+  held : Held (the-board pair) M (table pair)
+  held = seconds pair .seconds .inv .2 .held
+
+  sized : Sized (the-board pair)
+  sized = start (renewed (turn pair)) .pre .0 .checked .lent .sized
+
+  abbrev place-a : ℕ
+  place-a = placeOf (the-side pair) (the-board pair .inputs) (the-board pair .outputs) (a (turn pair)) j
+
+  abbrev place-b : ℕ
+  place-b = placeOf (the-side pair) (the-board pair .inputs) (the-board pair .outputs) (b pair) j
+
+  in-a : place-a < the-board pair .outputs * the-board pair .inputs
+  in-a = place-in (the-board pair) (the-side pair) (a (turn pair)) j (on-a (turn pair)) inside
+
+  in-b : place-b < the-board pair .outputs * the-board pair .inputs
+  in-b = place-in (the-board pair) (the-side pair) (b pair) j (on-b pair) inside
+
+place-requires : tie.Need-place-requires Inv-compare μ-compare Inv-seconds μ-seconds Inv-firsts μ-firsts
+place-requires c κs = (sized c, on-a (turn (pair c)), inside c)
+
+place-requires-2 : tie.Need-place-requires-2 Inv-compare μ-compare Inv-seconds μ-seconds Inv-firsts μ-firsts
+place-requires-2 c κs = let e = c .before in (sized e, on-b (pair e), inside e)
+
+mul-seen-next : tie.Need-mul-seen-next Inv-compare μ-compare Inv-seconds μ-seconds Inv-firsts μ-firsts
+mul-seen-next c = let e = c .before .before in omega (arith, in-a e, c .before .place .ensures, pairs-fit (sized e))
+
+shared-slice-copy-out-seen-next : tie.Need-shared-slice-copy-out-seen-next Inv-compare μ-compare Inv-seconds μ-seconds Inv-firsts μ-firsts
+shared-slice-copy-out-seen-next c = let e = c .before .before in omega (arith, in-a e, c .before .place .ensures, held e .room)
+
+mul-seen-next-2 : tie.Need-mul-seen-next-2 Inv-compare μ-compare Inv-seconds μ-seconds Inv-firsts μ-firsts
+mul-seen-next-2 c = let e = c .before .before .before in omega (arith, in-b e, c .before .place2 .ensures, pairs-fit (sized e))
+
+shared-slice-copy-out-seen-next-2 : tie.Need-shared-slice-copy-out-seen-next-2 Inv-compare μ-compare Inv-seconds μ-seconds Inv-firsts μ-firsts
+shared-slice-copy-out-seen-next-2 c = let e = c .before .before .before in omega (arith, in-b e, c .before .place2 .ensures, held e .room)
+
+-- the two cells, as the code has them
+module _ (c : tie.After-seen-next-arg2 Inv-compare μ-compare Inv-seconds μ-seconds Inv-firsts μ-firsts) where
+  abbrev here : tie.Else2 Inv-compare μ-compare Inv-seconds μ-seconds Inv-firsts μ-firsts
+  here = c .before .before .before .before
+
+  abbrev p : ℕ
+  p = c .before .before .before .place .result
+
+  abbrev q : ℕ
+  q = c .before .before .place2 .result
+
+  a-is : readCell absentWide (toZ w64 (ofZ w64 (getD (M here) p (pos 0)))) ≡ arrivalIn (M here) (place-a here)
+  a-is = ap (readCell absentWide) (back w64 (getD (M here) p (pos 0)) (c .before .seen-next-arg .given)) ∙ ap (arrivalIn (M here)) (c .before .before .before .place .ensures)
+
+  b-is : readCell absentWide (toZ w64 (ofZ w64 (getD (M here) q (pos 0)))) ≡ arrivalIn (M here) (place-b here)
+  b-is = ap (readCell absentWide) (back w64 (getD (M here) q (pos 0)) (c .seen-next-arg2 .given)) ∙ ap (arrivalIn (M here)) (c .before .before .place2 .ensures)
+
+seen-next-requires : tie.Need-seen-next-requires Inv-compare μ-compare Inv-seconds μ-seconds Inv-firsts μ-firsts
+seen-next-requires c κs =
+    let e = here c in
+    let k = pair e in (
+      subst (λ (d : Delay). T (fits arrivalLimit d)) (sym (a-is c)) (near-line (held e) (the-side k) (a (turn k)) (j e) (on-a (turn k)) (inside e)),
+      subst (λ (d : Delay). T (fits arrivalLimit d)) (sym (b-is c)) (near-line (held e) (the-side k) (b k) (j e) (on-b k) (inside e)),
+    )
+
+enum-told : tie.Need-enum-told Inv-compare μ-compare Inv-seconds μ-seconds Inv-firsts μ-firsts
+enum-told c = search needs
+
+add-j : tie.Need-add-j Inv-compare μ-compare Inv-seconds μ-seconds Inv-firsts μ-firsts
+add-j c = let e = here (c .before .before) in omega (arith, inside e, across-few (the-side (pair e)) (the-board (pair e)) (sized e))
+
+compare-less : tie.Need-compare-less Inv-compare μ-compare Inv-seconds μ-seconds Inv-firsts μ-firsts
+compare-less c = let e = here (c .before .before) in omega (arith, inside e)
+
+-- what is seen after the turn
+turned : (c : tie.After-seen-next Inv-compare μ-compare Inv-seconds μ-seconds Inv-firsts μ-firsts) → let k = pair (here (c .before)) in c .seen-next .result ≡ seen (j (here (c .before)) + 1) (line-a k) (line-b k)
+turned c =
+    let e = here (c .before) in
+    let k = pair e in
+    c .seen-next .ensures
+    ∙ (λ i. compared (compare e .compare .inv .1 i)
+    ((a-is (c .before) ∙ held-line (held e) (the-side k) (a (turn k)) (j e) (on-a (turn k)) (inside e)) i)
+    ((b-is (c .before) ∙ held-line (held e) (the-side k) (b k) (j e) (on-b k) (inside e)) i))
+    ∙ seen-more (line-a k) (line-b k) (j e)
+
+compare-again : tie.Need-compare-again Inv-compare μ-compare Inv-seconds μ-seconds Inv-firsts μ-firsts
+compare-again c = (omega (arith, inside (here (c .before .before))), turned (c .before))
+
+-- where the ways out of the comparison meet, its answer
+answered : (c : tie.Joined2 Inv-compare μ-compare Inv-seconds μ-seconds Inv-firsts μ-firsts) → let k = c .before .before .before in differenceMeaning (c .if2 .difference) ≡ comparedBy (the-side k) (the-board k) (table k) (a (turn k)) (b k)
+answered c =
+    let l = c .before in
+    let k = l .before .before in
+    let total = acrossOf (the-side k) (the-board k .inputs) (the-board k .outputs) in
+    split (c .if2 .came)
+    (λ w.
+    let e : l .compare .j ≡ total = omega (arith, w .0 .taken, l .compare .inv .0, across-is (renewed (turn k))) in
+    ap differenceMeaning (w .2 ∙ w .1 .ensures ∙ ap settled (l .compare .inv .1 ∙ ap (λ (x : ℕ). seen x (line-a k) (line-b k)) e)) ∙ seen-common (line-a k) (line-b k) total)
+    (λ w.
+    let p : tie.After-seen-next Inv-compare μ-compare Inv-seconds μ-seconds Inv-firsts μ-firsts = record { before = record { before = record { before = record { before = record { before = record { before = l; if2 = w .0 }; place = w .1 }; place2 = w .2 }; seen-next-arg = w .3 }; seen-next-arg2 = w .4 }; seen-next = w .5 } in
+    ap differenceMeaning (w .8) ∙ sym (ap (λ (s : Seen). differenceMeaning (settled s)) (seen-clash (line-a k) (line-b k) (l .compare .j + 1) total (omega (arith, inside (here (p .before)))) (sym (turned p) ∙ w .7 .given .1)))
+    ∙ seen-common (line-a k) (line-b k) total)
+
+try-share-requires : tie.Need-try-share-requires Inv-compare μ-compare Inv-seconds μ-seconds Inv-firsts μ-firsts
+try-share-requires c κs =
+    let l = c .before .before .before .before in
+    let k = l .before .before in
+    let h = seconds k .seconds .inv .2 in
+    let f = firsts (turn k) .firsts .inv .2 in
+    let pre = start (renewed (turn k)) .pre in
+    (h .running, h .ready, record { one = on-a (turn k); other = on-b k; two = l .before .if1 .taken }, answered (c .before .before .before), omega (arith, pre .3, h .scratch-long, f .scratch-long))
+
+add-b : tie.Need-add-b Inv-compare μ-compare Inv-seconds μ-seconds Inv-firsts μ-firsts
+add-b c = let k = c .before in omega (arith, on-b k .below, end-few (renewed (turn k)))
+
+seconds-less : tie.Need-seconds-less Inv-compare μ-compare Inv-seconds μ-seconds Inv-firsts μ-firsts
+seconds-less c = omega (arith, on-b (c .before) .below)
+
+seconds-again : tie.Need-seconds-again Inv-compare μ-compare Inv-seconds μ-seconds Inv-firsts μ-firsts
+seconds-again c =
+    let k = c .before in
+    let r = renewed (turn k) in
+    let h = seconds k .seconds .inv .2 in
+    let old = atSecond (board r) (side r) (a (turn k)) (b k) in
+    let new = atSecond (board r) (side r) (a (turn k)) (b k + 1) in (
+      omega (arith, on-b k .from),
+      omega (arith, on-b k .below),
+      split (c .if1 .came)
+          (λ w. sharing-is (w .9) (w .10) (w .11) (w .12) (sharing-on h
+          (sharing-one (seconds k .seconds .tally) (a (turn k)) (b k) old new (λ q. seconds-other (tryShare (m r) (n r) (board r .vertices) (side r) q) (firstOf (side r) (m r)) (countOf (side r) (m r) (n r)) (a (turn k)) (b k) (on-b k .below) (w .0 .taken))
+          (h .running) (h .held) _ _ _ _ (w .6 .ensures .0) (w .6 .ensures .1 .0) (w .6 .kept .1 .1 .1 .0) (w .6 .ensures .1 .1))))
+          (λ w. sharing-is (w .1) (w .2) (w .3) (w .4) (sharing-on h
+          (sharing-none (seconds k .seconds .tally) old new (λ q. seconds-same (tryShare (m r) (n r) (board r .vertices) (side r) q) (firstOf (side r) (m r)) (countOf (side r) (m r) (n r)) (a (turn k)) (b k) (on-b k .below) (w .0 .left)) (h .running) (h .held) (h .ready)))),
+    )
+
+add-a : tie.Need-add-a Inv-compare μ-compare Inv-seconds μ-seconds Inv-firsts μ-firsts
+add-a c = let f = c .before .before in omega (arith, on-a f .below, end-few (renewed f))
+
+firsts-less : tie.Need-firsts-less Inv-compare μ-compare Inv-seconds μ-seconds Inv-firsts μ-firsts
+firsts-less c = omega (arith, on-a (c .before .before) .below)
+
+firsts-again : tie.Need-firsts-again Inv-compare μ-compare Inv-seconds μ-seconds Inv-firsts μ-firsts
+firsts-again c =
+    let l = c .before in
+    let f = l .before in
+    let r = renewed f in
+    let h = firsts f .firsts .inv .2 in
+    let k = l .seconds .inv .2 in
+    let begun = sharing-none (firsts f .firsts .tally) (atFirst (board r) (side r) (a f)) (atSecond (board r) (side r) (a f) (firstOf (side r) (m r))) (λ q. seconds-all (tryShare (m r) (n r) (board r .vertices) (side r) q) (firstOf (side r) (m r)) (countOf (side r) (m r) (n r)) (a f) (on-a f .below)) (h .running) (h .held) (h .ready) in
+    let ended = sharing-none (l .seconds .tally) (atSecond (board r) (side r) (a f) (l .seconds .b)) (atFirst (board r) (side r) (a f + 1)) (λ q. seconds-done (tryShare (m r) (n r) (board r .vertices) (side r) q) (firstOf (side r) (m r)) (countOf (side r) (m r) (n r)) (a f) (l .seconds .b) (omega (arith, c .seconds-test .left, end-is r))) (k .running) (k .held) (k .ready) in
+    (omega (arith, on-a f .from), omega (arith, on-a f .below), sharing-on (sharing-on (sharing-on h begun) k) ended)
+
+same-length : tie.Need-same-length Inv-compare μ-compare Inv-seconds μ-seconds Inv-firsts μ-firsts
+same-length c = c .before .firsts .inv .2 .long
+
+same-length-2 : tie.Need-same-length-2 Inv-compare μ-compare Inv-seconds μ-seconds Inv-firsts μ-firsts
+same-length-2 c = c .before .firsts .inv .2 .scratch-long
+
+returns : tie.Need-returns Inv-compare μ-compare Inv-seconds μ-seconds Inv-firsts μ-firsts
+unfolding round
+returns c =
+    let h = c .before .firsts .inv .2 in
+    let r = c .before .before in
+    let l = c .before .firsts in
+    let none : (q : ℕ) → atFirst (board r) (side r) (l .a) q ≡ [] = λ q. firsts-done (tryShare (m r) (n r) (board r .vertices) (side r) q) (firstOf (side r) (m r)) (countOf (side r) (m r) (n r)) (l .a) (omega (arith, c .firsts-test .left, end-is r)) in
+    (λ q room. sym (h .way q room) ∙ ap (λ (qs : List Try). round qs (progress (l .table) (l .tally .steps))) (none q), ((h .ready .long, h .ready .order), h .past))
+
+pub shares-spec : {M : Type 1} → statement M
+shares-spec =
+    tie.close
+    (tie.spec
+    Inv-compare
+    μ-compare
+    Inv-seconds
+    μ-seconds
+    Inv-firsts
+    μ-firsts
+    first-requires
+    end-requires
+    across-requires
+    renew-requires
+    firsts-holds
+    seconds-holds
+    compare-holds
+    settle-requires
+    place-requires
+    place-requires-2
+    mul-seen-next
+    shared-slice-copy-out-seen-next
+    mul-seen-next-2
+    shared-slice-copy-out-seen-next-2
+    seen-next-requires
+    enum-told
+    add-j
+    compare-less
+    compare-again
+    try-share-requires
+    add-b
+    seconds-less
+    seconds-again
+    add-a
+    firsts-less
+    firsts-again
+    same-length
+    same-length-2
+    returns)

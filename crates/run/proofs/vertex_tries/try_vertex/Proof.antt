@@ -1,0 +1,77 @@
+use borrow.Author.Needs.{needs}
+use mathlib.Core.Path.{_≡_, sym, subst}
+use mathlib.Core.Bool.{Bool}
+use mathlib.Core.List.{List}
+use Prim.Native.Nat.{ℕ}
+use lib.IntN.{ℤ}
+use Rattle.timing.specs.Table.{graphOf}
+use Rattle.paths.specs.declared.board.Board.{Board}
+use Rattle.plans.specs.declared.verdict.Fit.{Fit}
+use Rattle.steps.specs.Reduces.{newTable, Applies}
+use Rattle.run.specs.declared.vertex_tries.VertexStep.{VertexStep}
+use Rattle.run.specs.Accepted.{wasAccepted}
+use Rattle.run.specs.Running.{Tries}
+use Rattle.run.specs.VertexSteps.{vertexStep}
+use Rattle.run.proofs.Applied.{applied-tries}
+use Rattle.run.proofs.vertex_tries.try_vertex.Statement.{statement}
+use Rattle.run.proofs.vertex_tries.try_vertex.Tie as tie
+
+-- the try of the kind that the code has found
+named : (b : Board) (t : List ℤ) (v : ℕ) (kind k : VertexStep) → kind ≡ k → (after : List ℤ) (fit : Fit) (r : Bool)
+    → Applies (newTable (vertexStep k v) t (b .inputs) (b .outputs) (b .vertices) (graphOf (b .vertices) t)) t after fit → r ≡ wasAccepted fit
+    → Tries (newTable (vertexStep kind v) t (b .inputs) (b .outputs) (b .vertices) (graphOf (b .vertices) t)) t after r
+named b t v kind k e after fit r h q =
+    subst (λ (x : VertexStep). Tries (newTable (vertexStep x v) t (b .inputs) (b .outputs) (b .vertices) (graphOf (b .vertices) t)) t after r) (sym e) (applied-tries b t (vertexStep k v) after fit r h q)
+
+enum-told : tie.Need-enum-told
+enum-told c = search needs
+
+apply-shrink-requires : tie.Need-apply-shrink-requires
+apply-shrink-requires c κs = search needs
+
+accepted-requires : tie.Need-accepted-requires
+accepted-requires c κs = search needs
+
+enum-told-2 : tie.Need-enum-told-2
+enum-told-2 c = search needs
+
+apply-merge-back-requires : tie.Need-apply-merge-back-requires
+apply-merge-back-requires c κs = search needs
+
+accepted-requires-2 : tie.Need-accepted-requires-2
+accepted-requires-2 c κs = search needs
+
+same-length : tie.Need-same-length
+same-length c = search needs
+
+returns : tie.Need-returns
+returns c =
+    let a = c .before .before in
+    let k = a .before .before in
+    let s = k .before .before in
+    named (s .args .board) (s .args .table .now) (s .args .v) _ _ (k .enum-told .given .1) (a .apply-shrink .last .1 .0) (a .apply-shrink .result) _ (a .apply-shrink .ensures) (c .accepted .ensures)
+
+same-length-2 : tie.Need-same-length-2
+same-length-2 c = search needs
+
+returns-2 : tie.Need-returns-2
+returns-2 c =
+    let a = c .before .before in
+    let k = a .before .before in
+    let s = k .before .before in
+    named (s .args .board) (s .args .table .now) (s .args .v) _ _ (k .enum-told2 .given .1) (a .apply-merge-back .last .1 .0) (a .apply-merge-back .result) _ (a .apply-merge-back .ensures) (c .accepted2 .ensures)
+
+pub try-vertex-spec : {M : Type 1} → statement M
+try-vertex-spec =
+    tie.close
+    (tie.spec
+    enum-told
+    apply-shrink-requires
+    accepted-requires
+    enum-told-2
+    apply-merge-back-requires
+    accepted-requires-2
+    same-length
+    returns
+    same-length-2
+    returns-2)

@@ -1,0 +1,49 @@
+-- A run under way.
+use mathlib.Core.Path.{_≡_}
+use mathlib.Core.Bool.{Bool, true, false, not}
+use mathlib.Core.List.{List}
+use Prim.Native.Nat.{ℕ, _+_, _*_, _≤_, _<_}
+use lib.Dec.{T}
+use lib.IntN.{ℤ}
+use lib.ListN.{length}
+use Rattle.graph.specs.Graph.{Graph}
+use Rattle.graph.specs.Count.{arcs}
+use Rattle.timing.specs.Limits.{maxVertices, arrivalLimit, scratchCells, fits}
+use Rattle.timing.specs.Refusal.{Verdict, accepted, isAccepted}
+use Rattle.timing.specs.Table.{graphOf}
+use Rattle.timing.specs.Delays.{matrix, arrivalIn}
+use Rattle.reduction.specs.Run.{Progress, Try, round, freshNumber}
+use Rattle.paths.specs.declared.board.Board.{Board}
+use Rattle.paths.specs.Arrivals.{Passable}
+use Rattle.steps.specs.Reduces.{Checked}
+use Rattle.run.specs.declared.side.Side.{Side}
+use Rattle.run.specs.declared.side.Side.the-variants.{Inputs, Outputs}
+
+abbrev pub progress : List ℤ → ℕ → Progress
+progress t c = record { table = t; steps = c }
+
+-- the table passes its checks, and each step so far has cost it an arc
+pub record Running (b : Board) (p : Progress) : Type 0 where
+  pub checked : Checked b (p .table)
+  pub bound : arcs (b .vertices) (graphOf (b .vertices) (p .table)) + p .steps ≤ maxVertices * maxVertices
+
+-- the cells M begin with the table's delay matrix, row by row
+pub record Held (b : Board) (M t : List ℤ) : Type 0 where
+  pub room : b .outputs * b .inputs ≤ length M
+  pub cells : (i j : ℕ) → i < b .inputs → j < b .outputs → arrivalIn M (b .outputs * i + j) ≡ matrix (b .inputs) (b .vertices) (graphOf (b .vertices) t) i j
+  pub near : (i j : ℕ) → i < b .inputs → j < b .outputs → T (fits arrivalLimit (matrix (b .inputs) (b .vertices) (graphOf (b .vertices) t) i j))
+
+-- what a side's tries need of the table as it is: inputs the smallest free number k, outputs a topological order o
+pub record Ready (side : Side) (b : Board) (t : List ℤ) (o : List ℕ) (k : ℕ) : Type 0 where
+  pub long : length o ≡ maxVertices
+  pub fresh : side ≡ Inputs → k ≡ freshNumber (b .inputs) (b .outputs) (b .vertices) (graphOf (b .vertices) t)
+  pub order : side ≡ Outputs → Passable b t o
+
+-- r says whether v is accepted, and the table is then v's; a refused try changes no cell
+pub record Tries (v : Verdict (List ℤ)) (before after : List ℤ) (r : Bool) : Type 0 where
+  pub taken : r ≡ true → v ≡ accepted after
+  pub refused : r ≡ false → T (not (isAccepted v)) × (after ≡ before)
+
+-- the tries qs lead from p to q, with any scratch that is long enough
+abbrev pub Reaches : ℕ → (ℕ → List Try) → Progress → Progress → Type 0
+Reaches N qs p q = (s : ℕ) → scratchCells N ≤ s → round (qs s) p ≡ q

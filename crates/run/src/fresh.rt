@@ -1,0 +1,43 @@
+// What a side's tries need of the table as it is.
+use crate::side::Side;
+use paths::Board;
+use paths::order;
+use plans::rows;
+ghost use mathlib.Core.Path.{_≡_};
+ghost use lib.ListN.{length};
+ghost use Rattle.timing.specs.Limits.{maxVertices};
+ghost use Rattle.timing.specs.Table.{graphOf};
+ghost use Rattle.reduction.specs.Run.{freshNumber};
+ghost use Rattle.paths.specs.Board.{Lent};
+ghost use Rattle.steps.specs.Reduces.{Checked};
+ghost use Rattle.run.specs.Running.{Ready};
+
+// The smallest inner number not in use; N where there is none.
+pub fn fresh_number(board: Board, table: &[i32]) -> usize
+    requires { ⌜ Lent board (now table) ⌝ }
+    ensures { λ r. ⌜ r ≡ freshNumber (board .inputs) (board .outputs) (board .vertices) (graphOf (board .vertices) (now (table .entry))) ⌝ }
+{
+    let n = board.vertices;
+    let mut k = board.inputs + board.outputs;
+    while k < n {
+        if rows::is_free(board, table, k) {
+            return k;
+        }
+        k += 1;
+    }
+    n
+}
+
+// Inputs need the smallest free number, outputs a topological order.
+pub fn renew(board: Board, table: &[i32], list: &mut [u8; Board::MAX_VERTICES], side: Side) -> usize
+    requires { ⌜ Checked board (now table) × (length (now list) ≡ maxVertices) ⌝ }
+    ensures { λ r. ⌜ Ready side board (now (table .entry)) (now (list .exit)) r ⌝ }
+{
+    match side {
+        Side::Inputs => fresh_number(board, table),
+        Side::Outputs => {
+            order::topological_order(board, table, list);
+            board.vertices
+        }
+    }
+}
