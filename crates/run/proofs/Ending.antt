@@ -1,19 +1,19 @@
 -- The rounds as the loop makes them: one accepts nothing and is the last, or it leaves fewer arcs.
 use mathlib.Core.Path.{_≡_, sym, ap, _∙_, subst}
 use mathlib.Core.Logic.{_≢_}
-use mathlib.Core.Bool.{Bool, false, not, cond}
+use mathlib.Core.Bool.{Bool, true, false, not, cond}
 use mathlib.Core.List.{List}
 use Prim.Native.Nat.{ℕ, suc, _<_}
 use native.Mathlib.Omega.{arith}
-use lib.Dec.{T, eqb}
+use lib.Dec.{T, eqb, eqb→eq}
 use lib.IntN.{ℤ}
-use Rattle.laws.proofs.Booleans.{eqb-same, eqb-other}
+use Rattle.laws.proofs.Booleans.{cases, true-is, eqb-same, eqb-other, neqb→ne}
 use Rattle.graph.specs.Count.{arcs}
 use Rattle.timing.specs.Table.{graphOf}
 use Rattle.timing.specs.declared.Refusal.{Refusal}
 use Rattle.timing.specs.Refusal.{Verdict, accepted}
 use Rattle.reduction.specs.Outcome.{Reduced}
-use Rattle.reduction.specs.Run.{Progress, Try, round, rounds, tries, reduce, runCall}
+use Rattle.reduction.specs.Run.{Progress, round, rounds, tries, reduce, runCall}
 use Rattle.reduction.proofs.Rounds.{round-less, fuel-enough}
 use Rattle.reduction.proofs.Run.{tries-gain}
 use Rattle.paths.specs.declared.board.Board.{Board}
@@ -32,7 +32,7 @@ module _ (m n N s : ℕ) (p q : Progress) (way : round (tries m n N s) p ≡ q) 
   abbrev arcsAt : Progress → ℕ
   arcsAt x = arcs N (graphOf N (x .table))
 
-  pub last-round : q .steps ≡ p .steps → rounds (suc (arcs N (graphOf N (p .table)))) (tries m n N s) p ≡ q
+  last-round : q .steps ≡ p .steps → rounds (suc (arcs N (graphOf N (p .table)))) (tries m n N s) p ≡ q
   unfolding rounds
   last-round e = rw (ap (λ (x : Progress). eqb (x .steps) (p .steps)) way ∙ ap (λ (x : ℕ). eqb x (p .steps)) e ∙ eqb-same (p .steps)) way
 
@@ -40,15 +40,36 @@ module _ (m n N s : ℕ) (p q : Progress) (way : round (tries m n N s) p ≡ q) 
     other : eqb (round (tries m n N s) p .steps) (p .steps) ≡ false
     other = ap (λ (x : Progress). eqb (x .steps) (p .steps)) way ∙ eqb-other (q .steps) (p .steps) ne
 
-    pub fewer-arcs : arcs N (graphOf N (q .table)) < arcs N (graphOf N (p .table))
+    fewer-arcs : arcs N (graphOf N (q .table)) < arcs N (graphOf N (p .table))
     fewer-arcs = subst (λ (x : Progress). arcsAt x < arcsAt p) way (round-less m n N (tries m n N s) (tries-gain m n N s) (arcsAt p) p (omega arith) (subst (λ (x : Bool). T (not x)) (sym other) tt))
 
-    pub next-round : rounds (suc (arcs N (graphOf N (q .table)))) (tries m n N s) q ≡ rounds (suc (arcs N (graphOf N (p .table)))) (tries m n N s) p
+    next-round : rounds (suc (arcs N (graphOf N (q .table)))) (tries m n N s) q ≡ rounds (suc (arcs N (graphOf N (p .table)))) (tries m n N s) p
     unfolding rounds
     next-round =
         fuel-enough m n N (tries m n N s) (tries-gain m n N s) (suc (arcsAt q)) (arcsAt p) q (omega arith) fewer-arcs
         ∙ ap (rounds (arcsAt p) (tries m n N s)) (sym way)
         ∙ sym (ap (λ (x : Bool). cond x (round (tries m n N s) p) (rounds (arcsAt p) (tries m n N s) (round (tries m n N s) p))) other)
+
+-- where the loop stands: more rounds lead to the goal, or it is reached
+abbrev pub Toward : ℕ → ℕ → ℕ → ℕ → Progress → Bool → Progress → Type 0
+Toward m n N s goal true p = rounds (suc (arcs N (graphOf N (p .table)))) (tries m n N s) p ≡ goal
+Toward m n N s goal false p = p ≡ goal
+
+-- each round costs an arc, or is the last
+abbrev pub roundsLeft : ℕ → Bool → List ℤ → ℕ
+roundsLeft N true t = suc (arcs N (graphOf N t))
+roundsLeft N false t = 0
+
+module _ (m n N s : ℕ) (p q : Progress) (way : round (tries m n N s) p ≡ q) where
+  pub toward-next : (goal : Progress) → Toward m n N s goal true p → Toward m n N s goal (not (eqb (q .steps) (p .steps))) q
+  toward-next goal h = cases (eqb (q .steps) (p .steps))
+      (λ e. subst (λ (x : Bool). Toward m n N s goal (not x) q) (sym e) (sym (last-round m n N s p q way (eqb→eq (q .steps) (p .steps) (true-is e))) ∙ h))
+      (λ e. subst (λ (x : Bool). Toward m n N s goal (not x) q) (sym e) (next-round m n N s p q way (neqb→ne (q .steps) (p .steps) (subst (λ (x : Bool). T (not x)) (sym e) tt)) ∙ h))
+
+  pub fewer-left : roundsLeft N (not (eqb (q .steps) (p .steps))) (q .table) < suc (arcs N (graphOf N (p .table)))
+  fewer-left = cases (eqb (q .steps) (p .steps))
+      (λ e. subst (λ (x : Bool). roundsLeft N (not x) (q .table) < suc (arcs N (graphOf N (p .table)))) (sym e) (omega arith))
+      (λ e. subst (λ (x : Bool). roundsLeft N (not x) (q .table) < suc (arcs N (graphOf N (p .table)))) (sym e) (omega (arith, fewer-arcs m n N s p q way (neqb→ne (q .steps) (p .steps) (subst (λ (x : Bool). T (not x)) (sym e) tt)))))
 
 -- what the loop answers
 pub runs-done : (m n N s : ℕ) (t after : List ℤ) (c a : ℕ) → reduce m n N s t ≡ progress after c → a ≡ arcs N (graphOf N after) → Runs (runOn s t m n N) t after (R.Accepted c a)

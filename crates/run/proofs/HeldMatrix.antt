@@ -1,17 +1,16 @@
 -- A run's start: the matrix has been computed, and no step is accepted yet.
-use mathlib.Core.Path.{_≡_, sym, ap, _∙_, subst}
+use mathlib.Core.Path.{_≡_, ap, _∙_, subst}
 use mathlib.Core.List.{List, _++_}
-use Prim.Native.Nat.{ℕ, _+_, _*_, _≤_, _<_}
+use Prim.Native.Nat.{ℕ, _+_, _*_, _<_}
 use native.Mathlib.Omega.{arith}
 use lib.Dec.{T}
 use lib.IntN.{ℤ, pos}
-use lib.ListN.{length, getD, length-append}
+use lib.ListN.{length, length-append}
 use Rattle.laws.specs.Lists.{rows}
 use Rattle.laws.proofs.Grid.{area}
 use Rattle.laws.proofs.Lists.{length-rows, cell-rows}
 use Rattle.graph.specs.Delay.{Delay}
 use Rattle.graph.specs.Graph.{longest, walk}
-use Rattle.graph.specs.Count.{arcs}
 use Rattle.graph.proofs.Presence.{arcs-few}
 use Rattle.graph.proofs.Closure.{walk-other}
 use Rattle.timing.specs.Limits.{maxVertices, arrivalLimit, absentWide, fits}

@@ -1,6 +1,6 @@
 -- Tries on a table that has passed its checks, and what a run keeps.
 use mathlib.Core.Path.{_≡_, refl, sym, ap, _∙_, subst}
-use mathlib.Core.Bool.{Bool, true, false, not, cond, _&&_}
+use mathlib.Core.Bool.{Bool, true, false, not, _&&_}
 use mathlib.Core.List.{List, [], _∷_, _++_}
 use Prim.Native.Nat.{ℕ, _+_, _*_, _≤_, _<_}
 use native.Mathlib.Omega.{arith}
@@ -10,9 +10,8 @@ use lib.ListN.{length}
 use Rattle.laws.proofs.Booleans.{and-i, and-e, cond-elim}
 use Rattle.graph.specs.Delay.{Delay}
 use Rattle.graph.specs.Graph.{Graph}
-use Rattle.graph.specs.Count.{arcs}
 use Rattle.timing.specs.Limits.{maxVertices, arrivalLimit, scratchCells, fits}
-use Rattle.timing.specs.Refusal.{Verdict, refused, accepted, isAccepted, _then_}
+use Rattle.timing.specs.Refusal.{Verdict, refused, accepted, _then_}
 use Rattle.timing.specs.Table.{graphOf, withGraph}
 use Rattle.timing.specs.Checks.{sizesFit}
 use Rattle.timing.specs.declared.Refusal.the-variants.{WrongVertex}
@@ -25,7 +24,6 @@ use Rattle.reduction.specs.Run.{Progress, Attempt, skipped, tried, Try, attempt
 use Rattle.reduction.proofs.Kept.{Gain, step-parts}
 use Rattle.reduction.proofs.Rounds.{All, Gains}
 use Rattle.paths.specs.declared.board.Board.{Board}
-use Rattle.paths.specs.Board.{Sized}
 use Rattle.steps.specs.Reduces.{newTable, Checked}
 use Rattle.run.specs.declared.side.Side.{Side}
 use Rattle.run.specs.declared.side.Side.the-variants.{Inputs, Outputs}

@@ -1,5 +1,5 @@
 -- The parts of a round, one after another.
-use mathlib.Core.Path.{_≡_, ap, _∙_}
+use mathlib.Core.Path.{ap, _∙_}
 use mathlib.Core.List.{List, [], _∷_, _++_}
 use Prim.Native.Nat.{ℕ}
 use Rattle.reduction.specs.Steps.{prune}

@@ -6,7 +6,6 @@ use Prim.Native.Nat.{ℕ, _+_, _*_, _≤_, _<_}
 use lib.Dec.{T}
 use lib.IntN.{ℤ}
 use lib.ListN.{length}
-use Rattle.graph.specs.Graph.{Graph}
 use Rattle.graph.specs.Count.{arcs}
 use Rattle.timing.specs.Limits.{maxVertices, arrivalLimit, scratchCells, fits}
 use Rattle.timing.specs.Refusal.{Verdict, accepted, isAccepted}

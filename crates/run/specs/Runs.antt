@@ -3,7 +3,6 @@ use mathlib.Core.Path.{_≡_}
 use mathlib.Core.List.{List}
 use Prim.Native.Nat.{ℕ}
 use lib.IntN.{ℤ}
-use Rattle.graph.specs.Graph.{Graph}
 use Rattle.graph.specs.Count.{arcs}
 use Rattle.timing.specs.Refusal.{number, Verdict, refused, accepted}
 use Rattle.timing.specs.Table.{graphOf}

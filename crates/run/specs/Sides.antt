@@ -1,6 +1,6 @@
 -- The two sides of the delay matrix: share inputs compares its rows, share outputs its columns.
 use mathlib.Core.List.{List}
-use Prim.Native.Nat.{ℕ, zero, _+_, _-_, _*_, _≤_, _<_}
+use Prim.Native.Nat.{ℕ, _+_, _-_, _*_, _≤_, _<_}
 use Rattle.graph.specs.Delay.{Delay}
 use Rattle.graph.specs.Graph.{Graph}
 use Rattle.timing.specs.Delays.{matrix, column}

@@ -30,13 +30,14 @@ fn rounds(
     let mut matrix = [0i64; Board::MAX_PAIRS];
     queries::fill_matrix(board, table, list, scratch, &mut matrix);
     let mut steps = 0;
-    loop {
+    let mut more = true;
+    while more {
         let after = round::round(board, table, list, scratch, &matrix, steps);
-        if after == steps {
-            return Ran::Accepted(steps, cells::arcs(board, table));
-        }
+        more = after != steps;
         steps = after;
     }
+    let left = cells::arcs(board, table);
+    Ran::Accepted(steps, left)
 }
 
 // Reduces the table by rounds of share inputs, share outputs, prune, shrink and merge back.

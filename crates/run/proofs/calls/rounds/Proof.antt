@@ -1,34 +1,31 @@
-use borrow.Author.Needs.{needs}
-use mathlib.Core.Path.{_≡_, refl, sym, ap, _∙_}
-use mathlib.Core.List.{List}
-use Prim.Native.Nat.{ℕ, suc, _≤_}
+use mathlib.Core.Path.{_≡_, refl, sym, _∙_, subst}
+use mathlib.Core.Bool.{Bool, true, not}
+use Prim.Native.Nat.{ℕ, _≤_, _<_}
 use native.Mathlib.Omega.{arith}
-use lib.IntN.{ℤ}
+use lib.Dec.{eqb}
 use lib.ListN.{length, drop}
-use Rattle.graph.specs.Count.{arcs}
 use Rattle.laws.proofs.Grid.{square}
 use Rattle.timing.specs.Limits.{maxVertices, scratchCells}
-use Rattle.timing.specs.Table.{graphOf}
-use Rattle.reduction.specs.Run.{Progress, rounds, tries, reduce}
+use Rattle.reduction.specs.Run.{Progress, tries, reduce}
 use Rattle.reduction.proofs.Run.{tries-gain}
 use Rattle.paths.specs.declared.board.Board.{Board}
 use Rattle.paths.proofs.Answering.{drop-further}
 use Rattle.run.specs.Running.{progress, Running, Held}
-use Rattle.run.proofs.Moving.{running-on, held-on, same-length-on}
-use Rattle.run.proofs.Ending.{last-round, fewer-arcs, next-round, runs-done}
+use Rattle.run.proofs.Moving.{running-on, held-on}
+use Rattle.run.proofs.Ending.{Toward, roundsLeft, toward-next, fewer-left, runs-done}
 use Rattle.run.proofs.HeldMatrix.{held-start, running-start}
 use Rattle.run.proofs.Lines.{pairs-fit}
 use Rattle.run.proofs.calls.rounds.Statement.{statement}
 use Rattle.run.proofs.calls.rounds.Tie as tie
 
 abbrev Inv-loop : tie.InvT-loop
-Inv-loop board table₀ list₀ scratch₀ matrix steps₀ table list scratch steps =
+Inv-loop board table₀ list₀ scratch₀ matrix steps₀ more₀ table list scratch steps more =
     Running board (progress table steps) × Held board matrix table × (length list ≡ maxVertices) × (length table ≡ length table₀) × (length scratch ≡ length scratch₀)
     × (drop (scratchCells (board .vertices)) scratch ≡ drop (scratchCells (board .vertices)) scratch₀)
-    × ((s : ℕ) → scratchCells (board .vertices) ≤ s → rounds (suc (arcs (board .vertices) (graphOf (board .vertices) table))) (tries (board .inputs) (board .outputs) (board .vertices) s) (progress table steps) ≡ reduce (board .inputs) (board .outputs) (board .vertices) s table₀)
+    × ((s : ℕ) → scratchCells (board .vertices) ≤ s → Toward (board .inputs) (board .outputs) (board .vertices) s (reduce (board .inputs) (board .outputs) (board .vertices) s table₀) more (progress table steps))
 
 abbrev μ-loop : tie.MeasureT-loop
-μ-loop board table₀ list₀ scratch₀ matrix steps₀ table list scratch steps = arcs (board .vertices) (graphOf (board .vertices) table)
+μ-loop board table₀ list₀ scratch₀ matrix steps₀ more₀ table list scratch steps more = roundsLeft (board .vertices) more table
 
 slice-aggregate-fill-matrix : tie.Need-slice-aggregate-fill-matrix Inv-loop μ-loop
 slice-aggregate-fill-matrix c = refl
@@ -43,12 +40,20 @@ loop-holds c =
     let s = f .before .before .before .before .before in
     (running-start (s .pre .0), held-start (s .pre .0) _ _ (f .fill-matrix .ensures .0), s .pre .1, refl, refl, refl, λ q room. refl)
 
+-- the scratch after the matrix is there
+past-filled : (f : tie.After-fill-matrix Inv-loop μ-loop) → let a = f .before .before .before .before .before in
+    drop (scratchCells (a .args .board .vertices)) (f .fill-matrix .last .1 .1 .1 .0) ≡ drop (scratchCells (a .args .board .vertices)) (a .args .scratch .now)
+past-filled f =
+    let a = f .before .before .before .before .before in
+    let N = a .args .board .vertices in
+    drop-further N (scratchCells N) (a .args .scratch .now) (f .fill-matrix .last .1 .1 .1 .0) (square N (omega (arith, a .pre .0 .lent .sized .roles, a .pre .0 .lent .sized .some-inputs))) (f .fill-matrix .ensures .1)
+
 slice-aggregate-round : tie.Need-slice-aggregate-round Inv-loop μ-loop
-slice-aggregate-round c = sym (c .before .before .before .before .before .before .before .fill-matrix .kept .1 .1 .1 .1 .0)
+slice-aggregate-round c = sym (c .before .before .before .before .before .before .before .before .fill-matrix .kept .1 .1 .1 .1 .0)
 
 round-requires : tie.Need-round-requires Inv-loop μ-loop
 round-requires c κs =
-    let l = c .before .before .before .before in
+    let l = c .before .before .before .before .before in
     let f = l .before .before .before in
     let s = f .before .before .before .before .before in
     let h = l .loop .inv in
@@ -57,7 +62,7 @@ round-requires c κs =
 -- after a round
 module _ (r : tie.After-round Inv-loop μ-loop) where
   abbrev loop : tie.At-loop Inv-loop μ-loop
-  loop = r .before .before .before .before .before
+  loop = r .before .before .before .before .before .before
 
   abbrev filled : tie.After-fill-matrix Inv-loop μ-loop
   filled = loop .before .before .before
@@ -83,50 +88,55 @@ module _ (r : tie.After-round Inv-loop μ-loop) where
   table-long : length (r .round .last .1 .0) ≡ length (start .args .table .now)
   table-long = r .round .kept .1 .0 ∙ loop .loop .inv .3
 
-  scratch-long : length (r .round .last .1 .1 .1 .0) ≡ length (start .args .scratch .now)
-  scratch-long = r .round .kept .1 .1 .1 .0 ∙ loop .loop .inv .4 ∙ filled .fill-matrix .kept .1 .1 .1 .0
-
-  past : drop (scratchCells (b .vertices)) (r .round .last .1 .1 .1 .0) ≡ drop (scratchCells (b .vertices)) (start .args .scratch .now)
-  past = r .round .ensures .1 .1 ∙ loop .loop .inv .5 ∙ drop-further (b .vertices) (scratchCells (b .vertices)) _ _ (square (b .vertices) (omega (arith, start .pre .0 .lent .sized .roles, start .pre .0 .lent .sized .some-inputs))) (filled .fill-matrix .ensures .1)
-
-  abbrev s : ℕ
-  s = length (start .args .scratch .now)
-
-arcs-requires : tie.Need-arcs-requires Inv-loop μ-loop
-arcs-requires c κs = running (c .before .before .before .before) .checked .lent
-
-same-length : tie.Need-same-length Inv-loop μ-loop
-same-length c = table-long (c .before .before .before .before .before)
-
-same-length-2 : tie.Need-same-length-2 Inv-loop μ-loop
-same-length-2 c = scratch-long (c .before .before .before .before .before)
-
-returns : tie.Need-returns Inv-loop μ-loop
-returns c =
-    let r = c .before .before .before .before .before in
-    let t = c .before .before in
-    let d = b r in
-    let whole : reduce (d .inputs) (d .outputs) (d .vertices) (s r) (start r .args .table .now) ≡ after r
-    = sym (loop r .loop .inv .6 (s r) (start r .pre .2)) ∙ last-round (d .inputs) (d .outputs) (d .vertices) (s r) (before r) (after r) (r .round .ensures .0 (s r) (start r .pre .2)) (t .if1 .taken) in
-    (runs-done (d .inputs) (d .outputs) (d .vertices) (s r) (start r .args .table .now) (r .round .last .1 .0) (loop r .loop .steps) (c .arcs .result) (whole ∙ ap (progress (r .round .last .1 .0)) (t .if1 .taken)) (c .arcs .ensures), past r)
+  -- one more round was due
+  due : loop .loop .more ≡ true
+  due = r .before .before .before .before .before .loop-test .taken
 
 loop-less : tie.Need-loop-less Inv-loop μ-loop
 loop-less c =
-    let r = c .before .before .before in
+    let r = c .before .before in
     let d = b r in
-    fewer-arcs (d .inputs) (d .outputs) (d .vertices) (s r) (before r) (after r) (r .round .ensures .0 (s r) (start r .pre .2)) (c .if1 .left)
+    let q = scratchCells (d .vertices) in
+    subst (λ (x : Bool). roundsLeft (d .vertices) (not (eqb (after r .steps) (before r .steps))) (after r .table) < roundsLeft (d .vertices) x (before r .table)) (sym (due r))
+    (fewer-left (d .inputs) (d .outputs) (d .vertices) q (before r) (after r) (r .round .ensures .0 q (omega arith)))
 
 loop-again : tie.Need-loop-again Inv-loop μ-loop
 loop-again c =
-    let r = c .before .before .before in
-    let d = b r in (
+    let r = c .before .before in
+    let d = b r in
+    let goal = reduce (d .inputs) (d .outputs) (d .vertices) in
+    let t = start r .args .table .now in (
       running r,
       held r,
       r .round .ensures .1 .0,
       table-long r,
       r .round .kept .1 .1 .1 .0 ∙ loop r .loop .inv .4,
       r .round .ensures .1 .1 ∙ loop r .loop .inv .5,
-      λ q room. next-round (d .inputs) (d .outputs) (d .vertices) q (before r) (after r) (r .round .ensures .0 q room) (c .if1 .left) ∙ loop r .loop .inv .6 q room,
+      λ q room. toward-next (d .inputs) (d .outputs) (d .vertices) q (before r) (after r) (r .round .ensures .0 q room) (goal q t)
+          (subst (λ (x : Bool). Toward (d .inputs) (d .outputs) (d .vertices) q (goal q t) x (before r)) (due r) (loop r .loop .inv .6 q room)),
+    )
+
+arcs-requires : tie.Need-arcs-requires Inv-loop μ-loop
+arcs-requires c κs = c .before .before .loop .inv .0 .checked .lent
+
+same-length : tie.Need-same-length Inv-loop μ-loop
+same-length c = c .before .before .before .loop .inv .3
+
+same-length-2 : tie.Need-same-length-2 Inv-loop μ-loop
+same-length-2 c = let l = c .before .before .before in l .loop .inv .4 ∙ l .before .before .before .fill-matrix .kept .1 .1 .1 .0
+
+returns : tie.Need-returns Inv-loop μ-loop
+returns c =
+    let e = c .before .before in
+    let l = e .before in
+    let f = l .before .before .before in
+    let a = f .before .before .before .before .before in
+    let d = a .args .board in
+    let s = length (a .args .scratch .now) in
+    let goal = reduce (d .inputs) (d .outputs) (d .vertices) s (a .args .table .now) in
+    let there = subst (λ (x : Bool). Toward (d .inputs) (d .outputs) (d .vertices) s goal x (progress (l .loop .table) (l .loop .steps))) (e .loop-test .left) (l .loop .inv .6 s (a .pre .2)) in (
+      runs-done (d .inputs) (d .outputs) (d .vertices) s (a .args .table .now) (l .loop .table) (l .loop .steps) (c .arcs .result) (sym there) (c .arcs .ensures),
+      l .loop .inv .5 ∙ past-filled f,
     )
 
 pub rounds-spec : {M : Type 1} → statement M
@@ -140,9 +150,9 @@ rounds-spec =
     loop-holds
     slice-aggregate-round
     round-requires
+    loop-less
+    loop-again
     arcs-requires
     same-length
     same-length-2
-    returns
-    loop-less
-    loop-again)
+    returns)

@@ -1,13 +1,10 @@
 use borrow.Author.Needs.{needs}
 use mathlib.Core.Path.{refl, _∙_}
-use mathlib.Core.List.{List}
-use Prim.Native.Nat.{ℕ}
 use native.Mathlib.Omega.{arith}
-use lib.IntN.{ℤ}
 use Rattle.reduction.specs.Run.{Progress}
 use Rattle.paths.specs.declared.board.Board.{Board}
 use Rattle.run.specs.declared.side.Side.the-variants.{Inputs, Outputs}
-use Rattle.run.specs.declared.vertex_tries.VertexStep.the-variants.{Shrink, MergeBack}
+use Rattle.run.specs.declared.vertex_tries.VertexStep.the-variants.{Shrink}
 use Rattle.run.specs.Sides.{shareTries}
 use Rattle.run.specs.VertexSteps.{vertexTries}
 use Rattle.run.specs.Running.{progress, Running, Held}

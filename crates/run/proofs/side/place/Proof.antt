@@ -4,7 +4,7 @@ use Prim.Native.Nat.{_≤_, _<_}
 use native.Mathlib.Omega.{arith}
 use Rattle.run.specs.declared.side.Side.{Side}
 use Rattle.run.specs.declared.side.Side.the-variants.{Inputs, Outputs}
-use Rattle.run.specs.Sides.{OnSide, firstOf, placeOf}
+use Rattle.run.specs.Sides.{firstOf, placeOf}
 use Rattle.run.proofs.Lines.{pairs-fit, place-in}
 use Rattle.run.proofs.side.place.Statement.{statement}
 use Rattle.run.proofs.side.place.Tie as tie
