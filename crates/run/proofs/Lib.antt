@@ -8,6 +8,7 @@ pub mod Trying
 pub mod Sweeping
 pub mod ShareVerdicts
 pub mod TriedShares
+pub mod Counting
 pub mod Rounding
 pub mod Ending
 pub mod HeldMatrix

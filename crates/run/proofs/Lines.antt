@@ -36,6 +36,10 @@ pub side-fits : (side : Side) (b : Board) → Sized b → firstOf side (b .input
 side-fits Inputs b z = omega (arith, z .roles, z .few)
 side-fits Outputs b z = omega (arith, z .roles, z .few)
 
+pub side-below : (b : Board) (side : Side) (v : ℕ) → Sized b → OnSide b side v → v < b .vertices
+side-below b Inputs v z h = omega (arith, z .roles, h .below)
+side-below b Outputs v z h = omega (arith, z .roles, h .below)
+
 pub across-few : (side : Side) (b : Board) → Sized b → acrossOf side (b .inputs) (b .outputs) ≤ maxVertices
 across-few Inputs b z = omega (arith, z .roles, z .few)
 across-few Outputs b z = omega (arith, z .roles, z .few)

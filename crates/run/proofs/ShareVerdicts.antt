@@ -1,17 +1,17 @@
--- The verdict of a share whose rows or columns have been compared: refused without a common difference, and with one what is left to ask.
+-- The verdict of a share: refused where b has too few arcs or there is no common difference, and with one what is left to ask.
 use mathlib.Core.Path.{_≡_, refl, sym, _∙_, subst}
 use mathlib.Core.Logic.{_≢_}
-use mathlib.Core.Bool.{not, _&&_}
+use mathlib.Core.Bool.{false, not, _&&_}
 use mathlib.Core.List.{List}
 use Prim.Native.Nat.{ℕ, _+_, _-_, _≤_, _<_}
 use native.Mathlib.Omega.{arith}
-use lib.Dec.{T, not-T, leb, ltb, eqb, eqb→eq, leb→le, le→leb, ltb→lt, lt→ltb}
+use lib.Dec.{T, not-T, leb, ltb, eqb, eqb→eq, le→leb, ltb→lt, lt→ltb}
 use lib.IntN.{ℤ}
 use Rattle.laws.proofs.Booleans.{and-i, and-e, T-true, is-false}
 use Rattle.laws.proofs.Bounded.{first-holds}
 use Rattle.graph.specs.Delay.{present}
 use Rattle.graph.specs.Graph.{Graph, longest}
-use Rattle.graph.specs.Count.{fanIn}
+use Rattle.graph.specs.Count.{fanIn, fanOut}
 use Rattle.timing.specs.declared.Refusal.the-variants.{WrongVertex, NumberTaken, PathBack, NothingSaved}
 use Rattle.timing.specs.Refusal.{Verdict, refused, accepted, isAccepted}
 use Rattle.timing.specs.Table.{graphOf}
@@ -29,6 +29,7 @@ use Rattle.plans.specs.Sharing.{TwoOutputs, inputsSaved, outputsSaved}
 use Rattle.plans.proofs.ShareConditions.{inputs-wrong, inputs-common, outputs-common}
 use Rattle.run.specs.declared.side.Side.{Side}
 use Rattle.run.specs.declared.side.Side.the-variants.{Inputs, Outputs}
+use Rattle.run.specs.Sides.{isRich}
 use Rattle.run.specs.Comparing.{Pair, comparedBy, Compared}
 
 abbrev pub shareVerdict : Side → ℕ → ℕ → ℕ → ℕ → ℕ → ℕ → Graph → Verdict ℤ
@@ -66,6 +67,31 @@ pub share-apart : (board : Board) (t : List ℤ) (side : Side) (a b k r : ℕ) �
     → T (not (isAccepted (shareVerdict side (board .inputs) (board .outputs) (board .vertices) a b k (graphOf (board .vertices) t))))
 share-apart board t Inputs a b k r q = rows-apart (board .inputs) (board .outputs) (board .vertices) a b k r (graphOf (board .vertices) t) q
 share-apart board t Outputs a b k r q = columns-apart (board .inputs) (board .outputs) (board .vertices) a b k r (graphOf (board .vertices) t) q
+
+-- ---- too few arcs
+
+module _ (m n N a b k : ℕ) (g : Graph) where
+  rows-poor : leb 3 (fanOut N g b) ≡ false → T (not (isAccepted (shareInputsVerdict m n N a b k g)))
+  unfolding shareInputsVerdict
+  rows-poor low = never (shareInputsVerdict m n N a b k g) (λ x e.
+      let roles = require-accepted (isInput m a && isInput m b && not (eqb a b) && ltb k N) WrongVertex _ x e in
+      let free = require-accepted (isInner m n N k && unused N g k) NumberTaken _ x (roles .1) in
+      let found = then-accepted (commonDifference n (matrix m N g a) (matrix m N g b)) (inputsSaved N g b) x (free .1) in
+      let saved = require-accepted (leb 3 (fanOut N g b)) NothingSaved _ x (found .2) in
+      subst T low (saved .0))
+
+  columns-poor : leb 2 (fanIn N g b) ≡ false → T (not (isAccepted (shareOutputsVerdict m n N a b g)))
+  unfolding shareOutputsVerdict
+  columns-poor low = never (shareOutputsVerdict m n N a b g) (λ x e.
+      let roles = require-accepted (isOutput m n a && isOutput m n b && not (eqb a b)) WrongVertex _ x e in
+      let found = then-accepted (commonDifference m (column N g a) (column N g b)) (outputsSaved N g a b) x (roles .1) in
+      let path = require-accepted (not (present (longest g N b a))) PathBack _ x (found .2) in
+      let saved = require-accepted (leb 2 (fanIn N g b)) NothingSaved _ x (path .1) in
+      subst T low (saved .0))
+
+  pub share-poor : (side : Side) → isRich side N g b ≡ false → T (not (isAccepted (shareVerdict side m n N a b k g)))
+  share-poor Inputs low = rows-poor low
+  share-poor Outputs low = columns-poor low
 
 -- ---- the common difference e
 
@@ -115,10 +141,3 @@ pair-outputs s p = record {
   below-b = omega (arith, p .other .below, s .roles);
   two = p .two;
 }
-
--- with fewer than two arcs into b it is refused, whatever the path says
-pub columns-few : (N : ℕ) (g : Graph) (a b : ℕ) (e : ℤ) → fanIn N g b < 2 → T (not (isAccepted (outputsSaved N g a b e)))
-columns-few N g a b e few = never (outputsSaved N g a b e) (λ x q.
-    let path = require-accepted (not (present (longest g N b a))) PathBack _ x q in
-    let saved = require-accepted (leb 2 (fanIn N g b)) NothingSaved _ x (path .1) in
-    omega (arith, leb→le 2 (fanIn N g b) (saved .0), few))

@@ -9,20 +9,23 @@ use lib.IntN.{ℤ}
 use Rattle.graph.specs.Graph.{Graph}
 use Rattle.timing.specs.Refusal.{Verdict, refused, accepted, isAccepted, _then_}
 use Rattle.timing.specs.Table.{graphOf, withGraph}
+use Rattle.timing.proofs.Verdict.{then-accepted}
 use Rattle.reduction.specs.ShareInputs.{inputsShared}
 use Rattle.reduction.specs.ShareOutputs.{outputsShared}
 use Rattle.reduction.specs.Steps.{Step, share-inputs, plan}
 use Rattle.reduction.specs.Run.{attempt, round, freshNumber, tryStep}
+use Rattle.reduction.proofs.Steps.{plan-better}
+use Rattle.reduction.proofs.Kept.{put-back}
 use Rattle.reduction.proofs.Rounds.{All, Gains}
 use Rattle.paths.specs.declared.board.Board.{Board}
 use Rattle.steps.specs.Reduces.{newTable, Checked}
 use Rattle.run.specs.declared.side.Side.{Side}
 use Rattle.run.specs.declared.side.Side.the-variants.{Inputs, Outputs}
-use Rattle.run.specs.Sides.{shareStep, tryShare}
+use Rattle.run.specs.Sides.{shareStep, isRich, tryShare}
 use Rattle.run.specs.Running.{progress, Running, Ready, Tries, Reaches}
 use Rattle.run.proofs.Moving.{gained, moves, try-share, running-on}
 use Rattle.run.proofs.Sharing.{share-try-gains}
-use Rattle.run.proofs.ShareVerdicts.{shareVerdict}
+use Rattle.run.proofs.ShareVerdicts.{shareVerdict, share-poor}
 
 -- ---- from its verdict
 
@@ -78,6 +81,16 @@ module _ (board : Board) (t : List ℤ) (side : Side) (a b k : ℕ) where
       go (refused x) e low = known (refused x) e t false (record { taken = λ z. absurd (apart z); refused = λ _. (tt, refl) })
       go (accepted x) e low = absurd low
 
+  -- the new table's graph
+  pub share-graph : Checked board t → (after : List ℤ) → Trying after true → (e : ℤ) × (graphOf (board .vertices) after ≡ shared side a b k (graphOf (board .vertices) t) e)
+  share-graph ok after h =
+      let put = then-accepted (plan m n N (shareStep side a b k) g) _ after (h .taken refl) in
+      let made = then-accepted verdict _ (put .0) (sym (share-plan m n N side a b k g) ∙ put .1) in
+      (made .0, ap (graphOf N) (sym (same (put .2))) ∙ put-back m n N t (put .0) (plan-better (ok .sound) (shareStep side a b k) (put .0) (put .1)) ∙ sym (same (made .2)))
+    where
+      same : {A : Type 0} {x y : A} → accepted x ≡ accepted y → x ≡ y
+      same e = cc
+
 -- ---- as the one try of a round
 
 -- with the smallest free number, or a number that is not used
@@ -106,3 +119,7 @@ module _ (board : Board) (t : List ℤ) (o : List ℕ) (side : Side) (a b k c : 
   share-stays after h =
       let same : c + 0 ≡ c = omega arith in
       (λ s room. share-reaches after false h s room ∙ ap (progress after) same, subst (λ (x : List ℤ). Ready side board x o k) (sym (h .refused refl .1)) ready)
+
+  -- b has too few arcs
+  pub share-passed : isRich side (board .vertices) (graphOf (board .vertices) t) b ≡ false → Tried t c
+  share-passed low = share-stays t (share-left board t side a b k (share-poor (board .inputs) (board .outputs) (board .vertices) a b k (graphOf (board .vertices) t) side low)) .0

@@ -5,7 +5,7 @@ use mathlib.Core.List.{List}
 use Prim.Native.Nat.{ℕ, _+_, _*_, _≤_, _<_}
 use lib.Dec.{T}
 use lib.IntN.{ℤ}
-use lib.ListN.{length}
+use lib.ListN.{length, getD}
 use Rattle.graph.specs.Count.{arcs}
 use Rattle.timing.specs.Limits.{maxVertices, arrivalLimit, scratchCells, fits}
 use Rattle.timing.specs.Refusal.{Verdict, accepted, isAccepted}
@@ -17,6 +17,7 @@ use Rattle.paths.specs.Arrivals.{Passable}
 use Rattle.steps.specs.Reduces.{Checked}
 use Rattle.run.specs.declared.side.Side.{Side}
 use Rattle.run.specs.declared.side.Side.the-variants.{Inputs, Outputs}
+use Rattle.run.specs.Sides.{OnSide, isRich}
 
 abbrev pub progress : List ℤ → ℕ → Progress
 progress t c = record { table = t; steps = c }
@@ -37,6 +38,11 @@ pub record Ready (side : Side) (b : Board) (t : List ℤ) (o : List ℕ) (k : �
   pub long : length o ≡ maxVertices
   pub fresh : side ≡ Inputs → k ≡ freshNumber (b .inputs) (b .outputs) (b .vertices) (graphOf (b .vertices) t)
   pub order : side ≡ Outputs → Passable b t o
+
+-- what is known of the side's vertices before they are compared: which have arcs enough to be the second of a share
+pub record Counted (side : Side) (b : Board) (t : List ℤ) (rich : List Bool) : Type 0 where
+  pub long : length rich ≡ maxVertices
+  pub each : (v : ℕ) → OnSide b side v → getD rich v false ≡ isRich side (b .vertices) (graphOf (b .vertices) t) v
 
 -- r says whether v is accepted, and the table is then v's; a refused try changes no cell
 pub record Tries (v : Verdict (List ℤ)) (before after : List ℤ) (r : Bool) : Type 0 where

@@ -1,8 +1,11 @@
 -- The two sides of the delay matrix: share inputs compares its rows, share outputs its columns.
+use mathlib.Core.Bool.{Bool}
 use mathlib.Core.List.{List}
 use Prim.Native.Nat.{ℕ, _+_, _-_, _*_, _≤_, _<_}
+use lib.Dec.{leb}
 use Rattle.graph.specs.Delay.{Delay}
 use Rattle.graph.specs.Graph.{Graph}
+use Rattle.graph.specs.Count.{fanIn, fanOut}
 use Rattle.timing.specs.Delays.{matrix, column}
 use Rattle.reduction.specs.Steps.{Step, share-inputs, share-outputs}
 use Rattle.reduction.specs.Run.{Try, numbers, pairs, tryStep, tryShareInputs}
@@ -40,6 +43,11 @@ placeOf Outputs m n v j = n * j + (v - m)
 abbrev pub shareStep : Side → ℕ → ℕ → ℕ → Step
 shareStep Inputs a b k = share-inputs a b k
 shareStep Outputs a b k = share-outputs a b
+
+-- whether vertex v has arcs enough to be the second of a share
+abbrev pub isRich : Side → ℕ → Graph → ℕ → Bool
+isRich Inputs N g v = leb 3 (fanOut N g v)
+isRich Outputs N g v = leb 2 (fanIn N g v)
 
 -- its tries in a round
 abbrev pub tryShare : ℕ → ℕ → ℕ → Side → ℕ → ℕ → ℕ → Try

@@ -2,6 +2,7 @@
 pub mod accepted;
 pub mod answer;
 pub mod calls;
+pub mod counts;
 pub mod fresh;
 pub mod round;
 pub mod share_tries;

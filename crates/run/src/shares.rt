@@ -1,4 +1,5 @@
 // The share tries of a round: pairs a, b, a rising, then b. The matrix does not change during a run, so that it is computed once before.
+use crate::counts;
 use crate::fresh;
 use crate::share_tries;
 use crate::share_tries::Tally;
@@ -18,7 +19,8 @@ ghost use Rattle.run.specs.declared.side.Side.the-variants.{Outputs};
 ghost use Rattle.run.specs.Sides.{shareTries};
 ghost use Rattle.run.specs.Running.{progress, Running, Held, Reaches};
 
-// All tries of a side, each on the table as it then is. The first entry at which the difference is another settles a pair.
+// All tries of a side, each on the table as it then is. Too few arcs at b refuse a pair before anything is compared; then the first entry at which
+// the difference is another settles it.
 pub fn shares(
     board: Board,
     table: &mut [i32],
@@ -37,37 +39,41 @@ pub fn shares(
     let end = side::end(board, side);
     let across = side::across(board, side);
     let fresh = fresh::renew(board, table, list, side);
+    let mut rich = counts::rich_ones(board, table, side);
     let mut tally = Tally { steps, fresh };
     let mut a = from;
     'firsts: while a < end {
         let mut b = from;
         'seconds: while b < end {
             if a != b {
-                let mut seen = Seen::Nothing;
-                let mut j = 0;
-                let difference = 'compare: loop {
-                    if j >= across {
-                        break 'compare common::settle(seen);
-                    }
-                    let p = side::place(board, side, a, j);
-                    let q = side::place(board, side, b, j);
-                    seen = common::seen_next(seen, matrix[p], matrix[q]);
-                    if let Seen::Clash = seen {
-                        break 'compare Difference::Refused(Refusal::NoCommonDifference);
-                    }
-                    j += 1;
-                };
-                tally = share_tries::try_share(
-                    board,
-                    table,
-                    list,
-                    scratch,
-                    side,
-                    a,
-                    b,
-                    difference,
-                    tally,
-                );
+                if rich[b] {
+                    let mut seen = Seen::Nothing;
+                    let mut j = 0;
+                    let difference = 'compare: loop {
+                        if j >= across {
+                            break 'compare common::settle(seen);
+                        }
+                        let p = side::place(board, side, a, j);
+                        let q = side::place(board, side, b, j);
+                        seen = common::seen_next(seen, matrix[p], matrix[q]);
+                        if let Seen::Clash = seen {
+                            break 'compare Difference::Refused(Refusal::NoCommonDifference);
+                        }
+                        j += 1;
+                    };
+                    tally = share_tries::try_share(
+                        board,
+                        table,
+                        list,
+                        &mut rich,
+                        scratch,
+                        side,
+                        a,
+                        b,
+                        difference,
+                        tally,
+                    );
+                }
             }
             b += 1;
         }

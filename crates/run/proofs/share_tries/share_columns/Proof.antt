@@ -1,6 +1,5 @@
 use borrow.Author.Needs.{needs}
-use mathlib.Core.Path.{_≡_, refl, sym, ap, _∙_, subst}
-use mathlib.Core.Bool.{not}
+use mathlib.Core.Path.{_≡_, sym, ap, _∙_}
 use mathlib.Core.List.{List}
 use Prim.Native.Nat.{_<_, _≤_}
 use native.Mathlib.Omega.{arith}
@@ -11,7 +10,7 @@ use lib.ListN.{drop}
 use Rattle.graph.specs.Delay.{at}
 use Rattle.graph.specs.Graph.{Graph}
 use Rattle.timing.specs.Limits.{delayLimit, scratchCells, fits}
-use Rattle.timing.specs.Refusal.{Verdict, accepted, isAccepted}
+use Rattle.timing.specs.Refusal.{Verdict, accepted}
 use Rattle.timing.specs.Table.{graphOf}
 use Rattle.reduction.specs.ShareOutputs.{shareOutputsVerdict}
 use Rattle.paths.specs.declared.board.Board.{Board}
@@ -22,7 +21,7 @@ use Rattle.plans.proofs.ShareConditions.{vector-fits}
 use Rattle.steps.proofs.Reducing.{said}
 use Rattle.steps.proofs.Ready.{share-outputs-ready, narrow-fits, narrowed}
 use Rattle.run.specs.declared.side.Side.the-variants.{Outputs}
-use Rattle.run.proofs.ShareVerdicts.{refused-low, columns-saved, columns-few, pair-outputs}
+use Rattle.run.proofs.ShareVerdicts.{refused-low, columns-saved, pair-outputs}
 use Rattle.run.proofs.TriedShares.{share-taken, share-left}
 use Rattle.run.proofs.share_tries.share_columns.Statement.{statement}
 use Rattle.run.proofs.share_tries.share_columns.Tie as tie
@@ -50,22 +49,9 @@ module _ (s : tie.Start) where
   room : board .vertices ≤ scratchCells (board .vertices)
   room = vector-fits board (s .pre .0 .lent .sized)
 
-fan-in-requires : tie.Need-fan-in-requires
-fan-in-requires c κs = let s = c .before in (s .pre .0 .lent, outputs s .below-b)
-
-same-length : tie.Need-same-length
-same-length c = search needs
-
-returns : tie.Need-returns
-returns c =
-    let f = c .before in
-    let s = f .before .before in
-    let few = columns-few (board s .vertices) (g s) (s .args .a) (s .args .b) (s .args .e) (omega (arith, f .fan-in .ensures, c .if1 .taken)) in
-    (share-left (board s) (t s) Outputs (s .args .a) (s .args .b) 0 (subst (λ (v : Verdict ℤ). T (not (isAccepted v))) (sym (left-to-ask s)) few), refl)
-
 outputs-saved-requires : tie.Need-outputs-saved-requires
 outputs-saved-requires c κs =
-    let s = c .before .before .before .before .before in
+    let s = c .before .before in
     (s .pre .0, omega (arith, s .pre .3, room s), outputs s)
 
 enum-known-saved : tie.Need-enum-known-saved
@@ -73,7 +59,7 @@ enum-known-saved c = search needs
 
 module _ (d : tie.After-outputs-saved) where
   abbrev start : tie.Start
-  start = d .before .before .before .before .before .before
+  start = d .before .before .before
 
   answered : differenceMeaning (d .outputs-saved .result) ≡ verdict start
   answered =
@@ -105,14 +91,14 @@ share-outputs-apply-requires c κs =
     let d = c .before .before .before in
     (start (asked d) .pre .0 .lent, ready d .0)
 
+same-length : tie.Need-same-length
+same-length c = search needs
+
 same-length-2 : tie.Need-same-length-2
 same-length-2 c = search needs
 
-same-length-3 : tie.Need-same-length-3
-same-length-3 c = search needs
-
-returns-2 : tie.Need-returns-2
-returns-2 c =
+returns : tie.Need-returns
+returns c =
     let w = c .before in
     let d = w .before .before .before .before in
     let s = start (asked d) in
@@ -121,14 +107,14 @@ returns-2 c =
 enum-told : tie.Need-enum-told
 enum-told c = search needs
 
+same-length-3 : tie.Need-same-length-3
+same-length-3 c = search needs
+
 same-length-4 : tie.Need-same-length-4
 same-length-4 c = search needs
 
-same-length-5 : tie.Need-same-length-5
-same-length-5 c = search needs
-
-returns-3 : tie.Need-returns-3
-returns-3 c =
+returns-2 : tie.Need-returns-2
+returns-2 c =
     let d = c .before .before .before in
     let s = start d in
     (share-left (board s) (t s) Outputs (s .args .a) (s .args .b) 0 (refused-low (said differenceMeaning (answered d) (c .enum-told .given .1))), past d)
@@ -137,17 +123,14 @@ pub share-columns-spec : {M : Type 1} → statement M
 share-columns-spec =
     tie.close
     (tie.spec
-    fan-in-requires
-    same-length
-    returns
     outputs-saved-requires
     enum-known-saved
     narrow-requires
     share-outputs-apply-requires
+    same-length
     same-length-2
-    same-length-3
-    returns-2
+    returns
     enum-told
+    same-length-3
     same-length-4
-    same-length-5
-    returns-3)
+    returns-2)

@@ -2,16 +2,23 @@ use borrow.Author.Needs.{needs}
 use mathlib.Core.Path.{_≡_, refl, sym, ap, _∙_, subst}
 use mathlib.Core.Bool.{Bool, true, false}
 use mathlib.Core.List.{List}
-use Prim.Native.Nat.{_+_}
+use Prim.Native.Nat.{ℕ, _+_, _<_}
+use native.Mathlib.Omega.{arith}
 use lib.IntN.{ℤ}
 use mir.Syntax.{w64}
 use mir.Val.{toZ, ofZ}
+use Rattle.timing.specs.Limits.{maxVertices}
 use Rattle.timing.specs.Refusal.{accepted}
+use Rattle.paths.specs.Board.{Lent}
 use Rattle.plans.specs.Verdict.{differenceMeaning}
 use Rattle.steps.specs.Reduces.{Checked}
 use Rattle.steps.proofs.Reducing.{said}
+use Rattle.run.specs.Sides.{OnSide}
+use Rattle.run.specs.Running.{Counted}
+use Rattle.run.proofs.Lines.{side-below}
 use Rattle.run.proofs.ShareVerdicts.{share-apart}
 use Rattle.run.proofs.TriedShares.{Trying, Tried, share-left, share-goes, share-stays}
+use Rattle.run.proofs.Counting.{counted-again}
 use Rattle.run.proofs.share_tries.try_share.Statement.{statement}
 use Rattle.run.proofs.share_tries.try_share.Tie as tie
 
@@ -26,7 +33,7 @@ share-requires : tie.Need-share-requires
 share-requires c κs =
     let k = c .before .before .before in
     let s = k .before .before .before in
-    (s .pre .0 .checked, s .pre .1, s .pre .2, said differenceMeaning (s .pre .3) (k .before .difference .given .1) ∙ ap accepted (sym (e-is k)), s .pre .4)
+    (s .pre .0 .checked, s .pre .1, s .pre .3, said differenceMeaning (s .pre .4) (k .before .difference .given .1) ∙ ap accepted (sym (e-is k)), s .pre .5)
 
 -- the share has been tried
 module _ (f : tie.After-share) where
@@ -50,11 +57,30 @@ module _ (c : tie.Then1) where
   goes : Tried (s .args .board) (s .args .table .now) (s .args .list .now) (s .args .side) (s .args .a) (s .args .b) (s .args .tally .fresh) (s .args .tally .steps) (s .pre .0) (s .pre .1) (after made) (s .args .tally .steps + 1) × Checked (s .args .board) (after made)
   goes = share-goes (s .args .board) (s .args .table .now) (s .args .list .now) (s .args .side) (s .args .a) (s .args .b) (s .args .tally .fresh) (s .args .tally .steps) (s .pre .0) (s .pre .1) (after made) (tried made true (c .if1 .taken))
 
-renew-requires : tie.Need-renew-requires
-renew-requires c κs = let d = c .before .before in (goes d .1, s d .pre .1 .long)
+  -- a and b are vertices of the new table, and of the marks
+  below : (v : ℕ) → OnSide (s .args .board) (s .args .side) v → Lent (s .args .board) (after made) × (v < s .args .board .vertices)
+  below v on = (goes .1 .lent, side-below (s .args .board) (s .args .side) v (goes .1 .lent .sized) on)
 
-add-t23 : tie.Need-add-t23
-add-t23 c = search needs
+  inside : (v : ℕ) → OnSide (s .args .board) (s .args .side) v → v < maxVertices
+  inside v on = omega (arith, below v on .1, goes .1 .lent .sized .few)
+
+is-rich-requires : tie.Need-is-rich-requires
+is-rich-requires c κs = let d = c .before in below d (s d .args .a) (s d .pre .3 .one)
+
+element-write-rich : tie.Need-element-write-rich
+element-write-rich c = let d = c .before .before in inside d (s d .args .a) (s d .pre .3 .one)
+
+is-rich-requires-2 : tie.Need-is-rich-requires-2
+is-rich-requires-2 c κs = let d = c .before .before .before in below d (s d .args .b) (s d .pre .3 .other)
+
+element-write-rich-2 : tie.Need-element-write-rich-2
+element-write-rich-2 c = let d = c .before .before .before .before in inside d (s d .args .b) (s d .pre .3 .other)
+
+renew-requires : tie.Need-renew-requires
+renew-requires c κs = let d = c .before .before .before .before .before .before in (goes d .1, s d .pre .1 .long)
+
+add-t33 : tie.Need-add-t33
+add-t33 c = search needs
 
 same-length : tie.Need-same-length
 same-length c = search needs
@@ -63,7 +89,11 @@ same-length-2 : tie.Need-same-length-2
 same-length-2 c = search needs
 
 returns : tie.Need-returns
-returns c = let d = c .before .before .before in (goes d .0, (c .renew .ensures, made d .share .ensures .1))
+returns c =
+    let r = c .before .before .before in
+    let d = r .before .before .before .before in
+    let counted = counted-again (s d .args .side) (s d .pre .0 .checked) (s d .pre .1) (s d .pre .3) (s d .args .rich .now) (s d .pre .2) (after (made d)) (tried (made d) true (d .if1 .taken)) (r .before .before .is-rich .result) (r .is-rich2 .result) (r .before .before .is-rich .ensures) (r .is-rich2 .ensures) in
+    (goes d .0, ((c .renew .ensures, counted), made d .share .ensures .1))
 
 enum-told : tie.Need-enum-told
 enum-told c = search needs
@@ -79,15 +109,15 @@ returns-2 c =
     let f = c .before .before .before in
     let s = start f in
     let stays = share-stays (s .args .board) (s .args .table .now) (s .args .list .now) (s .args .side) (s .args .a) (s .args .b) (s .args .tally .fresh) (s .args .tally .steps) (s .pre .0) (s .pre .1) (after f) (tried f false (c .if1 .left)) in
-    (stays .0, (stays .1, f .share .ensures .1))
+    (stays .0, ((stays .1, subst (λ (x : List ℤ). Counted (s .args .side) (s .args .board) x (s .args .rich .now)) (sym (tried f false (c .if1 .left) .refused refl .1)) (s .pre .2)), f .share .ensures .1))
 
 returns-3 : tie.Need-returns-3
 returns-3 c =
     let s = c .before .before in
-    let low = share-apart (s .args .board) (s .args .table .now) (s .args .side) (s .args .a) (s .args .b) (s .args .tally .fresh) _ (said differenceMeaning (s .pre .3) (c .enum-told .given .1)) in
+    let low = share-apart (s .args .board) (s .args .table .now) (s .args .side) (s .args .a) (s .args .b) (s .args .tally .fresh) _ (said differenceMeaning (s .pre .4) (c .enum-told .given .1)) in
     let left = share-left (s .args .board) (s .args .table .now) (s .args .side) (s .args .a) (s .args .b) (s .args .tally .fresh) low in
     let stays = share-stays (s .args .board) (s .args .table .now) (s .args .list .now) (s .args .side) (s .args .a) (s .args .b) (s .args .tally .fresh) (s .args .tally .steps) (s .pre .0) (s .pre .1) (s .args .table .now) left in
-    (stays .0, (stays .1, refl))
+    (stays .0, ((stays .1, s .pre .2), refl))
 
 pub try-share-spec : {M : Type 1} → statement M
 try-share-spec =
@@ -95,8 +125,12 @@ try-share-spec =
     (tie.spec
     enum-known-difference
     share-requires
+    is-rich-requires
+    element-write-rich
+    is-rich-requires-2
+    element-write-rich-2
     renew-requires
-    add-t23
+    add-t33
     same-length
     same-length-2
     returns

@@ -1,6 +1,7 @@
 use borrow.Author.Needs.{needs}
-use mathlib.Core.Path.{_≡_, sym, ap, _∙_, subst}
-use mathlib.Core.List.{List, []}
+use mathlib.Core.Path.{_≡_, refl, sym, ap, _∙_, subst}
+use mathlib.Core.Logic.{_≢_}
+use mathlib.Core.List.{List, [], _∷_}
 use Prim.Native.Nat.{ℕ, _+_, _-_, _*_, _≤_, _<_}
 use native.Mathlib.Omega.{arith}
 use lib.Dec.{T}
@@ -28,6 +29,7 @@ use Rattle.run.specs.Running.{progress, Held}
 use Rattle.run.proofs.Lines.{side-fits, across-few, pairs-fit, place-in, held-line, near-line}
 use Rattle.run.proofs.PairTries.{firstsLeft, secondsLeft, firsts-all, firsts-done, seconds-all, seconds-done, seconds-same, seconds-other}
 use Rattle.run.proofs.Sharing.{Sharing, sharing-none, sharing-one, sharing-on, sharing-is}
+use Rattle.run.proofs.TriedShares.{share-passed}
 use Rattle.run.proofs.shares.shares.Statement.{statement}
 use Rattle.run.proofs.shares.shares.Tie as tie
 
@@ -46,25 +48,25 @@ abbrev atSecond : Board → Side → ℕ → ℕ → ℕ → List Try
 atSecond board side a b s = secondsLeft (tryShare (board .inputs) (board .outputs) (board .vertices) side s) (firstOf side (board .inputs)) (countOf side (board .inputs) (board .outputs)) a b
 
 abbrev Inv-compare : tie.InvT-compare
-Inv-compare board table list scratch matrix side steps from end across fresh tally a b seen₀ j₀ sees j =
+Inv-compare board table list scratch matrix side steps from end across fresh rich tally a b seen₀ j₀ sees j =
     (j ≤ acrossOf side (board .inputs) (board .outputs)) × (sees ≡ seen j (line board side table a) (line board side table b))
 
 abbrev μ-compare : tie.MeasureT-compare
-μ-compare board table list scratch matrix side steps from end across fresh tally a b seen₀ j₀ sees j = acrossOf side (board .inputs) (board .outputs) - j
+μ-compare board table list scratch matrix side steps from end across fresh rich tally a b seen₀ j₀ sees j = acrossOf side (board .inputs) (board .outputs) - j
 
 abbrev Inv-seconds : tie.InvT-seconds
-Inv-seconds board table₀ list₀ scratch₀ matrix side steps from end across fresh tally₀ a b₀ table list scratch tally b =
-    (firstOf side (board .inputs) ≤ b) × (b ≤ last board side) × Sharing board matrix side (atSecond board side a (firstOf side (board .inputs))) table₀ scratch₀ (tally₀ .steps) (atSecond board side a b) table list scratch tally
+Inv-seconds board table₀ list₀ scratch₀ matrix side steps from end across fresh rich₀ tally₀ a b₀ table list scratch rich tally b =
+    (firstOf side (board .inputs) ≤ b) × (b ≤ last board side) × Sharing board matrix side (atSecond board side a (firstOf side (board .inputs))) table₀ scratch₀ (tally₀ .steps) (atSecond board side a b) table list scratch rich tally
 
 abbrev μ-seconds : tie.MeasureT-seconds
-μ-seconds board table₀ list₀ scratch₀ matrix side steps from end across fresh tally₀ a b₀ table list scratch tally b = last board side - b
+μ-seconds board table₀ list₀ scratch₀ matrix side steps from end across fresh rich₀ tally₀ a b₀ table list scratch rich tally b = last board side - b
 
 abbrev Inv-firsts : tie.InvT-firsts
-Inv-firsts board table₀ list₀ scratch₀ matrix side steps from end across fresh tally₀ a₀ table list scratch tally a =
-    (firstOf side (board .inputs) ≤ a) × (a ≤ last board side) × Sharing board matrix side (shareTries (board .inputs) (board .outputs) (board .vertices) side) table₀ scratch₀ steps (atFirst board side a) table list scratch tally
+Inv-firsts board table₀ list₀ scratch₀ matrix side steps from end across fresh rich₀ tally₀ a₀ table list scratch rich tally a =
+    (firstOf side (board .inputs) ≤ a) × (a ≤ last board side) × Sharing board matrix side (shareTries (board .inputs) (board .outputs) (board .vertices) side) table₀ scratch₀ steps (atFirst board side a) table list scratch rich tally
 
 abbrev μ-firsts : tie.MeasureT-firsts
-μ-firsts board table₀ list₀ scratch₀ matrix side steps from end across fresh tally₀ a₀ table list scratch tally a = last board side - a
+μ-firsts board table₀ list₀ scratch₀ matrix side steps from end across fresh rich₀ tally₀ a₀ table list scratch rich tally a = last board side - a
 
 first-requires : tie.Need-first-requires Inv-compare μ-compare Inv-seconds μ-seconds Inv-firsts μ-firsts
 first-requires c κs = tt
@@ -78,10 +80,13 @@ across-requires c κs = tt
 renew-requires : tie.Need-renew-requires Inv-compare μ-compare Inv-seconds μ-seconds Inv-firsts μ-firsts
 renew-requires c κs = let s = c .before .before .before .before .before in (s .pre .0 .checked, s .pre .2)
 
+rich-ones-requires : tie.Need-rich-ones-requires Inv-compare μ-compare Inv-seconds μ-seconds Inv-firsts μ-firsts
+rich-ones-requires c κs = c .before .before .before .before .before .before .before .pre .0 .checked .lent
+
 -- before the loops
-module _ (r : tie.After-renew Inv-compare μ-compare Inv-seconds μ-seconds Inv-firsts μ-firsts) where
+module _ (r : tie.After-rich-ones Inv-compare μ-compare Inv-seconds μ-seconds Inv-firsts μ-firsts) where
   abbrev start : tie.Start Inv-compare μ-compare Inv-seconds μ-seconds Inv-firsts μ-firsts
-  start = r .before .before .before .before .before .before
+  start = r .before .before .before .before .before .before .before .before
 
   abbrev board : Board
   board = start .args .board
@@ -95,14 +100,14 @@ module _ (r : tie.After-renew Inv-compare μ-compare Inv-seconds μ-seconds Inv-
   abbrev n : ℕ
   n = board .outputs
 
-  from-is : r .before .before .before .before .before .first .result ≡ firstOf side m
-  from-is = r .before .before .before .before .before .first .ensures
+  from-is : r .before .before .before .before .before .before .before .first .result ≡ firstOf side m
+  from-is = r .before .before .before .before .before .before .before .first .ensures
 
-  end-is : r .before .before .before .before .end .result ≡ firstOf side m + countOf side m n
-  end-is = r .before .before .before .before .end .ensures
+  end-is : r .before .before .before .before .before .before .end .result ≡ firstOf side m + countOf side m n
+  end-is = r .before .before .before .before .before .before .end .ensures
 
-  across-is : r .before .before .before .across .result ≡ acrossOf side m n
-  across-is = r .before .before .before .across .ensures
+  across-is : r .before .before .before .before .before .across .result ≡ acrossOf side m n
+  across-is = r .before .before .before .before .before .across .ensures
 
   -- the side's vertices are few
   end-few : firstOf side m + countOf side m n ≤ maxVertices
@@ -113,7 +118,7 @@ firsts-holds c =
     let s = start c in (
       omega (arith, from-is c),
       omega (arith, from-is c),
-      sharing-none (record { steps = s .args .steps; fresh = c .renew .result }) (shareTries (m c) (n c) (s .args .board .vertices) (side c)) (atFirst (board c) (side c) (c .before .before .before .before .before .first .result)) (λ q. firsts-all (tryShare (m c) (n c) (s .args .board .vertices) (side c) q) (firstOf (side c) (m c)) (countOf (side c) (m c) (n c)) ∙ ap (λ (x : ℕ). atFirst (board c) (side c) x q) (sym (from-is c))) (s .pre .0) (s .pre .1) (c .renew .ensures),
+      sharing-none (record { steps = s .args .steps; fresh = c .before .before .renew .result }) (shareTries (m c) (n c) (s .args .board .vertices) (side c)) (atFirst (board c) (side c) (c .before .before .before .before .before .before .before .first .result)) (λ q. firsts-all (tryShare (m c) (n c) (s .args .board .vertices) (side c) q) (firstOf (side c) (m c)) (countOf (side c) (m c) (n c)) ∙ ap (λ (x : ℕ). atFirst (board c) (side c) x q) (sym (from-is c))) (s .pre .0) (s .pre .1) (c .before .before .renew .ensures) (c .rich-ones .ensures),
     )
 
 -- in a turn over a
@@ -121,7 +126,7 @@ module _ (f : tie.In-firsts Inv-compare μ-compare Inv-seconds μ-seconds Inv-fi
   abbrev firsts : tie.At-firsts Inv-compare μ-compare Inv-seconds μ-seconds Inv-firsts μ-firsts
   firsts = f .before
 
-  abbrev renewed : tie.After-renew Inv-compare μ-compare Inv-seconds μ-seconds Inv-firsts μ-firsts
+  abbrev renewed : tie.After-rich-ones Inv-compare μ-compare Inv-seconds μ-seconds Inv-firsts μ-firsts
   renewed = firsts .before
 
   abbrev a : ℕ
@@ -136,7 +141,7 @@ seconds-holds c =
     let h = firsts c .firsts .inv .2 in (
       omega (arith, from-is r),
       omega (arith, from-is r),
-      sharing-none (firsts c .firsts .tally) (atSecond (board r) (side r) (a c) (firstOf (side r) (m r))) (atSecond (board r) (side r) (a c) (r .before .before .before .before .before .first .result)) (λ q. ap (λ (x : ℕ). atSecond (board r) (side r) (a c) x q) (sym (from-is r))) (h .running) (h .held) (h .ready),
+      sharing-none (firsts c .firsts .tally) (atSecond (board r) (side r) (a c) (firstOf (side r) (m r))) (atSecond (board r) (side r) (a c) (r .before .before .before .before .before .before .before .first .result)) (λ q. ap (λ (x : ℕ). atSecond (board r) (side r) (a c) x q) (sym (from-is r))) (h .running) (h .held) (h .ready) (h .counted),
     )
 
 -- in a turn over b
@@ -162,12 +167,18 @@ module _ (k : tie.In-seconds Inv-compare μ-compare Inv-seconds μ-seconds Inv-f
   on-b : OnSide the-board the-side b
   on-b = record { from = seconds .seconds .inv .0; below = omega (arith, k .seconds-test .taken, end-is (renewed turn)) }
 
+  another : a turn ≢ b → (q : ℕ) → atSecond the-board the-side (a turn) b q ≡ tryShare (the-board .inputs) (the-board .outputs) (the-board .vertices) the-side q (a turn) b ∷ atSecond the-board the-side (a turn) (b + 1) q
+  another ne q = seconds-other (tryShare (the-board .inputs) (the-board .outputs) (the-board .vertices) the-side q) (firstOf the-side (the-board .inputs)) (countOf the-side (the-board .inputs) (the-board .outputs)) (a turn) b (on-b .below) ne
+
   -- the rows or columns that are compared
   abbrev line-a : ℕ → Delay
   line-a = line the-board the-side table (a turn)
 
   abbrev line-b : ℕ → Delay
   line-b = line the-board the-side table b
+
+array-read-if2 : tie.Need-array-read-if2 Inv-compare μ-compare Inv-seconds μ-seconds Inv-firsts μ-firsts
+array-read-if2 c = let k = c .before in omega (arith, on-b k .below, end-few (renewed (turn k)))
 
 compare-holds : tie.Need-compare-holds Inv-compare μ-compare Inv-seconds μ-seconds Inv-firsts μ-firsts
 compare-holds c = (omega arith, seen-none _ _)
@@ -176,12 +187,12 @@ settle-requires : tie.Need-settle-requires Inv-compare μ-compare Inv-seconds μ
 settle-requires c κs = tt
 
 -- in a turn of the comparison
-module _ (e : tie.Else2 Inv-compare μ-compare Inv-seconds μ-seconds Inv-firsts μ-firsts) where
+module _ (e : tie.Else3 Inv-compare μ-compare Inv-seconds μ-seconds Inv-firsts μ-firsts) where
   abbrev compare : tie.At-compare Inv-compare μ-compare Inv-seconds μ-seconds Inv-firsts μ-firsts
   compare = e .before
 
   abbrev pair : tie.In-seconds Inv-compare μ-compare Inv-seconds μ-seconds Inv-firsts μ-firsts
-  pair = compare .before .before
+  pair = compare .before .before .before
 
   abbrev j : ℕ
   j = compare .compare .j
@@ -190,7 +201,7 @@ module _ (e : tie.Else2 Inv-compare μ-compare Inv-seconds μ-seconds Inv-firsts
   M = start (renewed (turn pair)) .args .matrix .now
 
   inside : j < acrossOf (the-side pair) (the-board pair .inputs) (the-board pair .outputs)
-  inside = omega (arith, e .if2 .left, across-is (renewed (turn pair)))
+  inside = omega (arith, e .if3 .left, across-is (renewed (turn pair)))
 
   held : Held (the-board pair) M (table pair)
   held = seconds pair .seconds .inv .2 .held
@@ -230,7 +241,7 @@ shared-slice-copy-out-seen-next-2 c = let e = c .before .before .before in omega
 
 -- the two cells, as the code has them
 module _ (c : tie.After-seen-next-arg2 Inv-compare μ-compare Inv-seconds μ-seconds Inv-firsts μ-firsts) where
-  abbrev here : tie.Else2 Inv-compare μ-compare Inv-seconds μ-seconds Inv-firsts μ-firsts
+  abbrev here : tie.Else3 Inv-compare μ-compare Inv-seconds μ-seconds Inv-firsts μ-firsts
   here = c .before .before .before .before
 
   abbrev p : ℕ
@@ -277,28 +288,28 @@ compare-again : tie.Need-compare-again Inv-compare μ-compare Inv-seconds μ-sec
 compare-again c = (omega (arith, inside (here (c .before .before))), turned (c .before))
 
 -- where the ways out of the comparison meet, its answer
-answered : (c : tie.Joined2 Inv-compare μ-compare Inv-seconds μ-seconds Inv-firsts μ-firsts) → let k = c .before .before .before in differenceMeaning (c .if2 .difference) ≡ comparedBy (the-side k) (the-board k) (table k) (a (turn k)) (b k)
+answered : (c : tie.Joined3 Inv-compare μ-compare Inv-seconds μ-seconds Inv-firsts μ-firsts) → let k = c .before .before .before .before in differenceMeaning (c .if3 .difference) ≡ comparedBy (the-side k) (the-board k) (table k) (a (turn k)) (b k)
 answered c =
     let l = c .before in
-    let k = l .before .before in
+    let k = l .before .before .before in
     let total = acrossOf (the-side k) (the-board k .inputs) (the-board k .outputs) in
-    split (c .if2 .came)
+    split (c .if3 .came)
     (λ w.
     let e : l .compare .j ≡ total = omega (arith, w .0 .taken, l .compare .inv .0, across-is (renewed (turn k))) in
     ap differenceMeaning (w .2 ∙ w .1 .ensures ∙ ap settled (l .compare .inv .1 ∙ ap (λ (x : ℕ). seen x (line-a k) (line-b k)) e)) ∙ seen-common (line-a k) (line-b k) total)
     (λ w.
-    let p : tie.After-seen-next Inv-compare μ-compare Inv-seconds μ-seconds Inv-firsts μ-firsts = record { before = record { before = record { before = record { before = record { before = record { before = l; if2 = w .0 }; place = w .1 }; place2 = w .2 }; seen-next-arg = w .3 }; seen-next-arg2 = w .4 }; seen-next = w .5 } in
+    let p : tie.After-seen-next Inv-compare μ-compare Inv-seconds μ-seconds Inv-firsts μ-firsts = record { before = record { before = record { before = record { before = record { before = record { before = l; if3 = w .0 }; place = w .1 }; place2 = w .2 }; seen-next-arg = w .3 }; seen-next-arg2 = w .4 }; seen-next = w .5 } in
     ap differenceMeaning (w .8) ∙ sym (ap (λ (s : Seen). differenceMeaning (settled s)) (seen-clash (line-a k) (line-b k) (l .compare .j + 1) total (omega (arith, inside (here (p .before)))) (sym (turned p) ∙ w .7 .given .1)))
     ∙ seen-common (line-a k) (line-b k) total)
 
 try-share-requires : tie.Need-try-share-requires Inv-compare μ-compare Inv-seconds μ-seconds Inv-firsts μ-firsts
 try-share-requires c κs =
-    let l = c .before .before .before .before in
-    let k = l .before .before in
+    let l = c .before .before .before .before .before in
+    let k = l .before .before .before in
     let h = seconds k .seconds .inv .2 in
     let f = firsts (turn k) .firsts .inv .2 in
     let pre = start (renewed (turn k)) .pre in
-    (h .running, h .ready, record { one = on-a (turn k); other = on-b k; two = l .before .if1 .taken }, answered (c .before .before .before), omega (arith, pre .3, h .scratch-long, f .scratch-long))
+    (h .running, h .ready, h .counted, record { one = on-a (turn k); other = on-b k; two = l .before .before .if1 .taken }, answered (c .before .before .before .before), omega (arith, pre .3, h .scratch-long, f .scratch-long))
 
 add-b : tie.Need-add-b Inv-compare μ-compare Inv-seconds μ-seconds Inv-firsts μ-firsts
 add-b c = let k = c .before in omega (arith, on-b k .below, end-few (renewed (turn k)))
@@ -310,17 +321,23 @@ seconds-again : tie.Need-seconds-again Inv-compare μ-compare Inv-seconds μ-sec
 seconds-again c =
     let k = c .before in
     let r = renewed (turn k) in
-    let h = seconds k .seconds .inv .2 in
+    let x = seconds k .seconds in
+    let h = x .inv .2 in
     let old = atSecond (board r) (side r) (a (turn k)) (b k) in
     let new = atSecond (board r) (side r) (a (turn k)) (b k + 1) in (
       omega (arith, on-b k .from),
       omega (arith, on-b k .below),
       split (c .if1 .came)
-          (λ w. sharing-is (w .9) (w .10) (w .11) (w .12) (sharing-on h
-          (sharing-one (seconds k .seconds .tally) (a (turn k)) (b k) old new (λ q. seconds-other (tryShare (m r) (n r) (board r .vertices) (side r) q) (firstOf (side r) (m r)) (countOf (side r) (m r) (n r)) (a (turn k)) (b k) (on-b k .below) (w .0 .taken))
-          (h .running) (h .held) _ _ _ _ (w .6 .ensures .0) (w .6 .ensures .1 .0) (w .6 .kept .1 .1 .1 .0) (w .6 .ensures .1 .1))))
-          (λ w. sharing-is (w .1) (w .2) (w .3) (w .4) (sharing-on h
-          (sharing-none (seconds k .seconds .tally) old new (λ q. seconds-same (tryShare (m r) (n r) (board r .vertices) (side r) q) (firstOf (side r) (m r)) (countOf (side r) (m r) (n r)) (a (turn k)) (b k) (on-b k .below) (w .0 .left)) (h .running) (h .held) (h .ready)))),
+          (λ w. sharing-is (w .11) (w .12) (w .13) (w .14) (w .15) (sharing-on h
+          (sharing-one (x .tally) (a (turn k)) (b k) old new (another k (w .0 .taken)) (h .running) (h .held) _ _ _ _ _
+          (w .8 .ensures .0) (w .8 .ensures .1 .0 .0) (w .8 .ensures .1 .0 .1) (w .8 .kept .1 .1 .1 .1 .0) (w .8 .ensures .1 .1))))
+          (λ w. split w
+          (λ w.
+          let poor = share-passed (board r) (table k) (x .list) (side r) (a (turn k)) (b k) (x .tally .fresh) (x .tally .steps) (h .running) (h .ready) (sym (h .counted .each (b k) (on-b k)) ∙ w .1 .left) in
+          sharing-is (w .2) (w .3) (w .4) (w .5) (w .6) (sharing-on h
+          (sharing-one (x .tally) (a (turn k)) (b k) old new (another k (w .0 .taken)) (h .running) (h .held) _ _ _ _ _ poor (h .ready) (h .counted) refl refl)))
+          (λ w. sharing-is (w .1) (w .2) (w .3) (w .4) (w .5) (sharing-on h
+          (sharing-none (x .tally) old new (λ q. seconds-same (tryShare (m r) (n r) (board r .vertices) (side r) q) (firstOf (side r) (m r)) (countOf (side r) (m r) (n r)) (a (turn k)) (b k) (on-b k .below) (w .0 .left)) (h .running) (h .held) (h .ready) (h .counted))))),
     )
 
 add-a : tie.Need-add-a Inv-compare μ-compare Inv-seconds μ-seconds Inv-firsts μ-firsts
@@ -336,8 +353,8 @@ firsts-again c =
     let r = renewed f in
     let h = firsts f .firsts .inv .2 in
     let k = l .seconds .inv .2 in
-    let begun = sharing-none (firsts f .firsts .tally) (atFirst (board r) (side r) (a f)) (atSecond (board r) (side r) (a f) (firstOf (side r) (m r))) (λ q. seconds-all (tryShare (m r) (n r) (board r .vertices) (side r) q) (firstOf (side r) (m r)) (countOf (side r) (m r) (n r)) (a f) (on-a f .below)) (h .running) (h .held) (h .ready) in
-    let ended = sharing-none (l .seconds .tally) (atSecond (board r) (side r) (a f) (l .seconds .b)) (atFirst (board r) (side r) (a f + 1)) (λ q. seconds-done (tryShare (m r) (n r) (board r .vertices) (side r) q) (firstOf (side r) (m r)) (countOf (side r) (m r) (n r)) (a f) (l .seconds .b) (omega (arith, c .seconds-test .left, end-is r))) (k .running) (k .held) (k .ready) in
+    let begun = sharing-none (firsts f .firsts .tally) (atFirst (board r) (side r) (a f)) (atSecond (board r) (side r) (a f) (firstOf (side r) (m r))) (λ q. seconds-all (tryShare (m r) (n r) (board r .vertices) (side r) q) (firstOf (side r) (m r)) (countOf (side r) (m r) (n r)) (a f) (on-a f .below)) (h .running) (h .held) (h .ready) (h .counted) in
+    let ended = sharing-none (l .seconds .tally) (atSecond (board r) (side r) (a f) (l .seconds .b)) (atFirst (board r) (side r) (a f + 1)) (λ q. seconds-done (tryShare (m r) (n r) (board r .vertices) (side r) q) (firstOf (side r) (m r)) (countOf (side r) (m r) (n r)) (a f) (l .seconds .b) (omega (arith, c .seconds-test .left, end-is r))) (k .running) (k .held) (k .ready) (k .counted) in
     (omega (arith, on-a f .from), omega (arith, on-a f .below), sharing-on (sharing-on (sharing-on h begun) k) ended)
 
 same-length : tie.Need-same-length Inv-compare μ-compare Inv-seconds μ-seconds Inv-firsts μ-firsts
@@ -369,8 +386,10 @@ shares-spec =
     end-requires
     across-requires
     renew-requires
+    rich-ones-requires
     firsts-holds
     seconds-holds
+    array-read-if2
     compare-holds
     settle-requires
     place-requires

@@ -1,0 +1,4 @@
+pub mod Bytes
+pub mod Patterns
+pub mod Places
+pub mod Examples

@@ -1,0 +1,43 @@
+use borrow.Author.Needs.{needs}
+use mathlib.Core.Path.{_≡_, sym, ap, _∙_}
+use Prim.Native.Nat.{suc, _-_, _^_}
+use native.Mathlib.Omega.{arith}
+use lib.IntN.{negsuc}
+use mir.Syntax.{w64}
+use mir.Val.{toZ}
+use mir.Facts.{toZ-pos, toZ-neg}
+use Rattle.codec.proofs.Bytes.{power-fits}
+use Rattle.codec.proofs.Patterns.{twos-low, twos-high}
+use Rattle.codec.proofs.signed.of_pattern.Statement.{statement}
+use Rattle.codec.proofs.signed.of_pattern.Tie as tie
+
+greatest-requires : tie.Need-greatest-requires
+greatest-requires c κs = search needs
+
+cast-result : tie.Need-cast-result
+cast-result c = search needs
+
+returns : tie.Need-returns
+returns c =
+    let s = c .before .before in
+    toZ-pos w64 (omega (arith, power-fits (s .args .width) (s .pre .1))) ∙ sym (twos-low (s .args .width) (s .args .x) (omega arith))
+
+sub-result : tie.Need-sub-result
+sub-result c = search needs
+
+cast-result-2 : tie.Need-cast-result-2
+cast-result-2 c = search needs
+
+returns-2 : tie.Need-returns-2
+returns-2 c =
+    let s = c .before .before in
+    let w = s .args .width in
+    let x = s .args .x in
+    let k = c .before .greatest .result - x in
+    let e : k ≡ 256 ^ w - suc x = omega arith in
+    let flipped : 2 ^ 64 - 1 - k ≡ 2 ^ 64 - suc k = omega arith in
+    ap (toZ w64) flipped ∙ toZ-neg w64 k (omega (arith, power-fits w (s .pre .1))) ∙ ap negsuc e ∙ sym (twos-high w x (omega arith))
+
+pub of-pattern-spec : {M : Type 1} → statement M
+of-pattern-spec =
+    tie.close (tie.spec greatest-requires cast-result returns sub-result cast-result-2 returns-2)

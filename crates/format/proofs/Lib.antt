@@ -1,0 +1,4 @@
+pub mod Examples
+pub mod Rising
+pub mod Parsing
+pub mod RoundTrip

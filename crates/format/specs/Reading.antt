@@ -1,0 +1,125 @@
+-- Reading a board file: what the call answers, and the table afterwards.
+use mathlib.Core.Bool.{Bool, true, false, cond, _&&_}
+use mathlib.Core.List.{List}
+use Prim.Native.Nat.{ℕ, zero, suc, _+_, _*_}
+use lib.Dec.{leb, eqb}
+use lib.IntN.{ℤ}
+use lib.ListN.{length}
+use Rattle.graph.specs.Delay.{Delay, absent}
+use Rattle.graph.specs.Graph.{Graph}
+use Rattle.timing.specs.declared.Refusal.{Refusal}
+use Rattle.timing.specs.declared.Refusal.the-variants.{Sizes, TableShort, ScratchShort, ArcIntoInput, Cycle, FileEnds, WrongMark, NotRising, WrongCount, FileGoesOn}
+use Rattle.timing.specs.Refusal.{number, Verdict, refused, accepted}
+use Rattle.timing.specs.Table.{withGraph}
+use Rattle.timing.specs.Checks.{sizesFit, tableFits, scratchFits, noArcIntoInput, noCycle}
+use Rattle.format.specs.declared.Mark.{Mark}
+use Rattle.format.specs.declared.Mark.the-variants as M
+use Rattle.format.specs.declared.Record.{Record}
+use Rattle.format.specs.declared.Record.the-variants as R
+use Rattle.format.specs.Records.{byteAt, markAt, delayOf, recordAt}
+
+-- stopped by a number at an offset, or got a value
+pub data Reading (A : Type 0) : Type 0 where
+  stopped : ℕ → ℕ → Reading A
+  got : A → Reading A
+
+abbrev pub ask : {A : Type 0} → Bool → Refusal → ℕ → Reading A → Reading A
+ask true r p x = x
+ask false r p x = stopped (number r) p
+
+infixl 10 _next_
+abbrev pub _next_ : {A B : Type 0} → Reading A → (A → Reading B) → Reading B
+stopped r p next f = stopped r p
+got a next f = f a
+
+-- a verdict on what stands at p
+abbrev pub placed : {A : Type 0} → ℕ → Verdict A → Reading A
+placed p (refused r) = stopped r p
+placed p (accepted a) = got a
+
+pub record BoardSizes : Type 0 where
+  pub inputs : ℕ
+  pub outputs : ℕ
+  pub vertices : ℕ
+
+-- ---- the first record, and 1, 2, 3 right after its bytes
+
+abbrev pub isBoard : Mark → Bool
+isBoard M.Board = true
+isBoard M.Arc = false
+isBoard M.Cell = false
+isBoard M.End = false
+isBoard M.Other = false
+
+unfoldable pub header : List ℕ → Reading BoardSizes
+header s =
+    ask (leb 2 (length s)) FileEnds 0
+    (ask (isBoard (markAt s 0)) WrongMark 0
+    (ask (leb 5 (length s)) FileEnds 0
+    (got (record { inputs = byteAt s 2; outputs = byteAt s 3; vertices = byteAt s 4 }))))
+
+-- k is the length of the scratch
+unfoldable pub opened : List ℕ → List ℤ → ℕ → Reading BoardSizes
+opened s t k = header s next λ b.
+    ask (sizesFit (b .inputs) (b .outputs) (b .vertices)) Sizes 0
+    (ask (tableFits (b .vertices) t) TableShort 0
+    (ask (scratchFits (b .vertices) k) ScratchShort 0
+    (got b)))
+
+-- ---- the records after it
+
+-- the record r at offset p, where cells below `low` have been passed and `count` arcs read; what follows goes on at the next record
+abbrev pub rising : ℕ → List ℕ → ℕ → ℕ → ℕ → (ℕ → ℕ → ℕ → Reading (Unit {0})) → Record → Reading (Unit {0})
+rising N s p low count onward (R.Arc u v d) = ask (leb low (N * u + v)) NotRising p (onward (p + 8) (suc (N * u + v)) (suc count))
+rising N s p low count onward (R.Cell u v c) = ask (leb low (N * u + v)) NotRising p (onward (p + 5) (suc (N * u + v)) (suc count))
+rising N s p low count onward (R.End n) = ask (eqb n count) WrongCount p (ask (eqb (p + 4) (length s)) FileGoesOn (p + 4) (got tt))
+
+-- a record has four bytes or more, so that as many turns as bytes are enough
+unfoldable pub recordsFrom : ℕ → ℕ → List ℕ → ℕ → ℕ → ℕ → Reading (Unit {0})
+recordsFrom zero N s p low count = stopped (number FileEnds) p
+recordsFrom (suc turns) N s p low count = placed p (recordAt N s p) next rising N s p low count (recordsFrom turns N s)
+
+-- the arcs of the records, placed one after another
+abbrev pub withArc : ℕ → ℕ → Delay → Graph → Graph
+withArc u v d g x y = cond (eqb x u && eqb y v) d (g x y)
+
+abbrev pub arcOf : ℕ → Graph → (ℕ → Graph → Graph) → Verdict Record → Graph
+arcOf p g onward (refused r) = g
+arcOf p g onward (accepted (R.Arc u v d)) = onward (p + 8) (withArc u v (delayOf (R.Arc u v d)) g)
+arcOf p g onward (accepted (R.Cell u v c)) = onward (p + 5) (withArc u v (delayOf (R.Cell u v c)) g)
+arcOf p g onward (accepted (R.End n)) = g
+
+unfoldable pub arcsFrom : ℕ → ℕ → List ℕ → ℕ → Graph → Graph
+arcsFrom zero N s p g = g
+arcsFrom (suc turns) N s p g = arcOf p g (arcsFrom turns N s) (recordAt N s p)
+
+-- no arcs: cells that no record names are absent
+abbrev pub noArcs : Graph
+noArcs u v = absent
+
+unfoldable pub fileGraph : ℕ → List ℕ → Graph
+fileGraph N s = arcsFrom (length s) N s 5 noArcs
+
+-- the records, then 5 and 6, at offset 0
+unfoldable pub arcsRead : BoardSizes → List ℕ → Reading Graph
+arcsRead b s = recordsFrom (length s) (b .vertices) s 5 0 0 next λ _.
+    ask (noArcIntoInput (b .inputs) (b .vertices) (fileGraph (b .vertices) s)) ArcIntoInput 0
+    (ask (noCycle (b .vertices) (fileGraph (b .vertices) s)) Cycle 0
+    (got (fileGraph (b .vertices) s)))
+
+-- ---- the call
+
+unfoldable pub readCall : List ℕ → List ℤ → ℕ → Reading BoardSizes
+readCall s t k = opened s t k next λ b. arcsRead b s next λ _. got b
+
+-- refused before the sizes are good, it leaves the table; refused later, N × N absent cells
+abbrev pub graphRead : Reading Graph → Graph
+graphRead (stopped r p) = noArcs
+graphRead (got g) = g
+
+abbrev pub tableOf : Reading BoardSizes → List ℕ → List ℤ → List ℤ
+tableOf (stopped r p) s t = t
+tableOf (got b) s t = withGraph (b .vertices) (graphRead (arcsRead b s)) t
+
+unfoldable pub tableRead : List ℕ → List ℤ → ℕ → List ℤ
+tableRead s t k = tableOf (opened s t k) s t
