@@ -3,9 +3,9 @@ use mathlib.Core.Path.{_≡_, refl, sym, ap₂, subst}
 use mathlib.Core.Logic.{_⊎_, inl, inr}
 use mathlib.Core.Bool.{Bool, true, false, not, cond, _&&_, _||_}
 use mathlib.Core.List.{List, [], _∷_}
-use Prim.Native.Nat.{ℕ, zero, suc, _+_, _<_}
+use Prim.Native.Nat.{ℕ, zero, suc, _+_, _≤_, _<_}
 use native.Mathlib.Nat.{not-suc-le-zero}
-use native.Mathlib.Decide.{ℕ-discrete}
+use native.Mathlib.Decide.{ℕ-discrete, decLt}
 use native.Mathlib.Numerals.{add-one}
 use native.Mathlib.Omega.{arith}
 use borrow.Author.Tests.{lt-ltb, le-ltb}
@@ -92,6 +92,13 @@ first-found (suc n) f i l h e = go (first-found n f i) (ℕ-discrete i n)
     go : (i < n → ((j : ℕ) → j < i → f j ≡ false) → f i ≡ true → first n f ≡ i) → Dec (i ≡ n) → cond (ltb (first n f) n) (first n f) (cond (f n) n (suc n)) ≡ i
     go ih (yes q) = simp (first-none n f (λ j k. h j (omega arith)), le-ltb n n (omega arith), subst (λ (x : ℕ). f x ≡ true) q e) (sym q)
     go ih (no q) = simp (ih (omega arith) h e, lt-ltb i n (omega arith))
+
+pub first-above : (n : ℕ) (f : ℕ → Bool) (i : ℕ) → i ≤ n → ((j : ℕ) → j < i → f j ≡ false) → i ≤ first n f
+first-above n f i l h = go (decLt (first n f) i)
+  where
+    go : Dec (first n f < i) → i ≤ first n f
+    go (yes k) = absurd (subst T (h (first n f) k) (first-holds n f (omega arith)))
+    go (no k) = omega arith
 
 pub each-at : (xs : List ℕ) (f : ℕ → Bool) → T (each xs f) → (x : ℕ) → T (member x xs) → T (f x)
 unfolding each member

@@ -3,6 +3,7 @@ pub mod Rows
 pub mod ReadCells
 pub mod Inputs
 pub mod Sorting
+pub mod Before
 pub mod Pushing
 pub mod Later
 pub mod Propagating

@@ -23,7 +23,7 @@ use Rattle.graph.proofs.Longest.{Within}
 use Rattle.graph.proofs.Rank.{Ranked, acyclic-ranked}
 use Rattle.paths.specs.Order.{TopologicalOrder}
 
-pub order-ranked : {n : ℕ} {g : Graph} {o : List ℕ} → TopologicalOrder n g o → Ranked g
+unfoldable pub order-ranked : {n : ℕ} {g : Graph} {o : List ℕ} → TopologicalOrder n g o → Ranked g
 order-ranked s = record { rank = s .rank; rise = s .rise }
 
 -- ---- sums

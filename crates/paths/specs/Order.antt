@@ -3,8 +3,9 @@ use mathlib.Core.Path.{_≡_}
 use mathlib.Core.Bool.{Bool}
 use mathlib.Core.List.{List}
 use Prim.Native.Nat.{ℕ, _<_}
-use lib.Dec.{T}
+use lib.Dec.{T, eqb, ltb}
 use lib.ListN.{length, getD}
+use Rattle.laws.specs.Bounded.{first}
 use Rattle.graph.specs.Delay.{present}
 use Rattle.graph.specs.Graph.{Graph}
 use Rattle.timing.specs.Limits.{maxVertices}
@@ -22,3 +23,7 @@ pub record Ordered (N : ℕ) (g : Graph) (o : List ℕ) (r : Bool) : Type 0 wher
   pub long : length o ≡ maxVertices
   pub answer : r ≡ noCycle N g
   pub order : T r → TopologicalOrder N g o
+
+-- a stands before b among the first n
+unfoldable pub standsBefore : ℕ → List ℕ → ℕ → ℕ → Bool
+standsBefore n o a b = ltb (first n (λ p. eqb (getD o p 0) a)) (first n (λ p. eqb (getD o p 0) b))

@@ -10,7 +10,7 @@ ghost use Rattle.timing.specs.Limits.{maxVertices, absentCell};
 ghost use Rattle.timing.specs.Table.{readCell, graphOf};
 ghost use Rattle.paths.specs.Board.{Lent};
 ghost use Rattle.paths.specs.Cells.{cellAt};
-ghost use Rattle.paths.specs.Order.{Ordered};
+ghost use Rattle.paths.specs.Order.{Ordered, standsBefore};
 
 // A byte for each vertex.
 pub fn bytes() -> [u8; Board::MAX_VERTICES]
@@ -92,4 +92,30 @@ pub fn topological_order(board: Board, table: &[i32], list: &mut [u8; Board::MAX
         p += 1;
     }
     true
+}
+
+// A byte of the list as a vertex.
+fn vertex(x: u8) -> usize
+    ensures { λ r. ⌜ r ≡ x ⌝ }
+{
+    x as usize
+}
+
+// Whether a stands before b among the first n bytes of `list`.
+pub fn stands_before(list: &[u8; Board::MAX_VERTICES], n: usize, a: usize, b: usize) -> bool
+    requires { ⌜ n ≤ maxVertices ⌝ }
+    ensures { λ r. ⌜ r ≡ standsBefore n (now (list .entry)) a b ⌝ }
+{
+    let mut p = 0;
+    while p < n {
+        let v = vertex(list[p]);
+        if v == b {
+            break;
+        }
+        if v == a {
+            return true;
+        }
+        p += 1;
+    }
+    false
 }

@@ -6,6 +6,7 @@ use crate::verdict::Difference;
 use paths::Board;
 use paths::arrivals;
 use paths::cells;
+use paths::order;
 use timing::Refusal;
 ghost use mathlib.Core.Path.{_≡_};
 ghost use mathlib.Core.Bool.{not, _&&_};
@@ -14,6 +15,8 @@ ghost use lib.Dec.{eqb, ltb};
 ghost use lib.IntN.{pos};
 ghost use lib.ListN.{length, getD, drop};
 ghost use Rattle.laws.specs.Lists.{tabulate};
+ghost use Rattle.graph.specs.Delay.{present};
+ghost use Rattle.graph.specs.Graph.{longest};
 ghost use Rattle.timing.specs.Limits.{maxVertices, scratchCells};
 ghost use Rattle.timing.specs.Table.{graphOf, withGraph};
 ghost use Rattle.timing.specs.Delays.{matrix, column, arrivalIn};
@@ -159,6 +162,30 @@ fn columns_difference(
     }
 }
 
+// Whether a path leads from b to a. None does where a stands before b.
+fn path_back(
+    board: Board,
+    table: &[i32],
+    list: &[u8; Board::MAX_VERTICES],
+    scratch: &mut [i64],
+    a: usize,
+    b: usize,
+) -> bool
+    requires { ⌜ Passable board (now table) (now list) × (board .vertices ≤ length (now scratch)) × TwoOutputs board a b ⌝ }
+    ensures { λ r. ⌜ (r ≡ present (longest (graphOf (board .vertices) (now (table .entry))) (board .vertices) b a)) × (drop (board .vertices) (now (scratch .exit)) ≡ drop (board .vertices) (now (scratch .entry))) ⌝ }
+{
+    let n = board.vertices;
+    if order::stands_before(list, n, a, b) {
+        return false;
+    }
+    let at = n * b + a;
+    if cells::is_arc(table[at]) {
+        return true;
+    }
+    arrivals::delays_from(board, table, list, b, scratch);
+    scratch[a] != Board::ABSENT_WIDE
+}
+
 // What is left to ask where e is the common difference.
 pub fn outputs_saved(
     board: Board,
@@ -172,8 +199,7 @@ pub fn outputs_saved(
     requires { ⌜ Passable board (now table) (now list) × (board .vertices ≤ length (now scratch)) × TwoOutputs board a b ⌝ }
     ensures { λ r. ⌜ (differenceMeaning r ≡ outputsSaved (board .vertices) (graphOf (board .vertices) (now (table .entry))) a b e) × (drop (board .vertices) (now (scratch .exit)) ≡ drop (board .vertices) (now (scratch .entry))) ⌝ }
 {
-    arrivals::delays_from(board, table, list, b, scratch);
-    if scratch[a] != Board::ABSENT_WIDE {
+    if path_back(board, table, list, scratch, a, b) {
         return Difference::Refused(Refusal::PathBack);
     }
     if cells::fan_in(board, table, b) < 2 {

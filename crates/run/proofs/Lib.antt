@@ -12,3 +12,4 @@ pub mod Counting
 pub mod Rounding
 pub mod Ending
 pub mod HeldMatrix
+pub mod OrderKept

@@ -3,6 +3,7 @@ use crate::counts;
 use crate::fresh;
 use crate::side::Side;
 use paths::Board;
+use paths::order;
 use plans::share;
 use plans::sums;
 use plans::verdict::Difference;
@@ -111,7 +112,8 @@ pub fn try_share(
         if share(board, table, list, scratch, side, a, b, k, e) {
             rich[a] = counts::is_rich(board, table, side, a);
             rich[b] = counts::is_rich(board, table, side, b);
-            let fresh = fresh::renew(board, table, list, side);
+            let still = order::stands_before(list, board.vertices, a, b);
+            let fresh = fresh::renew(board, table, list, side, still);
             return Tally {
                 steps: steps + 1,
                 fresh,

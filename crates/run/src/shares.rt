@@ -38,7 +38,7 @@ pub fn shares(
     let from = side::first(board, side);
     let end = side::end(board, side);
     let across = side::across(board, side);
-    let fresh = fresh::renew(board, table, list, side);
+    let fresh = fresh::renew(board, table, list, side, false);
     let mut rich = counts::rich_ones(board, table, side);
     let mut tally = Tally { steps, fresh };
     let mut a = from;

@@ -18,22 +18,27 @@ fresh-number-requires c κs = search needs
 enum-told-2 : tie.Need-enum-told-2
 enum-told-2 c = search needs
 
-topological-order-requires : tie.Need-topological-order-requires
-topological-order-requires c κs = search needs
-
 other : Inputs ≡ Outputs → ⊥
 other q = let z : _≡_ {A = ℕ} 0 1 = cc in omega arith
 
 returns : tie.Need-returns
 returns c =
+    let s = c .before .before .before in
+    record { long = s .pre .1; fresh = λ q. absurd (other (sym q ∙ c .before .enum-told2 .given .1)); order = s .pre .2 (c .if1 .taken) }
+
+topological-order-requires : tie.Need-topological-order-requires
+topological-order-requires c κs = search needs
+
+returns-2 : tie.Need-returns-2
+returns-2 c =
     let e = c .before .enum-told .given .1 in
     let s = c .before .before .before in
     record { long = s .pre .1; fresh = λ _. c .fresh-number .ensures; order = λ q. absurd (other (sym e ∙ q)) }
 
-returns-2 : tie.Need-returns-2
-returns-2 c =
-    let e = c .before .before .enum-told2 .given .1 in
-    let s = c .before .before .before .before in
+returns-3 : tie.Need-returns-3
+returns-3 c =
+    let e = c .before .before .before .enum-told2 .given .1 in
+    let s = c .before .before .before .before .before in
     let h = c .topological-order .ensures in
     let N = s .args .board .vertices in
     let rises : T (c .topological-order .result) = subst T (sym (h .answer)) (acyclic-noCycle N (graphOf N (s .args .table .now)) (s .pre .0 .sound .acyclic)) in
@@ -46,6 +51,7 @@ renew-spec =
     enum-told
     fresh-number-requires
     enum-told-2
-    topological-order-requires
     returns
-    returns-2)
+    topological-order-requires
+    returns-2
+    returns-3)

