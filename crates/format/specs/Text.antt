@@ -1,9 +1,9 @@
 -- The text that `thin` writes, from the bytes that it reads.
-use mathlib.Core.Bool.{cond}
 use mathlib.Core.List.{List, [], _∷_, _++_}
-use Prim.Native.Nat.{ℕ, zero, suc, _+_, _*_, _/_, _%_}
+use Prim.Native.Nat.{ℕ, zero, suc, _+_, _*_, _/_, _%_, _^_}
 use lib.Dec.{ltb}
 use lib.IntN.{ℤ, pos, negsuc}
+use Rattle.laws.specs.Bounded.{first}
 use Rattle.laws.specs.Lists.{tabulate}
 use Rattle.timing.specs.Limits.{maxVertices, absentCell}
 use Rattle.timing.specs.Refusal.{Verdict, refused, accepted}
@@ -15,14 +15,17 @@ use Rattle.format.specs.Reading.{Reading, stopped, got, BoardSizes, read
 
 -- ---- numbers
 
--- the decimal digits of n, at most k
+-- the last k decimal digits of n
 unfoldable pub digits : ℕ → ℕ → List ℕ
 digits zero n = []
-digits (suc k) n = cond (ltb n 10) ((48 + n) ∷ []) (digits k (n / 10) ++ ((48 + n % 10) ∷ []))
+digits (suc k) n = (48 + n / 10 ^ k % 10) ∷ digits k n
 
--- of a number below 10 ^ 20
+-- how many digits a number below 10,000,000,000 has
+unfoldable pub digitsOf : ℕ → ℕ
+digitsOf n = suc (first 9 (λ k. ltb n (10 ^ suc k)))
+
 abbrev pub decimal : ℕ → List ℕ
-decimal n = digits 20 n
+decimal n = digits (digitsOf n) n
 
 abbrev pub signedDecimal : ℤ → List ℕ
 signedDecimal (pos n) = decimal n

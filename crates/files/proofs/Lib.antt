@@ -1,0 +1,11 @@
+pub mod CellCodes
+pub mod Ends
+pub mod AcceptedRecords
+pub mod Turning
+pub mod Scanning
+pub mod Appending
+pub mod Remaining
+pub mod Turns
+pub mod ArcParts
+pub mod ArcRecords
+pub mod FileAnswers

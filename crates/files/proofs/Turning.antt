@@ -1,0 +1,48 @@
+-- What a turn of the pass over the records says.
+use mathlib.Core.Path.{_≡_, sym, subst}
+use mathlib.Core.List.{List}
+use Prim.Native.Nat.{ℕ, _+_, _*_, _≤_, _<_}
+use native.Mathlib.Omega.{arith}
+use lib.ListN.{length}
+use Rattle.laws.proofs.Grid.{row-in, area}
+use Rattle.timing.specs.declared.Refusal.{Refusal}
+use Rattle.timing.specs.Limits.{maxVertices}
+use Rattle.timing.specs.Refusal.{number, Verdict}
+use Rattle.format.specs.declared.Record.{Record}
+use Rattle.format.specs.Reading.{Reading, stopped, got}
+use Rattle.files.specs.declared.scan.Cursor.{Cursor}
+use Rattle.files.specs.declared.scan.Turned.{Turned}
+use Rattle.files.specs.declared.scan.Turned.the-variants as T
+use Rattle.files.specs.Scan.{Onward, recordSays, foundSays, Within, Turns}
+
+-- a cell of the largest table
+pub cell-few : (n u v : ℕ) → n ≤ maxVertices → u < n → v < n → n * u + v < maxVertices * maxVertices
+cell-few n u v h i j = omega (arith, row-in n u i, area n maxVertices h)
+
+module _ {bytes : ℕ} {c : Cursor} {v : Onward → Reading (Unit {0})} where
+  pub refuses : (x : Refusal) (p : ℕ) → ((onward : Onward) → stopped (number x) p ≡ v onward) → Turns bytes c v (T.Refused x p)
+  refuses x p h = record { meaning = h; further = λ d e. absurd (let z : _≡_ {A = ℕ} 0 1 = cc in omega arith) }
+
+  pub ends : ((onward : Onward) → got tt ≡ v onward) → Turns bytes c v T.Done
+  ends h = record { meaning = h; further = λ d e. absurd (let z : _≡_ {A = ℕ} 0 1 = cc in omega arith) }
+
+  pub goes-on : (d : Cursor) → ((onward : Onward) → onward (d .at) (d .low) (d .count) ≡ v onward) → c .at < d .at → Within bytes d → Turns bytes c v (T.On d)
+  goes-on d h l w = record { meaning = h; further = λ x e. subst (λ (y : Cursor). (c .at < y .at) × Within bytes y) (same d x e) (l, w) }
+    where
+      same : (x y : Cursor) → T.On x ≡ T.On y → x ≡ y
+      same x y e = cc
+
+-- a file that is longer
+in-longer : (short long : ℕ) {c : Cursor} {v : Onward → Reading (Unit {0})} {r : Turned} → short ≤ long → Turns short c v r → Turns long c v r
+in-longer short long l t = record {
+  meaning = t .meaning;
+  further = λ d e. let f = t .further d e in (f .0, record { inside = omega (arith, f .1 .inside, l); few = f .1 .few });
+}
+
+-- what a record or a verdict says, once it is known to be y
+module _ {c : Cursor} {r : Turned} (N : ℕ) (s : List ℕ) where
+  pub record-is : {x y : Record} {short : ℕ} → x ≡ y → short ≤ length s → Turns short c (recordSays N s c y) r → Turns (length s) c (recordSays N s c x) r
+  record-is {short = short} e l t = in-longer short (length s) l (subst (λ (z : Record). Turns short c (recordSays N s c z) r) (sym e) t)
+
+  pub found-is : {x y : Verdict Record} → x ≡ y → Turns (length s) c (foundSays N s c y) r → Turns (length s) c (foundSays N s c x) r
+  found-is e t = subst (λ (z : Verdict Record). Turns (length s) c (foundSays N s c z) r) (sym e) t

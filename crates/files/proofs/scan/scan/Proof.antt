@@ -1,0 +1,66 @@
+use borrow.Author.Needs.{needs}
+use Prim.Native.Nat.{_-_}
+use native.Mathlib.Omega.{arith}
+use lib.ListN.{length}
+use Rattle.files.proofs.Scanning.{Left, all-left, turn-says, still-left}
+use Rattle.files.proofs.scan.scan.Statement.{statement}
+use Rattle.files.proofs.scan.scan.Tie as tie
+
+abbrev Inv-records : tie.InvT-records
+Inv-records bytes n cursor₀ cursor = Left n bytes cursor
+
+abbrev μ-records : tie.MeasureT-records
+μ-records bytes n cursor₀ cursor = length bytes - cursor .at
+
+records-holds : tie.Need-records-holds Inv-records μ-records
+records-holds c = all-left (c .before .args .n) (c .before .args .bytes .now) (c .before .pre .0)
+
+turn-requires : tie.Need-turn-requires Inv-records μ-records
+turn-requires c κs = (c .before .before .pre .1, c .records .inv .within)
+
+enum-known-turned : tie.Need-enum-known-turned Inv-records μ-records
+enum-known-turned c = search needs
+
+records-less : tie.Need-records-less Inv-records μ-records
+records-less c =
+    let k = c .before in
+    let u = k .before .before in
+    let f = u .turn .ensures .further _ (k .turned .given .1) in
+    omega (arith, f .0, f .1 .inside)
+
+records-again : tie.Need-records-again Inv-records μ-records
+records-again c =
+    let k = c .before in
+    let u = k .before .before in
+    still-left (u .before .records .inv) (u .turn .ensures) _ (k .turned .given .1)
+
+enum-told : tie.Need-enum-told Inv-records μ-records
+enum-told c = search needs
+
+enum-known-turned-2 : tie.Need-enum-known-turned-2 Inv-records μ-records
+enum-known-turned-2 c = search needs
+
+returns : tie.Need-returns Inv-records μ-records
+returns c = let u = c .before .before in turn-says (u .before .records .inv) (u .turn .ensures) (c .enum-told .given .1)
+
+returns-2 : tie.Need-returns-2 Inv-records μ-records
+returns-2 c =
+    let k = c .before in
+    let u = k .before .before in
+    turn-says (u .before .records .inv) (u .turn .ensures) (k .turned2 .given .1)
+
+pub scan-spec : {M : Type 1} → statement M
+scan-spec =
+    tie.close
+    (tie.spec
+    Inv-records
+    μ-records
+    records-holds
+    turn-requires
+    enum-known-turned
+    records-less
+    records-again
+    enum-told
+    enum-known-turned-2
+    returns
+    returns-2)

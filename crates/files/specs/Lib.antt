@@ -1,0 +1,4 @@
+pub mod Records
+pub mod Scan
+pub mod Appending
+pub mod Writing

@@ -1,0 +1,30 @@
+-- What is found at an offset: document 01's number, or what stands there.
+use mathlib.Core.List.{List}
+use Prim.Native.Nat.{ℕ, _+_, _≤_, _<_}
+use lib.Dec.{T}
+use lib.IntN.{ℤ}
+use lib.ListN.{length}
+use Rattle.graph.specs.Delay.{at}
+use Rattle.timing.specs.Limits.{delayLimit, fits}
+use Rattle.timing.specs.Refusal.{number, Verdict, refused, accepted, isAccepted}
+use Rattle.format.specs.declared.Record.{Record}
+use Rattle.format.specs.declared.Record.the-variants as R
+use Rattle.format.specs.Records.{ticksOf}
+use Rattle.files.specs.declared.records.Ticks.{Ticks}
+use Rattle.files.specs.declared.records.Ticks.the-variants as K
+use Rattle.files.specs.declared.records.Found.{Found}
+use Rattle.files.specs.declared.records.Found.the-variants as F
+
+abbrev pub ticksMeaning : Ticks → Verdict ℤ
+ticksMeaning (K.Of d) = accepted d
+ticksMeaning (K.Refused r) = refused (number r)
+
+abbrev pub foundMeaning : Found → Verdict Record
+foundMeaning (F.Record r) = accepted r
+foundMeaning (F.Refused r) = refused (number r)
+
+-- a record found at p: its bytes are all there, an arc's ends are vertices, and it has a delay
+abbrev pub Legal : ℕ → List ℕ → ℕ → Record → Type 0
+Legal N s p (R.Arc u v d) = (p + 8 ≤ length s) × (u < N) × (v < N) × T (fits delayLimit (at d))
+Legal N s p (R.Cell u v c) = (p + 5 ≤ length s) × (u < N) × (v < N) × T (isAccepted (ticksOf c))
+Legal N s p (R.End n) = p + 4 ≤ length s

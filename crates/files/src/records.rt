@@ -1,0 +1,165 @@
+// What stands at an offset of a file.
+use codec::signed;
+use codec::unsigned;
+use format::Mark;
+use format::Record;
+use paths::cells;
+use plans::sums;
+use timing::Refusal;
+ghost use mathlib.Core.Bool.{_&&_};
+ghost use mathlib.Core.Path.{_≡_};
+ghost use Prim.Native.Nat.{ℕ, _+_, _<_, _≤_};
+ghost use lib.Dec.{ltb};
+ghost use lib.ListN.{length};
+ghost use Rattle.format.specs.declared.Mark.the-variants.{Arc, Cell, End};
+ghost use Rattle.format.specs.Records.{byteAt, letters, markAt, ticksOf, body, recordAt};
+ghost use Rattle.files.specs.Records.{ticksMeaning, foundMeaning};
+
+// The ticks of a cell code.
+pub enum Ticks {
+    Of(i32),
+    Refused(Refusal),
+}
+
+pub enum Found {
+    Record(Record),
+    Refused(Refusal),
+}
+
+fn wide(x: u8) -> usize
+    ensures { λ r. ⌜ (r ≡ x) × (r < 256) ⌝ }
+{
+    x as usize
+}
+
+pub fn byte(bytes: &[u8], at: usize) -> usize
+    requires { ⌜ at < length (now bytes) ⌝ }
+    ensures { λ r. ⌜ (r ≡ byteAt (now (bytes .entry)) at) × (r < 256) ⌝ }
+{
+    wide(bytes[at])
+}
+
+// Whether the letters x and y stand at `at`.
+pub fn letters(bytes: &[u8], at: usize, x: u8, y: u8) -> bool
+    requires { ⌜ at + 2 ≤ length (now bytes) ⌝ }
+    ensures { λ r. ⌜ r ≡ letters x y (now (bytes .entry)) at ⌝ }
+{
+    if bytes[at] != x {
+        return false;
+    }
+    bytes[at + 1] == y
+}
+
+pub fn mark_at(bytes: &[u8], at: usize) -> Mark
+    requires { ⌜ at + 2 ≤ length (now bytes) ⌝ }
+    ensures { λ r. ⌜ r ≡ markAt (now (bytes .entry)) at ⌝ }
+{
+    if letters(bytes, at, b'B', b'D') {
+        return Mark::Board;
+    }
+    if letters(bytes, at, b'A', b'R') {
+        return Mark::Arc;
+    }
+    if letters(bytes, at, b'C', b'E') {
+        return Mark::Cell;
+    }
+    if letters(bytes, at, b'E', b'N') {
+        return Mark::End;
+    }
+    Mark::Other
+}
+
+pub fn cell_ticks(code: u8) -> Ticks
+    ensures { λ r. ⌜ ticksMeaning r ≡ ticksOf code ⌝ }
+{
+    match code {
+        // INV
+        0 => Ticks::Of(1),
+        // NAND2
+        1 => Ticks::Of(2),
+        // AND
+        2 => Ticks::Of(2),
+        // OR
+        3 => Ticks::Of(2),
+        // MUX
+        4 => Ticks::Of(2),
+        5..=255 => Ticks::Refused(Refusal::WrongField),
+    }
+}
+
+// Whether both ends of an arc are vertices.
+fn vertices(n: usize, u: usize, v: usize) -> bool
+    ensures { λ r. ⌜ r ≡ (ltb u n && ltb v n) ⌝ }
+{
+    if u < n {
+        return v < n;
+    }
+    false
+}
+
+fn arc_at(bytes: &[u8], n: usize, at: usize) -> Found
+    requires { ⌜ at + 2 ≤ length (now bytes) ⌝ }
+    ensures { λ r. ⌜ foundMeaning r ≡ body n (now (bytes .entry)) at Arc ⌝ }
+{
+    if bytes.len() - at < 8 {
+        return Found::Refused(Refusal::FileEnds);
+    }
+    let u = byte(bytes, at + 2);
+    let v = byte(bytes, at + 3);
+    if !vertices(n, u, v) {
+        return Found::Refused(Refusal::WrongField);
+    }
+    let d = signed::decode(bytes, at + 4, 4);
+    if !cells::in_range(d) {
+        return Found::Refused(Refusal::WrongField);
+    }
+    Found::Record(Record::Arc(u, v, sums::narrow(d)))
+}
+
+fn cell_at(bytes: &[u8], n: usize, at: usize) -> Found
+    requires { ⌜ at + 2 ≤ length (now bytes) ⌝ }
+    ensures { λ r. ⌜ foundMeaning r ≡ body n (now (bytes .entry)) at Cell ⌝ }
+{
+    if bytes.len() - at < 5 {
+        return Found::Refused(Refusal::FileEnds);
+    }
+    let u = byte(bytes, at + 2);
+    let v = byte(bytes, at + 3);
+    if !vertices(n, u, v) {
+        return Found::Refused(Refusal::WrongField);
+    }
+    let code = bytes[at + 4];
+    let ticks = cell_ticks(code);
+    match ticks {
+        Ticks::Of(_) => Found::Record(Record::Cell(u, v, code)),
+        Ticks::Refused(r) => Found::Refused(r),
+    }
+}
+
+fn end_at(bytes: &[u8], at: usize) -> Found
+    requires { ⌜ at + 2 ≤ length (now bytes) ⌝ }
+    ensures { λ r. ⌜ ((n : ℕ) → foundMeaning r ≡ body n (now (bytes .entry)) at End) ⌝ }
+{
+    if bytes.len() - at < 4 {
+        return Found::Refused(Refusal::FileEnds);
+    }
+    Found::Record(Record::End(unsigned::number(bytes, at + 2, 2) as usize))
+}
+
+// The record at `at`, in a file of n vertices.
+pub fn record_at(bytes: &[u8], n: usize, at: usize) -> Found
+    requires { ⌜ at ≤ length (now bytes) ⌝ }
+    ensures { λ r. ⌜ foundMeaning r ≡ recordAt n (now (bytes .entry)) at ⌝ }
+{
+    if bytes.len() - at < 2 {
+        return Found::Refused(Refusal::FileEnds);
+    }
+    let mark = mark_at(bytes, at);
+    match mark {
+        Mark::Board => Found::Refused(Refusal::WrongMark),
+        Mark::Arc => arc_at(bytes, n, at),
+        Mark::Cell => cell_at(bytes, n, at),
+        Mark::End => end_at(bytes, at),
+        Mark::Other => Found::Refused(Refusal::WrongMark),
+    }
+}

@@ -1,0 +1,113 @@
+// Pass 1: every record is checked, nothing is written.
+use crate::records;
+use crate::records::Found;
+use format::Record;
+use timing::Refusal;
+ghost use mathlib.Core.Path.{_≡_};
+ghost use Prim.Native.Nat.{ℕ, _+_, _<_, _≤_};
+ghost use lib.ListN.{length};
+ghost use Rattle.timing.specs.Limits.{maxVertices};
+ghost use Rattle.format.specs.declared.Record.the-variants.{End};
+ghost use Rattle.format.specs.Records.{recordAt};
+ghost use Rattle.format.specs.Reading.{recordsFrom};
+ghost use Rattle.files.specs.Records.{Legal};
+ghost use Rattle.files.specs.Scan.{Within, Turns, arcSays, recordSays, foundSays, scanMeaning};
+
+// Where the next record stands, the first cell that its arc may have, and the arcs so far.
+pub struct Cursor {
+    pub at: usize,
+    pub low: usize,
+    pub count: usize,
+}
+
+// What a record says: go on, the file is done, or a refusal at an offset.
+pub enum Turned {
+    On(Cursor),
+    Done,
+    Refused(Refusal, usize),
+}
+
+pub enum Scanned {
+    Done,
+    Refused(Refusal, usize),
+}
+
+// An arc's record; what follows it stands at `after`.
+fn arc_turn(n: usize, cursor: Cursor, u: usize, v: usize, after: usize) -> Turned
+    requires { ⌜ (n ≤ maxVertices) × (u < n) × (v < n) × (cursor .at < after) × (cursor .count ≤ cursor .at) ⌝ }
+    ensures { λ r. ⌜ Turns after cursor (arcSays n cursor u v after) r ⌝ }
+{
+    let cell = n * u + v;
+    if cell < cursor.low {
+        return Turned::Refused(Refusal::NotRising, cursor.at);
+    }
+    Turned::On(Cursor {
+        at: after,
+        low: cell + 1,
+        count: cursor.count + 1,
+    })
+}
+
+// The last record, with its count of arcs.
+fn end_turn(bytes: &[u8], cursor: Cursor, arcs: usize) -> Turned
+    requires { ⌜ cursor .at + 4 ≤ length (now bytes) ⌝ }
+    ensures { λ r. ⌜ ((n : ℕ) → Turns (length (now (bytes .entry))) cursor (recordSays n (now (bytes .entry)) cursor (End arcs)) r) ⌝ }
+{
+    let end = cursor.at + 4;
+    if arcs != cursor.count {
+        return Turned::Refused(Refusal::WrongCount, cursor.at);
+    }
+    if end != bytes.len() {
+        return Turned::Refused(Refusal::FileGoesOn, end);
+    }
+    Turned::Done
+}
+
+fn record_turn(bytes: &[u8], n: usize, cursor: Cursor, item: Record) -> Turned
+    requires { ⌜ (n ≤ maxVertices) × Within (length (now bytes)) cursor × Legal n (now bytes) (cursor .at) item ⌝ }
+    ensures { λ r. ⌜ Turns (length (now (bytes .entry))) cursor (recordSays n (now (bytes .entry)) cursor item) r ⌝ }
+{
+    match item {
+        Record::Arc(u, v, _) => arc_turn(n, cursor, u, v, cursor.at + 8),
+        Record::Cell(u, v, _) => arc_turn(n, cursor, u, v, cursor.at + 5),
+        Record::End(arcs) => end_turn(bytes, cursor, arcs),
+    }
+}
+
+fn turn(bytes: &[u8], n: usize, cursor: Cursor) -> Turned
+    requires { ⌜ (n ≤ maxVertices) × Within (length (now bytes)) cursor ⌝ }
+    ensures { λ r. ⌜ Turns (length (now (bytes .entry))) cursor (foundSays n (now (bytes .entry)) cursor (recordAt n (now (bytes .entry)) (cursor .at))) r ⌝ }
+{
+    let at = cursor.at;
+    let found = records::record_at(bytes, n, at);
+    match found {
+        Found::Record(item) => record_turn(bytes, n, cursor, item),
+        Found::Refused(r) => Turned::Refused(r, at),
+    }
+}
+
+// The records of a file of n vertices, from the one after the header on.
+pub fn scan(bytes: &[u8], n: usize) -> Scanned
+    requires { ⌜ (5 ≤ length (now bytes)) × (n ≤ maxVertices) ⌝ }
+    ensures { λ r. ⌜ scanMeaning r ≡ recordsFrom (length (now (bytes .entry))) n (now (bytes .entry)) 5 0 0 ⌝ }
+{
+    let mut cursor = Cursor {
+        at: 5,
+        low: 0,
+        count: 0,
+    };
+    'records: loop {
+        let turned = turn(bytes, n, cursor);
+        match turned {
+            Turned::On(after) => {
+                cursor = after;
+            }
+            Turned::Done => {
+                break 'records Scanned::Done;
+            }
+            Turned::Refused(r, at) => {
+                break 'records Scanned::Refused(r, at);
+            }
+        }
+    }
+}
