@@ -9,3 +9,10 @@ pub mod Turns
 pub mod ArcParts
 pub mod ArcRecords
 pub mod FileAnswers
+pub mod TableGraphs
+pub mod NextArcs
+pub mod PlacingArcs
+pub mod Readings
+pub mod Opening
+pub mod Loading
+pub mod FirstMark

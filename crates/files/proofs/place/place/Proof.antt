@@ -1,0 +1,127 @@
+use borrow.Author.Needs.{needs}
+use mathlib.Core.Path.{_≡_, sym, subst}
+use Prim.Native.Nat.{ℕ, _+_, _-_, _*_, _≤_, _<_}
+use native.Mathlib.Omega.{arith}
+use lib.IntN.{ℤ}
+use lib.ListN.{length, set}
+use mir.Syntax.{w32}
+use mir.Val.{toZ, ofZ}
+use Rattle.laws.proofs.Grid.{row-in, area}
+use Rattle.timing.specs.Limits.{maxVertices}
+use Rattle.files.specs.declared.place.Next.{Next}
+use Rattle.files.specs.declared.place.Next.the-variants as X
+use Rattle.files.proofs.NextArcs.{Steps}
+use Rattle.files.proofs.PlacingArcs.{Placing, placing-start, placing-turn, placing-graph, placing-table}
+use Rattle.files.proofs.place.place.Statement.{statement}
+use Rattle.files.proofs.place.place.Tie as tie
+
+abbrev Inv-loop : tie.InvT-loop
+Inv-loop bytes n table₀ at₀ table at = Placing n bytes table₀ table at
+
+abbrev μ-loop : tie.MeasureT-loop
+μ-loop bytes n table₀ at₀ table at = length bytes - at
+
+loop-holds : tie.Need-loop-holds Inv-loop μ-loop
+loop-holds c = placing-start _ _ _ (c .before .pre .0)
+
+next-arc-requires : tie.Need-next-arc-requires Inv-loop μ-loop
+next-arc-requires c κs = c .loop .inv .inside
+
+enum-known-found : tie.Need-enum-known-found Inv-loop μ-loop
+enum-known-found c = search needs
+
+enum-told : tie.Need-enum-told Inv-loop μ-loop
+enum-told c = search needs
+
+-- what the record does
+module _ (c : tie.After-next-arc Inv-loop μ-loop) where
+  abbrev start : tie.Start Inv-loop μ-loop
+  start = c .before .before .before
+
+  steps : (x : Next) → c .next-arc .result ≡ x → Steps (start .args .n) (start .args .bytes .now) (c .before .loop .at) x
+  steps x e = subst (Steps (start .args .n) (start .args .bytes .now) (c .before .loop .at)) e (c .next-arc .ensures)
+
+same-length : tie.Need-same-length Inv-loop μ-loop
+same-length c = c .before .before .before .loop .inv .size
+
+returns : tie.Need-returns Inv-loop μ-loop
+returns c =
+    let a = c .before .before in
+    let h = steps a _ (c .enum-told .given .1) in
+    (placing-graph _ _ _ _ _ (a .before .loop .inv) h, placing-table _ _ _ _ _ (a .before .loop .inv) (start a .pre .2) h)
+
+-- the record is an arc
+module _ (c : tie.After-known-told Inv-loop μ-loop) where
+  abbrev asked : tie.After-next-arc Inv-loop μ-loop
+  asked = c .before .before .before
+
+  abbrev n : ℕ
+  n = start asked .args .n
+
+  abbrev u : ℕ
+  u = c .before .found .given .0 .0
+
+  abbrev v : ℕ
+  v = c .before .found .given .0 .1 .0
+
+  abbrev d : ℤ
+  d = c .before .found .given .0 .1 .1 .0
+
+  abbrev after : ℕ
+  after = c .before .found .given .0 .1 .1 .1 .0
+
+  arc : Steps n (start asked .args .bytes .now) (asked .before .loop .at) (X.Arc u v d after)
+  arc = steps asked (X.Arc u v d after) (c .before .found .given .1)
+
+  delay-is : toZ w32 (ofZ w32 d) ≡ d
+  delay-is = search needs
+
+  room : n * n ≤ length (asked .before .loop .table)
+  room = omega (arith, start asked .pre .2, asked .before .loop .inv .size)
+
+  cell : n * u + v < length (asked .before .loop .table)
+  cell = omega (arith, room, row-in n u (arc .1 .0), arc .1 .1)
+
+  small : n * u + v < 8100
+  small = omega (arith, area n maxVertices (start asked .pre .1), row-in n u (arc .1 .0), arc .1 .1)
+
+mul-d : tie.Need-mul-d Inv-loop μ-loop
+mul-d c = omega (arith, small c)
+
+add-d : tie.Need-add-d Inv-loop μ-loop
+add-d c = omega (arith, small c)
+
+mul-d-2 : tie.Need-mul-d-2 Inv-loop μ-loop
+mul-d-2 c = omega (arith, small c)
+
+slice-set-from-d : tie.Need-slice-set-from-d Inv-loop μ-loop
+slice-set-from-d c = cell c
+
+loop-less : tie.Need-loop-less Inv-loop μ-loop
+loop-less c = omega (arith, arc c .1 .2, arc c .1 .3)
+
+loop-again : tie.Need-loop-again Inv-loop μ-loop
+loop-again c =
+    let l = asked c .before in
+    let t = l .loop .table in
+    subst (λ (z : ℤ). Placing (n c) (start (asked c) .args .bytes .now) (start (asked c) .args .table .now) (set t (n c * u c + v c) z) (after c)) (sym (delay-is c))
+    (placing-turn _ _ _ t (l .loop .at) (l .loop .inv) (start (asked c) .pre .2) (u c) (v c) (after c) (d c) (arc c))
+
+pub place-spec : {M : Type 1} → statement M
+place-spec =
+    tie.close
+    (tie.spec
+    Inv-loop
+    μ-loop
+    loop-holds
+    next-arc-requires
+    enum-known-found
+    enum-told
+    same-length
+    returns
+    mul-d
+    add-d
+    mul-d-2
+    slice-set-from-d
+    loop-less
+    loop-again)

@@ -1,0 +1,42 @@
+use borrow.Author.Needs.{needs}
+use mathlib.Core.Path.{_≡_, sym, ap, _∙_, subst}
+use Rattle.format.specs.Reading.{Reading, BoardSizes, header}
+use Rattle.files.specs.declared.read.Header.{Header}
+use Rattle.files.specs.Read.{headerMeaning, Fits}
+use Rattle.files.proofs.Opening.{refusal, opened-on, opened-off}
+use Rattle.files.proofs.read.open.Statement.{statement}
+use Rattle.files.proofs.read.open.Tie as tie
+
+first-record-requires : tie.Need-first-record-requires
+first-record-requires c κs = search needs
+
+enum-known-header : tie.Need-enum-known-header
+enum-known-header c = search needs
+
+fit-requires : tie.Need-fit-requires
+fit-requires c κs = search needs
+
+enum-known-header-2 : tie.Need-enum-known-header-2
+enum-known-header-2 c = search needs
+
+header-is : (c : tie.After-first-record) (x : Header) → c .first-record .result ≡ x → header (c .before .before .args .bytes .now) ≡ headerMeaning x
+header-is c x e = sym (c .first-record .ensures) ∙ ap headerMeaning e
+
+returns : tie.Need-returns
+returns c =
+    let a = c .before .before .before .before in
+    subst (λ (x : Reading BoardSizes). Fits x (a .before .before .args .table .now) (c .fit .result)) (sym (opened-on _ _ _ _ (header-is a _ (c .before .before .header .given .1)))) (c .fit .ensures)
+
+returns-2 : tie.Need-returns-2
+returns-2 c = refusal _ (opened-off _ _ _ _ _ (header-is (c .before .before .before) _ (c .before .header2 .given .1)))
+
+pub open-spec : {M : Type 1} → statement M
+open-spec =
+    tie.close
+    (tie.spec
+    first-record-requires
+    enum-known-header
+    fit-requires
+    enum-known-header-2
+    returns
+    returns-2)

@@ -1,0 +1,18 @@
+-- Pass 2: what the record at an offset does to the graph.
+use Prim.Native.Nat.{ℕ, _≤_, _<_}
+use Rattle.graph.specs.Graph.{Graph}
+use Rattle.timing.specs.Limits.{absentCell}
+use Rattle.timing.specs.Table.{readCell}
+use Rattle.format.specs.Reading.{withArc}
+use Rattle.files.specs.declared.place.Next.{Next}
+use Rattle.files.specs.declared.place.Next.the-variants as X
+
+-- the graph with the record's arc, and what follows it; or, where nothing follows, the graph as it is
+abbrev pub nextGraph : Next → Graph → (ℕ → Graph → Graph) → Graph
+nextGraph (X.Arc u v d p) g onward = onward p (withArc u v (readCell absentCell d) g)
+nextGraph X.Stop g onward = g
+
+-- the arc's ends are below N, and the next record begins after p and within the file
+abbrev pub NextWithin : ℕ → ℕ → ℕ → Next → Type 0
+NextWithin N size p (X.Arc u v d q) = (u < N) × (v < N) × (p < q) × (q ≤ size)
+NextWithin N size p X.Stop = Unit {0}
