@@ -1,46 +1,16 @@
 -- The records of arcs, and how many bytes a file has.
 use mathlib.Core.Path.{_≡_, refl, sym, ap, _∙_}
-use mathlib.Core.Bool.{true, false}
-use mathlib.Core.List.{List, [], _∷_, _++_, append-assoc, append-nil}
+use mathlib.Core.List.{List, [], _∷_, _++_}
 use Prim.Native.Nat.{ℕ, _+_, _*_}
 use native.Mathlib.Omega.{arith}
-use lib.IntN.{ℤ}
 use lib.ListN.{length, length-append}
 use Rattle.laws.proofs.Lists.{length-tabulate}
-use Rattle.graph.specs.Delay.{Delay, present}
 use Rattle.graph.specs.Graph.{Graph}
 use Rattle.graph.specs.Count.{arcs}
-use Rattle.timing.specs.Limits.{absentCell}
-use Rattle.timing.specs.Table.{readCell}
-use Rattle.paths.proofs.ReadCells.{arc-cell, absent-cell}
 use Rattle.codec.specs.Bytes.{byteOf, pattern}
-use Rattle.format.specs.Arcs.{Arc, arcIn, arcsOf}
+use Rattle.format.specs.Arcs.{Arc, arcsOf}
 use Rattle.format.specs.Writing.{boardRecord, arcRecord, endRecord, arcRecords, fileOf}
-use Rattle.files.proofs.Turns.{Joins}
 use Rattle.files.proofs.ArcParts.{arcs-count}
-
-none : arcRecords [] ≡ []
-unfolding arcRecords
-none = refl
-
-one : (a : Arc) → arcRecords (a ∷ []) ≡ arcRecord a
-unfolding arcRecords
-one a = append-nil (arcRecord a)
-
--- a cell, from what `is_arc` says of it
-pub cell-arc : (u v : ℕ) (z : ℤ) → present (readCell absentCell z) ≡ true → arcRecords (arcIn u v (readCell absentCell z)) ≡ arcRecord (record { from = u; to = v; delay = z })
-cell-arc u v z e = ap (λ (d : Delay). arcRecords (arcIn u v d)) (arc-cell z e) ∙ one (record { from = u; to = v; delay = z })
-
-pub cell-none : (u v : ℕ) (z : ℤ) → present (readCell absentCell z) ≡ false → arcRecords (arcIn u v (readCell absentCell z)) ≡ []
-cell-none u v z e = ap (λ (d : Delay). arcRecords (arcIn u v d)) (absent-cell z e) ∙ none
-
-append : (xs ys : List Arc) → arcRecords (xs ++ ys) ≡ arcRecords xs ++ arcRecords ys
-unfolding arcRecords
-append [] ys = refl
-append (a ∷ xs) ys = ap (λ (l : List ℕ). arcRecord a ++ l) (append xs ys) ∙ sym (append-assoc (arcRecord a) (arcRecords xs) (arcRecords ys))
-
-pub records-join : Joins arcRecords
-records-join = record { none = none; more = append }
 
 records-length : (xs : List Arc) → length (arcRecords xs) ≡ 8 * length xs
 unfolding arcRecords

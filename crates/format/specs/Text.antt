@@ -81,7 +81,7 @@ arcLines (a ∷ as′) = arcLine a ++ arcLines as′
 abbrev pub reducedText : BoardSizes → Reduced → List ℕ
 reducedText b r = boardLine b ++ arcLines (arcsOf (b .vertices) (graphOf (b .vertices) (r .table))) ++ countsLine (r .steps) (r .arcsLeft)
 
-abbrev runText : BoardSizes → Verdict Reduced → List ℕ
+abbrev pub runText : BoardSizes → Verdict Reduced → List ℕ
 runText b (refused r) = refusedLine r 0
 runText b (accepted r) = reducedText b r
 
@@ -89,12 +89,12 @@ runText b (accepted r) = reducedText b r
 abbrev pub mostCells : ℕ
 mostCells = maxVertices * maxVertices
 
-abbrev textOf : List ℤ → Reading BoardSizes → List ℕ
+abbrev pub textOf : List ℤ → Reading BoardSizes → List ℕ
 textOf t (stopped r p) = refusedLine r p
 textOf t (got b) = runText b (runCall (b .inputs) (b .outputs) (b .vertices) mostCells t)
 
 -- a table and a scratch of the most cells, the table absent
-abbrev blank : List ℤ
+abbrev pub blank : List ℤ
 blank = tabulate mostCells (λ _. absentCell)
 
 unfoldable pub thinText : List ℕ → List ℕ

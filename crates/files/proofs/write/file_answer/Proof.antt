@@ -29,7 +29,7 @@ arcs-requires : tie.Need-arcs-requires
 arcs-requires c κs = search needs
 
 few : (c : tie.After-arcs) → c .arcs .result ≤ 8100
-few c = let s = c .before .before in omega (arith, c .arcs .ensures, arcs-few (b s .vertices) (g s), board-area (b s) (s .pre .sized))
+few c = let s = c .before .before in omega (arith, c .arcs .ensures, arcs-few (b s .vertices) (g s), board-area (b s) (s .pre .lent .sized))
 
 mul-if1 : tie.Need-mul-if1
 mul-if1 c = omega (arith, few c)

@@ -1,18 +1,24 @@
 use borrow.Author.Needs.{needs}
-use mathlib.Core.Path.{_≡_, sym, ap, _∙_}
+use mathlib.Core.Path.{_≡_, sym, ap, _∙_, subst}
+use mathlib.Core.Bool.{true}
 use native.Mathlib.Omega.{arith}
+use lib.Dec.{T}
 use lib.IntN.{ℤ}
 use lib.ListN.{length}
 use mir.Syntax.{w32}
 use mir.Val.{toZ, ofZ}
 use mir.Facts.{toZ-ofZ}
-use Rattle.graph.specs.Delay.{present}
-use Rattle.timing.specs.Limits.{absentCell}
+use Rattle.graph.specs.Delay.{Delay, present, at}
+use Rattle.timing.specs.Limits.{absentCell, delayLimit, fits}
 use Rattle.timing.specs.Table.{readCell}
-use Rattle.format.specs.Arcs.{arcIn}
-use Rattle.format.specs.Writing.{arcRecord, arcRecords}
+use Rattle.paths.proofs.ReadCells.{arc-cell}
+use Rattle.format.specs.Arcs.{Arc, arcIn}
+use Rattle.files.specs.declared.write.Form.{Form}
+use Rattle.files.specs.declared.write.Form.the-variants as F
+use Rattle.files.specs.Lines.{Legal}
+use Rattle.files.specs.Forms.{arcAs, arcsAs}
 use Rattle.files.proofs.Appending.{appends-none, appends-same}
-use Rattle.files.proofs.ArcRecords.{cell-arc, cell-none}
+use Rattle.files.proofs.ArcForms.{cell-arc, cell-none}
 use Rattle.files.proofs.write.put_cell.Statement.{statement}
 use Rattle.files.proofs.write.put_cell.Tie as tie
 
@@ -29,31 +35,80 @@ module _ (c : tie.After-is-arc) where
   said : present (readCell absentCell cell) ≡ c .is-arc .result
   said = sym (c .is-arc .ensures ∙ ap (λ (z : ℤ). present (readCell absentCell z)) held)
 
--- the record that is written
-arc : (c : tie.Then1) → arcRecord (record { from = start (c .before) .args .u; to = start (c .before) .args .v; delay = toZ w32 (ofZ w32 (cell (c .before))) }) ≡ arcRecords (arcIn (start (c .before) .args .u) (start (c .before) .args .v) (readCell absentCell (cell (c .before))))
-arc c =
-    let a = c .before in
-    let u = start a .args .u in
-    let v = start a .args .v in
-    ap (λ (z : ℤ). arcRecord (record { from = u; to = v; delay = z })) (held a) ∙ sym (cell-arc u v (cell a) (said a ∙ c .if1 .taken))
+-- where there is an arc
+module _ (c : tie.Then1) where
+  abbrev s : tie.Start
+  s = start (c .before)
+
+  is-arc : present (readCell absentCell (s .args .cell)) ≡ true
+  is-arc = said (c .before) ∙ c .if1 .taken
+
+  -- the one that is handed on
+  abbrev handed : Arc
+  handed = record { from = s .args .u; to = s .args .v; delay = toZ w32 (ofZ w32 (s .args .cell)) }
+
+  legal : Legal (toZ w32 (ofZ w32 (s .args .cell)))
+  legal = subst (λ (d : Delay). T (fits delayLimit d)) (arc-cell (s .args .cell) is-arc ∙ ap (λ (z : ℤ). at z) (sym (held (c .before)))) (s .pre .2)
+
+  arc-as : (f : Form) → s .args .form ≡ f → arcAs f handed ≡ arcsAs (s .args .form) (arcIn (s .args .u) (s .args .v) (readCell absentCell (s .args .cell)))
+  arc-as f e =
+      ap (λ (z : ℤ). arcAs f (record { from = s .args .u; to = s .args .v; delay = z })) (held (c .before))
+      ∙ sym (cell-arc f (s .args .u) (s .args .v) (s .args .cell) is-arc)
+      ∙ ap (λ (h : Form). arcsAs h (arcIn (s .args .u) (s .args .v) (readCell absentCell (s .args .cell)))) (sym e)
 
 is-arc-requires : tie.Need-is-arc-requires
 is-arc-requires c κs = search needs
 
+enum-told : tie.Need-enum-told
+enum-told c = search needs
+
 put-arc-requires : tie.Need-put-arc-requires
 put-arc-requires c κs =
-    let t = c .before in
-    let s = start (t .before) in
-    (s .pre .0, s .pre .1, omega (arith, s .pre .2, ap length (arc t)))
+    let k = c .before in
+    let t = k .before .before in
+    (s t .pre .0, s t .pre .1, omega (arith, s t .pre .3, ap length (arc-as t F.Record (k .enum-told .given .1))))
+
+enum-told-2 : tie.Need-enum-told-2
+enum-told-2 c = search needs
+
+arc-line-requires : tie.Need-arc-line-requires
+arc-line-requires c κs =
+    let k = c .before in
+    let t = k .before .before in
+    (s t .pre .0, s t .pre .1, legal t, omega (arith, s t .pre .3, ap length (arc-as t F.Line (k .enum-told2 .given .1))))
 
 same-length : tie.Need-same-length
 same-length c = search needs
 
 returns : tie.Need-returns
-returns c = let a = c .before .before in appends-same (arc (a .before .before)) (a .put-arc .ensures)
+returns c =
+    let a = c .before .before in
+    let k = a .before .before in
+    appends-same (arc-as (k .before .before) F.Record (k .enum-told .given .1)) (a .put-arc .ensures)
+
+same-length-2 : tie.Need-same-length-2
+same-length-2 c = search needs
 
 returns-2 : tie.Need-returns-2
-returns-2 c = let s = start (c .before) in appends-same (sym (cell-none (s .args .u) (s .args .v) (s .args .cell) (said (c .before) ∙ c .if1 .left))) appends-none
+returns-2 c =
+    let a = c .before .before in
+    let k = a .before .before in
+    appends-same (arc-as (k .before .before) F.Line (k .enum-told2 .given .1)) (a .arc-line .ensures)
+
+returns-3 : tie.Need-returns-3
+returns-3 c = let s = start (c .before) in appends-same (sym (cell-none (s .args .form) (s .args .u) (s .args .v) (s .args .cell) (said (c .before) ∙ c .if1 .left))) appends-none
 
 pub put-cell-spec : {M : Type 1} → statement M
-put-cell-spec = tie.close (tie.spec is-arc-requires put-arc-requires same-length returns returns-2)
+put-cell-spec =
+    tie.close
+    (tie.spec
+    is-arc-requires
+    enum-told
+    put-arc-requires
+    enum-told-2
+    arc-line-requires
+    same-length
+    returns
+    same-length-2
+    returns-2
+    returns-3)

@@ -30,7 +30,7 @@ module _ (c : tie.Start) where
   long = file-length (b .vertices) g (b .inputs) (b .outputs)
 
 put-board-requires : tie.Need-put-board-requires
-put-board-requires c κs = let s = c .before .before in (s .pre .0 .sized, omega (arith, s .pre .2, long s))
+put-board-requires c κs = let s = c .before .before in (s .pre .0 .lent .sized, omega (arith, s .pre .2, long s))
 
 put-arcs-requires : tie.Need-put-arcs-requires
 put-arcs-requires c κs =
@@ -43,7 +43,7 @@ put-end-requires c κs =
     let rows = c .before .before .before in
     let board = rows .before .before .before .before in
     let s = board .before .before .before in (
-      omega (arith, s .pre .1, arcs-few (b s .vertices) (g s), board-area (b s) (s .pre .0 .sized)),
+      omega (arith, s .pre .1, arcs-few (b s .vertices) (g s), board-area (b s) (s .pre .0 .lent .sized)),
       omega (
         arith,
         s .pre .1,
@@ -54,7 +54,7 @@ put-end-requires c κs =
         board .put-board .ensures .end,
         board .put-board .kept .1 .0,
         rows .put-arcs .ensures .end,
-        rows .put-arcs .kept .1 .1 .0,
+        rows .put-arcs .kept .1 .1 .1 .0,
       ),
     )
 

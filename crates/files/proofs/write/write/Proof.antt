@@ -15,7 +15,8 @@ enum-known-lent c = search needs
 file-answer-requires : tie.Need-file-answer-requires
 file-answer-requires c κs =
     let k = c .before .before in
-    k .before .before .checked .ensures .passable _ (k .lent .given .1) .0 .lent
+    let p = k .before .before .checked .ensures .passable _ (k .lent .given .1) .0 in
+    record { lent = p .lent; sound = p .sound }
 
 enum-known-lent-2 : tie.Need-enum-known-lent-2
 enum-known-lent-2 c = search needs

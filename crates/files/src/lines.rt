@@ -1,0 +1,155 @@
+// Lines of text: words with a space between two, numbers in decimal, and a newline.
+use crate::put;
+ghost use mathlib.Core.Path.{_≡_};
+ghost use mathlib.Core.List.{[], _∷_};
+ghost use Prim.Native.Nat.{_<_, _+_, _*_, _^_};
+ghost use lib.IntN.{pos, negℤ};
+ghost use lib.Signed.{_<ℤ_};
+ghost use Rattle.format.specs.Text.{digitsOf, decimal, signedDecimal, line, boardLine, arcLine, countsLine, refusedLine};
+ghost use Rattle.files.specs.Appending.{Fits, Appends};
+ghost use Rattle.files.specs.Lines.{Legal};
+
+// A digit's character.
+fn digit(x: usize) -> u8
+    requires { ⌜ x < 10 ⌝ }
+    ensures { λ r. ⌜ r ≡ 48 + x ⌝ }
+{
+    (48 + x) as u8
+}
+
+// The greatest power of ten that is not above x; 1 for 0.
+fn top_power(x: usize) -> usize
+    requires { ⌜ x < 10 ^ 10 ⌝ }
+    ensures { λ r. ⌜ r * 10 ≡ 10 ^ digitsOf x ⌝ }
+{
+    let mut power = 1;
+    while x / 10 >= power {
+        power *= 10;
+    }
+    power
+}
+
+pub fn put_decimal(out: &mut [u8], at: usize, x: usize) -> usize
+    requires { ⌜ (x < 10 ^ 10) × Fits (decimal x) (now out) at ⌝ }
+    ensures { λ r. ⌜ Appends (decimal x) (now (out .entry)) at (now (out .exit)) r ⌝ }
+{
+    let mut power = top_power(x);
+    let mut next = at;
+    while power > 0 {
+        next = put::put_byte(out, next, digit(x / power % 10));
+        power /= 10;
+    }
+    next
+}
+
+// The size of a negative delay.
+fn negated(d: i32) -> usize
+    requires { ⌜ Legal d × (d <ℤ pos 0) ⌝ }
+    ensures { λ r. ⌜ (d ≡ negℤ (pos r)) × (0 < r) × (r < 10 ^ 10) ⌝ }
+{
+    !d as usize + 1
+}
+
+fn put_delay(out: &mut [u8], at: usize, d: i32) -> usize
+    requires { ⌜ Legal d × Fits (signedDecimal d) (now out) at ⌝ }
+    ensures { λ r. ⌜ Appends (signedDecimal d) (now (out .entry)) at (now (out .exit)) r ⌝ }
+{
+    if d < 0 {
+        let next = put::put_byte(out, at, b'-');
+        return put_decimal(out, next, negated(d));
+    }
+    put_decimal(out, at, d as usize)
+}
+
+// A word, as it stands.
+fn put_text(out: &mut [u8], at: usize, text: &[u8]) -> usize
+    requires { ⌜ Fits (now text) (now out) at ⌝ }
+    ensures { λ r. ⌜ Appends (now (text .entry)) (now (out .entry)) at (now (out .exit)) r ⌝ }
+{
+    let mut next = at;
+    let mut i = 0;
+    while i < text.len() {
+        next = put::put_byte(out, next, text[i]);
+        i += 1;
+    }
+    next
+}
+
+// A number after another word.
+fn put_number(out: &mut [u8], at: usize, x: usize) -> usize
+    requires { ⌜ (x < 10 ^ 10) × Fits (32 ∷ decimal x) (now out) at ⌝ }
+    ensures { λ r. ⌜ Appends (32 ∷ decimal x) (now (out .entry)) at (now (out .exit)) r ⌝ }
+{
+    let next = put::put_byte(out, at, b' ');
+    put_decimal(out, next, x)
+}
+
+pub fn board_line(
+    out: &mut [u8],
+    at: usize,
+    inputs: usize,
+    outputs: usize,
+    vertices: usize,
+) -> usize
+    requires { ⌜ (inputs < 256) × (outputs < 256) × (vertices < 256) × Fits (boardLine (record { inputs = inputs; outputs = outputs; vertices = vertices })) (now out) at ⌝ }
+    ensures { λ r. ⌜ Appends (boardLine (record { inputs = inputs; outputs = outputs; vertices = vertices })) (now (out .entry)) at (now (out .exit)) r ⌝ }
+{
+    let a = put_text(out, at, &[b'b', b'o', b'a', b'r', b'd']);
+    let b = put_number(out, a, inputs);
+    let c = put_number(out, b, outputs);
+    let d = put_number(out, c, vertices);
+    put::put_byte(out, d, b'\n')
+}
+
+pub fn arc_line(out: &mut [u8], at: usize, u: usize, v: usize, delay: i32) -> usize
+    requires { ⌜ (u < 256) × (v < 256) × Legal delay × Fits (arcLine (record { from = u; to = v; delay = delay })) (now out) at ⌝ }
+    ensures { λ r. ⌜ Appends (arcLine (record { from = u; to = v; delay = delay })) (now (out .entry)) at (now (out .exit)) r ⌝ }
+{
+    let a = put_text(out, at, &[b'a', b'r', b'c']);
+    let b = put_number(out, a, u);
+    let c = put_number(out, b, v);
+    let d = put::put_byte(out, c, b' ');
+    let e = put_delay(out, d, delay);
+    put::put_byte(out, e, b'\n')
+}
+
+// Two words, each with its number.
+fn pair_line(out: &mut [u8], at: usize, first: &[u8], x: usize, second: &[u8], y: usize) -> usize
+    requires { ⌜ (x < 10 ^ 10) × (y < 10 ^ 10) × Fits (line (now first) (decimal x ∷ now second ∷ decimal y ∷ [])) (now out) at ⌝ }
+    ensures { λ r. ⌜ Appends (line (now (first .entry)) (decimal x ∷ now (second .entry) ∷ decimal y ∷ [])) (now (out .entry)) at (now (out .exit)) r ⌝ }
+{
+    let a = put_text(out, at, first);
+    let b = put_number(out, a, x);
+    let c = put::put_byte(out, b, b' ');
+    let d = put_text(out, c, second);
+    let e = put_number(out, d, y);
+    put::put_byte(out, e, b'\n')
+}
+
+pub fn counts_line(out: &mut [u8], at: usize, steps: usize, arcs: usize) -> usize
+    requires { ⌜ (steps < 10 ^ 10) × (arcs < 10 ^ 10) × Fits (countsLine steps arcs) (now out) at ⌝ }
+    ensures { λ r. ⌜ Appends (countsLine steps arcs) (now (out .entry)) at (now (out .exit)) r ⌝ }
+{
+    pair_line(
+        out,
+        at,
+        &[b'a', b'c', b'c', b'e', b'p', b't', b'e', b'd'],
+        steps,
+        &[b'a', b'r', b'c', b's'],
+        arcs,
+    )
+}
+
+pub fn refused_line(out: &mut [u8], at: usize, number: usize, offset: usize) -> usize
+    requires { ⌜ (number < 10 ^ 10) × (offset < 10 ^ 10) × Fits (refusedLine number offset) (now out) at ⌝ }
+    ensures { λ r. ⌜ Appends (refusedLine number offset) (now (out .entry)) at (now (out .exit)) r ⌝ }
+{
+    pair_line(
+        out,
+        at,
+        &[b'r', b'e', b'f', b'u', b's', b'e', b'd'],
+        number,
+        &[b'a', b't'],
+        offset,
+    )
+}
