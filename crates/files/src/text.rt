@@ -24,20 +24,20 @@ ghost use Rattle.files.specs.Text.{textBytes};
 // The bytes that the longest text needs.
 pub const PAGE: usize = 307_875;
 
-// Lent memory for it, and for a board of any size.
 pub fn page() -> [u8; PAGE]
     ensures { λ r. ⌜ length r ≡ textBytes ⌝ }
 {
     [0u8; PAGE]
 }
 
-pub fn cells() -> [i32; Board::MAX_CELLS]
+// Memory for a board of any size.
+fn cells() -> [i32; Board::MAX_CELLS]
     ensures { λ r. ⌜ length r ≡ mostCells ⌝ }
 {
     [0i32; Board::MAX_CELLS]
 }
 
-pub fn wide_cells() -> [i64; Board::MAX_CELLS]
+fn wide_cells() -> [i64; Board::MAX_CELLS]
     ensures { λ r. ⌜ length r ≡ mostCells ⌝ }
 {
     [0i64; Board::MAX_CELLS]
@@ -89,8 +89,8 @@ fn run_text(
     }
 }
 
-// Writes the text into the first bytes of `out`; what the table and the scratch held does not matter.
-pub fn thin_text(input: &[u8], table: &mut [i32], scratch: &mut [i64], out: &mut [u8]) -> usize
+// The text, with a lent table and scratch; what they held does not matter.
+fn text_into(input: &[u8], table: &mut [i32], scratch: &mut [i64], out: &mut [u8]) -> usize
     requires { ⌜ (length (now input) ≤ 65536) × (length (now table) ≡ mostCells) × (length (now scratch) ≡ mostCells) × (textBytes ≤ length (now out)) ⌝ }
     ensures { λ r. ⌜ Appends (thinText (now (input .entry))) (now (out .entry)) 0 (now (out .exit)) r ⌝ }
     ensures { λ r. ⌜ r ≤ textBytes ⌝ }
@@ -108,4 +108,15 @@ pub fn thin_text(input: &[u8], table: &mut [i32], scratch: &mut [i64], out: &mut
         ),
         Read::Refused(r, at) => refused_text(r, at, out),
     }
+}
+
+// Writes the text into the first bytes of `out`, and answers how many.
+pub fn thin_text(input: &[u8], out: &mut [u8]) -> usize
+    requires { ⌜ (length (now input) ≤ 65536) × (textBytes ≤ length (now out)) ⌝ }
+    ensures { λ r. ⌜ Appends (thinText (now (input .entry))) (now (out .entry)) 0 (now (out .exit)) r ⌝ }
+    ensures { λ r. ⌜ r ≤ textBytes ⌝ }
+{
+    let mut table = cells();
+    let mut scratch = wide_cells();
+    text_into(input, &mut table, &mut scratch, out)
 }

@@ -5,9 +5,7 @@ fn main() {
     // No more than these bytes are read; a failed read counts as the end.
     let mut input = io::large_buffer();
     let got = io::read_full(0, &mut input);
-    let mut table = text::cells();
-    let mut scratch = text::wide_cells();
     let mut out = text::page();
-    let length = text::thin_text(&input[..got], &mut table, &mut scratch, &mut out);
+    let length = text::thin_text(&input[..got], &mut out);
     io::write_all(1, &out[..length]);
 }

@@ -13,12 +13,6 @@ slice-aggregate-read-full c = search needs
 read-full-requires : tie.Need-read-full-requires
 read-full-requires c κs = search needs
 
-cells-requires : tie.Need-cells-requires
-cells-requires c κs = search needs
-
-wide-cells-requires : tie.Need-wide-cells-requires
-wide-cells-requires c κs = search needs
-
 page-requires : tie.Need-page-requires
 page-requires c κs = search needs
 
@@ -31,12 +25,6 @@ slice-aggregate-thin-text c = search needs
 slice-aggregate-thin-text-2 : tie.Need-slice-aggregate-thin-text-2
 slice-aggregate-thin-text-2 c = search needs
 
-slice-aggregate-thin-text-3 : tie.Need-slice-aggregate-thin-text-3
-slice-aggregate-thin-text-3 c = search needs
-
-slice-aggregate-thin-text-4 : tie.Need-slice-aggregate-thin-text-4
-slice-aggregate-thin-text-4 c = search needs
-
 thin-text-requires : tie.Need-thin-text-requires
 thin-text-requires c κs = search needs
 
@@ -45,9 +33,9 @@ array-share-prefix-out c = search needs
 
 slice-aggregate-write-all : tie.Need-slice-aggregate-write-all
 slice-aggregate-write-all c =
-    let t = c .before .before .before .before in
-    let p = t .before .before .before .before .before in
-    simp length-take (omega (arith, t .thin-text .ensures .1, t .thin-text .kept .1 .1 .1 .0, p .page .ensures))
+    let t = c .before .before in
+    let p = t .before .before .before in
+    simp length-take (omega (arith, t .thin-text .ensures .1, t .thin-text .kept .1 .0, p .page .ensures))
 
 write-all-requires : tie.Need-write-all-requires
 write-all-requires c κs = search needs
@@ -62,14 +50,10 @@ main-spec =
     large-buffer-requires
     slice-aggregate-read-full
     read-full-requires
-    cells-requires
-    wide-cells-requires
     page-requires
     array-share-prefix-input
     slice-aggregate-thin-text
     slice-aggregate-thin-text-2
-    slice-aggregate-thin-text-3
-    slice-aggregate-thin-text-4
     thin-text-requires
     array-share-prefix-out
     slice-aggregate-write-all

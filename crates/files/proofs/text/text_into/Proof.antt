@@ -6,8 +6,8 @@ use Rattle.files.specs.declared.answer.Read.{Read}
 use Rattle.files.specs.Read.{readMeaning}
 use Rattle.files.proofs.Appending.{appends-same}
 use Rattle.files.proofs.ThinTexts.{blank-table, text-is, stops-inside}
-use Rattle.files.proofs.text.thin_text.Statement.{statement}
-use Rattle.files.proofs.text.thin_text.Tie as tie
+use Rattle.files.proofs.text.text_into.Statement.{statement}
+use Rattle.files.proofs.text.text_into.Tie as tie
 
 module _ (c : tie.After-read) where
   abbrev cleared : tie.After-blank
@@ -75,8 +75,8 @@ returns-2 c =
     let k = t .before .before .before in
     (appends-same (text (k .before .before .before) _ (k .found2 .given .1)) (t .refused-text .ensures .0), t .refused-text .ensures .1)
 
-pub thin-text-spec : {M : Type 1} → statement M
-thin-text-spec =
+pub text-into-spec : {M : Type 1} → statement M
+text-into-spec =
     tie.close
     (tie.spec
     blank-requires
