@@ -9,3 +9,4 @@ pub mod Filling
 pub mod Storing
 pub mod Signed
 pub mod Grid
+pub mod LentParts

@@ -2,7 +2,7 @@
 use mathlib.Core.Path.{_≡_, refl, _∙_}
 use mathlib.Core.List.{List}
 use Prim.Native.Nat.{ℕ, _+_, _≤_, _<_}
-use native.Mathlib.Decide.{ℕ-discrete}
+use native.Mathlib.Decide.{ℕ-discrete, decLt}
 use native.Mathlib.Omega.{arith}
 use lib.ListN.{length, getD, set, length-set}
 use lib.Seq.{getD-set-same, getD-set-other}
@@ -33,3 +33,11 @@ stored-keep {Q = Q} {d} {l₀} {l} {v} s q = record { size = s .size; done = λ 
     go : (j : ℕ) → j < v + 1 → Dec (j ≡ v) → Q j (getD l j d)
     go j k (yes e) = rw (e, s .left v (omega arith)) q
     go j k (no ne) = s .done j (omega arith)
+
+-- a jump over elements where what stands there will do
+pub stored-skip : {A : Type 0} {Q : ℕ → A → Type 0} {d : A} {l₀ l : List A} {v : ℕ} → Stored Q d l₀ l v → (w : ℕ) → v ≤ w → ((j : ℕ) → v ≤ j → j < w → Q j (getD l₀ j d)) → Stored Q d l₀ l w
+stored-skip {Q = Q} {d} {l₀} {l} {v} s w h q = record { size = s .size; done = λ j k. go j k (decLt j v); left = λ j k. s .left j (omega arith) }
+  where
+    go : (j : ℕ) → j < w → Dec (j < v) → Q j (getD l j d)
+    go j k (yes e) = s .done j e
+    go j k (no ne) = rw (s .left j (omega arith)) (q j (omega arith) k)

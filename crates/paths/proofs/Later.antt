@@ -1,9 +1,6 @@
 -- An arrival that is reached, and a delay after it: the sum fits 64 bits, is present, and is compared as delays are.
 use mathlib.Core.Path.{_≡_, sym, ap, ap₂, _∙_, subst}
 use mathlib.Core.Logic.{_≢_}
-use mathlib.Core.Bool.{false}
-use Prim.Native.Nat.{ℕ}
-use native.Mathlib.Omega.{arith}
 use lib.Dec.{T}
 use lib.IntN.{ℤ, _+ℤ_, ℤ-discrete}
 use lib.Signed.{_≤ℤ_, _<ℤ_, ltZ}
@@ -13,7 +10,6 @@ use Rattle.laws.proofs.Linear.{zneeds, zarith, sum}
 use Rattle.laws.proofs.Integers.{max-lt, max-ge}
 use Rattle.laws.proofs.Signed.{less-yes, less-no}
 use Rattle.graph.specs.Delay.{Delay, at, _⋓_, _⊕_}
-use Rattle.graph.proofs.Delay.{⊕-absent, ⋓-absent}
 use Rattle.graph.proofs.Span.{InSpan}
 use Rattle.timing.specs.Limits.{delayLimit, absentCell, absentWide, fits}
 use Rattle.timing.specs.Table.{readCell}
@@ -22,12 +18,6 @@ use Rattle.timing.proofs.Table.{read-absent, read-at}
 use Rattle.paths.specs.Arrivals.{reachedLimit, Reached, Gains}
 
 module _ (a d : ℤ) (r : Reached a) (fd : T (fits delayLimit (readCell absentCell d))) where
-  pub never : (best : ℤ) → d ≡ absentCell → Gains best a d false
-  never best e = record {
-    later = λ z. absurd (let q : _≡_ {A = ℕ} 0 1 = cc in omega arith);
-    not-later = λ _. rw (read-absent absentCell d e, ⊕-absent (readCell absentWide a)) (sym (⋓-absent (readCell absentWide best)));
-  }
-
   module _ (nd : d ≢ absentCell) where
     span-a : InSpan reachedLimit (at a)
     span-a = fits-span reachedLimit (at a) (r .near)

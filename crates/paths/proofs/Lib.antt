@@ -1,5 +1,6 @@
 pub mod Sizes
 pub mod Rows
+pub mod Chaining
 pub mod ReadCells
 pub mod Inputs
 pub mod Sorting

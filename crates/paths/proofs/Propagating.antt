@@ -1,6 +1,6 @@
 -- A turn of `propagate`, and its end: lists of 64-bit cells that hold what `pushed` says.
 use mathlib.Core.Path.{_≡_, refl, sym, ap, ap₂, _∙_, subst}
-use mathlib.Core.Logic.{_≢_, _⊎_, inl, inr}
+use mathlib.Core.Logic.{_≢_}
 use mathlib.Core.List.{List, _++_}
 use Prim.Native.Nat.{ℕ, _+_, _-_, _*_, _≤_, _<_}
 use native.Mathlib.Omega.{arith}
@@ -12,21 +12,21 @@ use lib.ListN.{length, getD, drop, length-append, length-drop, List·getD-append
 use lib.Seq.{ext-getD, getD-append-add, getD-drop}
 use Rattle.laws.specs.Lists.{tabulate}
 use Rattle.laws.proofs.Lists.{length-tabulate, getD-tabulate}
-use Rattle.graph.specs.Delay.{Delay, absent, present, _⋓_, _⊕_}
+use Rattle.graph.specs.Delay.{Delay, _⋓_, _⊕_}
 use Rattle.graph.specs.Graph.{propagated}
-use Rattle.graph.proofs.Delay.{⊕-absent, ⋓-absent}
-use Rattle.graph.proofs.Presence.{absent-or}
+use Rattle.graph.proofs.Delay.{⋓-absent}
 use Rattle.graph.proofs.Span.{span-le}
 use Rattle.timing.specs.Limits.{delayLimit, absentWide, fits}
-use Rattle.timing.specs.Table.{readCell, writeCell, graphOf}
+use Rattle.timing.specs.Table.{writeCell, graphOf}
 use Rattle.timing.specs.Delays.{arrivalIn}
 use Rattle.timing.proofs.Limits.{fits-span, span-fits}
 use Rattle.timing.proofs.Table.{graphOf-within, read-absent, read-at, written-read}
-use Rattle.timing.proofs.Checks.{sound-fits}
+use Rattle.timing.proofs.Checks.{sound-fits, sound-inputs}
 use Rattle.paths.specs.declared.board.Board.{Board}
-use Rattle.paths.specs.Cells.{cellAt}
-use Rattle.paths.specs.Arrivals.{insideLimit, reachedLimit, filled, Started, Reached, Pushed}
-use Rattle.paths.proofs.Rows.{lent, lent-cell}
+use Rattle.paths.specs.Chain.{Chains}
+use Rattle.paths.specs.Arrivals.{insideLimit, reachedLimit, filled, Passable, Started, Reached, Pushable, Pushed}
+use Rattle.paths.proofs.Rows.{lent, lent-cell, lent-long}
+use Rattle.paths.proofs.Chaining.{lentChain, chain-long, chain-lent}
 use Rattle.paths.proofs.Pushing.{pushed, pushed-span, pushed-all}
 
 -- a list is known by its first n cells, read as delays, and by the rest
@@ -48,6 +48,19 @@ filled-is n h f₀ f room size cells rest = ext-getD (pos 0) f (filled n h f₀)
         rest i (omega arith) ∙ ap (λ (x : ℕ). getD f₀ x (pos 0)) (sym e) ∙ sym (getD-drop n f₀ (i - n) (pos 0))
         ∙ sym (getD-append-add (tabulate n c) (drop n f₀) (i - n) (pos 0))
         ∙ ap (λ (x : ℕ). getD (tabulate n c ++ drop n f₀) (x + (i - n)) (pos 0)) (length-tabulate c n) ∙ ap (λ (x : ℕ). getD (tabulate n c ++ drop n f₀) x (pos 0)) e
+
+-- a vertex's row and chain, lent as parts
+pub pushable : {b : Board} {t : List ℤ} {o c : List ℕ} (P : Passable b t o) (C : Chains (b .vertices) t c) (u : ℕ) (l : u < b .vertices) (f : List ℤ) → b .vertices ≤ length f → Pushable (b .vertices) (lent (b .vertices) t u (P .lent .room) l) (lentChain C u (P .lent .room) l) f
+pushable {b} {t} P C u l f h = record {
+  some = omega (arith, P .lent .sized);
+  few = P .lent .sized .few;
+  row-room = lent-long (b .vertices) t u (P .lent .room) l;
+  chain-room = chain-long C u (P .lent .room) l;
+  room = h;
+  near = λ v k. subst (λ (d : Delay). T (fits delayLimit d)) (sym (lent-cell (b .vertices) t u (P .lent .room) l v k)) (sound-fits (P .sound) u v);
+  chain = chain-lent C u (P .lent .room) l;
+  no-first = lent-cell (b .vertices) t u (P .lent .room) l 0 (omega (arith, P .lent .sized)) ∙ sound-inputs (P .sound) u 0 (P .lent .sized .some-inputs);
+}
 
 -- the first p vertices have pushed
 pub record Going (n : ℕ) (t : List ℤ) (o : List ℕ) (f₀ f : List ℤ) (p : ℕ) : Type 0 where
@@ -93,31 +106,14 @@ module _ {b : Board} {t : List ℤ} {o : List ℕ} {f₀ f : List ℤ} {p : ℕ}
           (pushed-span (graphOf-within n t) (R .passable .order) F insideLimit delayLimit (λ v l. fits-span insideLimit (F v) (R .near v l)) (λ u v. fits-span delayLimit (graphOf n t u v) (sound-fits (R .passable .sound) u v)) p x (omega arith) x-in)));
     }
 
-    pub onward : (f′ : List ℤ) → length f′ ≡ length f → Pushed n o p (lent n t x (R .passable .lent .room) x-in) (getD f x (pos 0)) f f′ → Going n t o f₀ f′ (p + 1)
+    pub onward : (f′ : List ℤ) → length f′ ≡ length f → Pushed n (lent n t x (R .passable .lent .room) x-in) (getD f x (pos 0)) f f′ → Going n t o f₀ f′ (p + 1)
     unfolding pushed
     onward f′ l q = rw add-one (record {
       upto = k;
       size = l ∙ G .size;
-      cells = λ v h. go v h (decLt p (R .passable .order .rank v));
-      rest = λ v h. q .rest v (λ j _ m e. omega (arith, R .passable .order .vertex j m .0)) ∙ G .rest v h;
+      cells = λ v h. q .cells v h ∙ ap₂ _⋓_ (G .cells v h) (ap₂ _⊕_ (G .cells x x-in) (lent-cell n t x (R .passable .lent .room) x-in v h));
+      rest = λ v h. q .rest v h ∙ G .rest v h;
     })
-      where
-        -- no arc leads back: what stands at an earlier vertex stays
-        back-none : (v : ℕ) → R .passable .order .rank v ≤ p → pushed (graphOf n t) o F p x ⊕ graphOf n t x v ≡ absent
-        back-none v h = pick (absent-or (graphOf n t x v))
-          where
-            pick : (graphOf n t x v ≡ absent) ⊎ T (present (graphOf n t x v)) → pushed (graphOf n t) o F p x ⊕ graphOf n t x v ≡ absent
-            pick (inl e) = ap (λ (d : Delay). pushed (graphOf n t) o F p x ⊕ d) e ∙ ⊕-absent (pushed (graphOf n t) o F p x)
-            pick (inr c) = absurd (omega (arith, R .passable .order .rise x v c, R .passable .order .vertex p k .1))
-
-        go : (v : ℕ) → v < n → Dec (p < R .passable .order .rank v) → arrivalIn f′ v ≡ pushed (graphOf n t) o F p v ⋓ (pushed (graphOf n t) o F p x ⊕ graphOf n t x v)
-        go v h (yes c) =
-            let m = R .passable .order .place v h in
-            subst (λ (y : ℕ). arrivalIn f′ y ≡ arrivalIn f y ⋓ (arrivalIn f x ⊕ cellAt (lent n t x (R .passable .lent .room) x-in) y)) (m .1) (q .cells (R .passable .order .rank v) c (m .0))
-            ∙ ap₂ _⋓_ (G .cells v h) (ap₂ _⊕_ (G .cells x x-in) (lent-cell n t x (R .passable .lent .room) x-in v h))
-        go v h (no c) =
-            ap (readCell absentWide) (q .rest v (λ j l m e. omega (arith, R .passable .order .vertex j m .1, ap (R .passable .order .rank) e))) ∙ G .cells v h ∙ sym (⋓-absent (pushed (graphOf n t) o F p v))
-            ∙ ap (λ (d : Delay). pushed (graphOf n t) o F p v ⋓ d) (sym (back-none v (omega arith)))
 
   pub ended : p ≡ b .vertices → f ≡ filled (b .vertices) (propagated (b .vertices) (graphOf (b .vertices) t) (arrivalIn f₀)) f₀
   ended e = filled-is n (propagated n (graphOf n t) F) f₀ f (R .room) (G .size)

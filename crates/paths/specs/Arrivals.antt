@@ -10,7 +10,7 @@ use lib.ListN.{length, getD, drop}
 use mir.Syntax.{w64}
 use mir.Val.{SFits}
 use Rattle.laws.specs.Lists.{tabulate}
-use Rattle.graph.specs.Delay.{Delay, at, _⋓_, _⊕_}
+use Rattle.graph.specs.Delay.{Delay, absent, at, _⋓_, _⊕_}
 use Rattle.timing.specs.Limits.{maxVertices, delayLimit, absentCell, absentWide, fits}
 use Rattle.timing.specs.Table.{readCell, writeCell, graphOf}
 use Rattle.timing.specs.Delays.{arrivalIn}
@@ -18,6 +18,7 @@ use Rattle.timing.proofs.Checks.{Sound}
 use Rattle.paths.specs.declared.board.Board.{Board}
 use Rattle.paths.specs.Board.{Lent}
 use Rattle.paths.specs.Cells.{cellAt}
+use Rattle.paths.specs.Chain.{Chain}
 use Rattle.paths.specs.Order.{TopologicalOrder}
 
 -- inside, arrivals may start within ±2,000,000,000,000
@@ -66,15 +67,21 @@ pub record Gains (best a cell : ℤ) (r : Bool) : Type 0 where
   pub later : r ≡ true → SFits w64 (a +ℤ cell) × (readCell absentWide (a +ℤ cell) ≡ readCell absentWide best ⋓ (readCell absentWide a ⊕ readCell absentCell cell))
   pub not-later : r ≡ false → readCell absentWide best ≡ readCell absentWide best ⋓ (readCell absentWide a ⊕ readCell absentCell cell)
 
--- the list has each of the vertices below n at one place
-pub record Places (n : ℕ) (o : List ℕ) : Type 0 where
-  pub rank : ℕ → ℕ
-  pub vertex : (q : ℕ) → q < n → (getD o q 0 < n) × (rank (getD o q 0) ≡ q)
+-- a row with its chain, room for the arrivals after it, and no arc to vertex 0, which is an input
+pub record Pushable (n : ℕ) (row : List ℤ) (c : List ℕ) (f : List ℤ) : Type 0 where
+  pub some : 1 ≤ n
+  pub few : n ≤ maxVertices
+  pub row-room : n ≤ length row
+  pub chain-room : n ≤ length c
+  pub room : n ≤ length f
+  pub near : (v : ℕ) → v < n → T (fits delayLimit (cellAt row v))
+  pub chain : Chain n (cellAt row) (λ v. getD c v 0)
+  pub no-first : cellAt row 0 ≡ absent
 
--- a is pushed along a row to the vertices after place p
-pub record Pushed (n : ℕ) (o : List ℕ) (p : ℕ) (row : List ℤ) (a : ℤ) (f₀ f : List ℤ) : Type 0 where
-  pub cells : (q : ℕ) → p < q → q < n → arrivalIn f (getD o q 0) ≡ arrivalIn f₀ (getD o q 0) ⋓ (readCell absentWide a ⊕ cellAt row (getD o q 0))
-  pub rest : (v : ℕ) → ((q : ℕ) → p < q → q < n → getD o q 0 ≢ v) → getD f v (pos 0) ≡ getD f₀ v (pos 0)
+-- a is pushed along a row
+pub record Pushed (n : ℕ) (row : List ℤ) (a : ℤ) (f₀ f : List ℤ) : Type 0 where
+  pub cells : (v : ℕ) → v < n → arrivalIn f v ≡ arrivalIn f₀ v ⋓ (readCell absentWide a ⊕ cellAt row v)
+  pub rest : (v : ℕ) → n ≤ v → getD f v (pos 0) ≡ getD f₀ v (pos 0)
 
 -- an arrival for each input, each within the inside limit
 pub record Given (b : Board) (a : List ℤ) : Type 0 where

@@ -1,46 +1,49 @@
-// Arrivals: each vertex in topological order pushes its own along its arcs, so that every arc is looked at once.
+// Arrivals: each vertex in topological order pushes its own along its arcs, so that every arc is looked at once, and no cell without one.
 use crate::board::Board;
 ghost use mathlib.Core.Path.{_≡_};
-ghost use Prim.Native.Nat.{ℕ, _+_, _*_, _<_, _≤_};
+ghost use mathlib.Core.Logic.{_≢_};
+ghost use Prim.Native.Nat.{_<_, _≤_};
 ghost use lib.Dec.{T};
 ghost use lib.ListN.{length};
 ghost use Rattle.graph.specs.Graph.{longest, walk, propagated};
-ghost use Rattle.timing.specs.Limits.{maxVertices, delayLimit, absentCell, fits};
+ghost use Rattle.timing.specs.Limits.{delayLimit, absentCell, fits};
 ghost use Rattle.timing.specs.Table.{readCell, graphOf};
 ghost use Rattle.timing.specs.Delays.{arrivalIn, arrivalAt};
-ghost use Rattle.paths.specs.Cells.{cellAt};
-ghost use Rattle.paths.specs.Arrivals.{stored, filled, onlyAt, fromList, Passable, Started, Given, Reached, Gains, Places, Pushed};
+ghost use Rattle.paths.specs.Chain.{Chains};
+ghost use Rattle.paths.specs.Arrivals.{stored, filled, onlyAt, fromList, Passable, Started, Given, Reached, Gains, Pushable, Pushed};
 
 // Whether what comes over an arc is later than what is there. An absent arrival is below every other.
 fn gains(best: i64, a: i64, cell: i32) -> bool
-    requires { ⌜ Reached a × T (fits delayLimit (readCell absentCell cell)) ⌝ }
+    requires { ⌜ Reached a × (cell ≢ absentCell) × T (fits delayLimit (readCell absentCell cell)) ⌝ }
     ensures { λ r. ⌜ Gains best a cell r ⌝ }
 {
-    if cell == Board::ABSENT {
-        return false;
-    }
     best < a + (cell as i64)
 }
 
-// Pushes a on along a row, to the vertices after place p. A cell is stored only where it changes: a store in each turn costs more.
-fn push(row: &[i32], a: i64, f: &mut [i64], list: &[u8; Board::MAX_VERTICES], p: usize, n: usize)
-    requires { ⌜ (n ≤ maxVertices) × (n ≤ length (now row)) × Reached a × ((v : ℕ) → v < n → T (fits delayLimit (cellAt (now row) v))) × (n ≤ length (now f)) × Places n (now list) × (p < n) ⌝ }
-    ensures { λ _. ⌜ Pushed n (now (list .entry)) p (now (row .entry)) a (now (f .entry)) (now (f .exit)) ⌝ }
+// Pushes a on along the arcs of a row. A cell is stored only where it changes: a store in each turn costs more.
+fn push(row: &[i32], chain: &[u8], a: i64, f: &mut [i64], n: usize)
+    requires { ⌜ Reached a × Pushable n (now row) (now chain) (now f) ⌝ }
+    ensures { λ _. ⌜ Pushed n (now (row .entry)) a (now (f .entry)) (now (f .exit)) ⌝ }
 {
-    let mut q = p + 1;
-    while q < n {
-        let v = list[q] as usize;
+    let mut v = chain[0] as usize;
+    while v < n {
         let d = row[v];
         if gains(f[v], a, d) {
             f[v] = a + (d as i64);
         }
-        q += 1;
+        v = chain[v] as usize;
     }
 }
 
 // The latest arrivals, where the first N cells of f have those that start at each vertex.
-pub fn propagate(board: Board, table: &[i32], list: &[u8; Board::MAX_VERTICES], f: &mut [i64])
-    requires { ⌜ Started board (now table) (now list) (now f) ⌝ }
+pub fn propagate(
+    board: Board,
+    table: &[i32],
+    list: &[u8; Board::MAX_VERTICES],
+    chain: &[u8],
+    f: &mut [i64],
+)
+    requires { ⌜ Started board (now table) (now list) (now f) × Chains (board .vertices) (now table) (now chain) ⌝ }
     ensures { λ _. ⌜ now (f .exit) ≡ filled (board .vertices) (propagated (board .vertices) (graphOf (board .vertices) (now (table .entry))) (arrivalIn (now (f .entry)))) (now (f .entry)) ⌝ }
 {
     let n = board.vertices;
@@ -50,7 +53,7 @@ pub fn propagate(board: Board, table: &[i32], list: &[u8; Board::MAX_VERTICES], 
         let a = f[u];
         if a != Board::ABSENT_WIDE {
             let at = n * u;
-            push(&table[at..], a, f, list, p, n);
+            push(&table[at..], &chain[at..], a, f, n);
         }
         p += 1;
     }
@@ -82,14 +85,15 @@ pub fn delays_from(
     board: Board,
     table: &[i32],
     list: &[u8; Board::MAX_VERTICES],
+    chain: &[u8],
     i: usize,
     f: &mut [i64],
 )
-    requires { ⌜ Passable board (now table) (now list) × (i < board .vertices) × (board .vertices ≤ length (now f)) ⌝ }
+    requires { ⌜ Passable board (now table) (now list) × Chains (board .vertices) (now table) (now chain) × (i < board .vertices) × (board .vertices ≤ length (now f)) ⌝ }
     ensures { λ _. ⌜ now (f .exit) ≡ filled (board .vertices) (walk (longest (graphOf (board .vertices) (now (table .entry))) (board .vertices)) i) (now (f .entry)) ⌝ }
 {
     start_at(f, board.vertices, i);
-    propagate(board, table, list, f);
+    propagate(board, table, list, chain, f);
 }
 
 fn from_list(inputs: &[i64], v: usize) -> i64
@@ -118,12 +122,13 @@ pub fn arrivals(
     board: Board,
     table: &[i32],
     list: &[u8; Board::MAX_VERTICES],
+    chain: &[u8],
     inputs: &[i64],
     f: &mut [i64],
 )
-    requires { ⌜ Passable board (now table) (now list) × Given board (now inputs) × (board .vertices ≤ length (now f)) ⌝ }
+    requires { ⌜ Passable board (now table) (now list) × Chains (board .vertices) (now table) (now chain) × Given board (now inputs) × (board .vertices ≤ length (now f)) ⌝ }
     ensures { λ _. ⌜ now (f .exit) ≡ filled (board .vertices) (arrivalAt (board .inputs) (board .vertices) (graphOf (board .vertices) (now (table .entry))) (arrivalIn (now (inputs .entry)))) (now (f .entry)) ⌝ }
 {
     start_inputs(inputs, f, board.vertices);
-    propagate(board, table, list, f);
+    propagate(board, table, list, chain, f);
 }

@@ -3,6 +3,7 @@
 pub mod arrivals;
 pub mod board;
 pub mod cells;
+pub mod chain;
 pub mod checks;
 pub mod order;
 pub mod queries;

@@ -2,6 +2,7 @@
 use crate::arrivals;
 use crate::board::Board;
 use crate::board::Made;
+use crate::chain;
 use crate::checks;
 use crate::order;
 use timing::Refusal;
@@ -48,11 +49,12 @@ pub fn fill_matrix(
     ensures { λ _. ⌜ now (destination .exit) ≡ matrixCells (board .inputs) (board .outputs) (board .vertices) (graphOf (board .vertices) (now (table .entry))) ++ drop (board .outputs * board .inputs) (now (destination .entry)) ⌝ }
     ensures { λ _. ⌜ drop (board .vertices) (now (scratch .exit)) ≡ drop (board .vertices) (now (scratch .entry)) ⌝ }
 {
+    let chain = chain::chains(board, table);
     let m = board.inputs;
     let n = board.outputs;
     let mut i = 0;
     while i < m {
-        arrivals::delays_from(board, table, list, i, scratch);
+        arrivals::delays_from(board, table, list, &chain, i, scratch);
         let at = n * i;
         let end = at + n;
         copy_out(&mut destination[at..end], scratch, m);
@@ -149,7 +151,8 @@ fn arrivals_answer(
     if answers.len() != board.outputs {
         return Answer::Refused(Refusal::ArrivalLists);
     }
-    arrivals::arrivals(board, table, list, given, scratch);
+    let chain = chain::chains(board, table);
+    arrivals::arrivals(board, table, list, &chain, given, scratch);
     copy_out(answers, scratch, board.inputs);
     Answer::Done
 }

@@ -33,9 +33,8 @@ use Rattle.paths.proofs.Rows.{lent, lent-cell}
 use Rattle.paths.proofs.Starting.{stored-cell}
 use Rattle.plans.specs.TightArcs.{tight, live, decidesFrom}
 use Rattle.plans.specs.PruneMarks.{tightTo, RowMarked, MarkedFrom}
-use Rattle.plans.proofs.LentParts.{put-before, put-after, put-in}
-use Rattle.plans.proofs.Marking.{or-none}
-use Rattle.plans.proofs.Somewhere.{some-same, some-none, and-true}
+use Rattle.laws.proofs.LentParts.{put-before, put-after, put-in}
+use Rattle.plans.proofs.Somewhere.{some-same, some-none, and-true, or-none}
 use Rattle.plans.proofs.TightPaths.{arc-is, live-is}
 use Rattle.plans.proofs.Truth.{no-first}
 use Rattle.plans.proofs.WalkBounds.{walk-far, read-far}

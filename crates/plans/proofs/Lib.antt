@@ -25,7 +25,6 @@ pub mod Vectors
 pub mod TightPaths
 pub mod Somewhere
 pub mod TightCells
-pub mod LentParts
 pub mod WalkBounds
 pub mod AliveSweep
 pub mod FewerArcs

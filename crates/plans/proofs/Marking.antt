@@ -1,5 +1,5 @@
 -- A list of marks that is made while a list of vertices is walked: what is marked or still to come are the members.
-use mathlib.Core.Path.{_≡_, refl, sym, ap, _∙_}
+use mathlib.Core.Path.{_≡_, sym, ap, _∙_}
 use mathlib.Core.Bool.{Bool, true, false, _||_}
 use mathlib.Core.List.{List}
 use Prim.Native.Nat.{ℕ, _+_, _<_}
@@ -24,7 +24,3 @@ mark-turn xs marked i v l h m = go (ℕ-discrete v (getD xs i 0))
     go (no n) =
         ap (λ (b : Bool). b || member v (drop (i + 1) xs)) (getD-set-other marked (getD xs i 0) v true false n)
         ∙ ap (λ (b : Bool). getD marked v false || b) (sym (member-pass xs i l v (eqb-other v (getD xs i 0) n))) ∙ m
-
-pub or-none : (b : Bool) → (b || false) ≡ b
-or-none true = refl
-or-none false = refl

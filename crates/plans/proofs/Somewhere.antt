@@ -1,8 +1,9 @@
 -- `some`, for loops that count up.
-use mathlib.Core.Path.{_≡_, refl, sym, ap₂, _∙_}
+use mathlib.Core.Path.{_≡_, refl, sym, ap, ap₂, _∙_}
 use mathlib.Core.Bool.{Bool, true, false, _&&_, _||_}
-use Prim.Native.Nat.{ℕ, zero, suc, _+_, _<_}
+use Prim.Native.Nat.{ℕ, zero, suc, _+_, _≤_, _<_}
 use native.Mathlib.Omega.{arith}
+use native.Mathlib.Decide.{decLt}
 use native.Mathlib.Numerals.{add-one}
 use Rattle.laws.specs.Bounded.{some}
 use Rattle.laws.proofs.Booleans.{is-true, true-is}
@@ -39,3 +40,17 @@ or-true false = refl
 pub and-true : (b c : Bool) → c ≡ true → b ≡ (b && c)
 and-true true c e = sym e
 and-true false c e = refl
+
+pub or-none : (b : Bool) → (b || false) ≡ b
+or-none true = refl
+or-none false = refl
+
+-- a jump over numbers at which f does not hold
+pub some-skip : (f : ℕ → Bool) (v w : ℕ) → v ≤ w → ((j : ℕ) → v ≤ j → j < w → f j ≡ false) → some w f ≡ some v f
+some-skip f v zero h q = ap (λ (z : ℕ). some z f) (let e : 0 ≡ v = omega arith in e)
+some-skip f v (suc w) h q = pick (λ l. some-skip f v w l (λ j k m. q j k (omega arith))) (decLt w v)
+  where
+    pick : (v ≤ w → some w f ≡ some v f) → Dec (w < v) → some (suc w) f ≡ some v f
+    pick ih (yes l) = ap (λ (z : ℕ). some z f) (let e : suc w ≡ v = omega arith in e)
+    pick ih (no l) =
+        ap (λ (z : ℕ). some z f) (sym (add-one w)) ∙ some-more f w ∙ ap (λ (b : Bool). some w f || b) (q w (omega arith) (omega arith)) ∙ or-none (some w f) ∙ ih (omega arith)

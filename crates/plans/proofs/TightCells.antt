@@ -12,7 +12,7 @@ use Rattle.laws.proofs.Linear.{zarith, sum}
 use Rattle.laws.proofs.Booleans.{eqb-other, eq→eqb}
 use Rattle.laws.proofs.Integers.{eqZ→eq, eqZ-refl}
 use Rattle.laws.proofs.Signed.{same-bits, widens}
-use Rattle.graph.specs.Delay.{Delay, at, _⊕_, eqD}
+use Rattle.graph.specs.Delay.{Delay, absent, at, _⊕_, eqD}
 use Rattle.graph.proofs.Delay.{⊕-absent}
 use Rattle.timing.specs.Limits.{delayLimit, absentCell, absentWide, fits}
 use Rattle.timing.specs.Table.{readCell}
@@ -26,11 +26,12 @@ use Rattle.plans.proofs.Truth.{same-truth}
 pub sum-parts : {a d : ℤ} → SFits w64 a → SFits w32 d → toZ w64 (ofZ w64 a) +ℤ toZ w64 (ofZ w64 (toZ w32 (ofZ w32 d))) ≡ a +ℤ d
 sum-parts fa fd = ap₂ _+ℤ_ (toZ-ofZ fa) (ap (λ (z : ℤ). toZ w64 (ofZ w64 z)) (toZ-ofZ fd) ∙ toZ-ofZ (widens fd))
 
-module _ (a d w : ℤ) (r : Reached a) (fd : T (fits delayLimit (readCell absentCell d))) where
-  pub never-tight : d ≡ absentCell → false ≡ tight (readCell absentWide a) (readCell absentCell d) (readCell absentWide w)
-  unfolding tight
-  never-tight e = rw (read-absent absentCell d e, ⊕-absent (readCell absentWide a))
+-- without an arc there is none
+pub no-arc-tight : (a d w : Delay) → d ≡ absent → tight a d w ≡ false
+unfolding tight
+no-arc-tight a d w e = rw (e, ⊕-absent a)
 
+module _ (a d w : ℤ) (r : Reached a) (fd : T (fits delayLimit (readCell absentCell d))) where
   module _ (nd : d ≢ absentCell) where
     far : (a +ℤ d) ≢ absentWide
     far e = omega (zarith, sum a d, fits-span reachedLimit (at a) (r .near), fits-span delayLimit (at d) (subst (λ (x : Delay). T (fits delayLimit x)) (read-at absentCell d nd) fd))

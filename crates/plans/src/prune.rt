@@ -3,8 +3,10 @@ use crate::verdict::Fit;
 use paths::Board;
 use paths::arrivals;
 use paths::cells;
+use paths::chain;
 use timing::Refusal;
 ghost use mathlib.Core.Path.{_≡_};
+ghost use mathlib.Core.Logic.{_≢_};
 ghost use mathlib.Core.Bool.{false, not, cond, _&&_, _||_};
 ghost use Prim.Native.Nat.{ℕ, _+_, _*_, _<_, _≤_};
 ghost use lib.Dec.{T};
@@ -19,35 +21,34 @@ ghost use Rattle.reduction.specs.Outcome.{isOutput};
 ghost use Rattle.reduction.specs.Prune.{pruneVerdict};
 ghost use Rattle.paths.specs.Board.{Sized, Lent};
 ghost use Rattle.paths.specs.Cells.{cellAt};
-ghost use Rattle.paths.specs.Arrivals.{Passable, Reached};
+ghost use Rattle.paths.specs.Chain.{Chains};
+ghost use Rattle.paths.specs.Arrivals.{Passable, Reached, Pushable};
 ghost use Rattle.plans.specs.Verdict.{fitMeaning};
 ghost use Rattle.plans.specs.TightArcs.{tight};
 ghost use Rattle.plans.specs.PruneMarks.{RowMarked, MarkedFrom, StayMarked, Unmarked, someUnmarked, markedArcs, tableAfterPrune};
 
 // Whether the arc is tight: what is at its head came over it.
 fn is_tight(a: i64, cell: i32, w: i64) -> bool
-    requires { ⌜ Reached a × T (fits delayLimit (readCell absentCell cell)) ⌝ }
+    requires { ⌜ Reached a × (cell ≢ absentCell) × T (fits delayLimit (readCell absentCell cell)) ⌝ }
     ensures { λ r. ⌜ r ≡ tight (readCell absentWide a) (readCell absentCell cell) (readCell absentWide w) ⌝ }
 {
-    if cell == Board::ABSENT {
-        return false;
-    }
     w == a + (cell as i64)
 }
 
 // Marks the arcs of a row that are tight and lead to a vertex that is alive. Answers whether there is one.
 fn mark_row(
     row: &[i32],
+    chain: &[u8],
     a: i64,
     f: &[i64],
     alive: &[bool; Board::MAX_VERTICES],
     marks: &mut [bool],
 ) -> bool
-    requires { ⌜ (length (now marks) ≤ maxVertices) × (length (now marks) ≤ length (now row)) × Reached a × ((v : ℕ) → v < length (now marks) → T (fits delayLimit (cellAt (now row) v))) × (length (now marks) ≤ length (now f)) ⌝ }
+    requires { ⌜ Reached a × Pushable (length (now marks)) (now row) (now chain) (now f) ⌝ }
     ensures { λ r. ⌜ RowMarked (now (row .entry)) a (now (f .entry)) (now (alive .entry)) (now (marks .entry)) (now (marks .exit)) r ⌝ }
 {
     let mut found = false;
-    let mut v = 0;
+    let mut v = chain[0] as usize;
     while v < marks.len() {
         if alive[v] {
             if is_tight(a, row[v], f[v]) {
@@ -55,7 +56,7 @@ fn mark_row(
                 found = true;
             }
         }
-        v += 1;
+        v = chain[v] as usize;
     }
     found
 }
@@ -88,15 +89,16 @@ fn mark_from(
     board: Board,
     table: &[i32],
     list: &[u8; Board::MAX_VERTICES],
+    chain: &[u8],
     i: usize,
     f: &mut [i64],
     marks: &mut [bool],
 )
-    requires { ⌜ Passable board (now table) (now list) × (i < board .inputs) × (board .vertices ≤ length (now f)) × (board .vertices * board .vertices ≤ length (now marks)) ⌝ }
+    requires { ⌜ Passable board (now table) (now list) × Chains (board .vertices) (now table) (now chain) × (i < board .inputs) × (board .vertices ≤ length (now f)) × (board .vertices * board .vertices ≤ length (now marks)) ⌝ }
     ensures { λ _. ⌜ MarkedFrom board i (now (table .entry)) (now (marks .entry)) (now (marks .exit)) ⌝ }
     ensures { λ _. ⌜ drop (board .vertices) (now (f .exit)) ≡ drop (board .vertices) (now (f .entry)) ⌝ }
 {
-    arrivals::delays_from(board, table, list, i, f);
+    arrivals::delays_from(board, table, list, chain, i, f);
     let n = board.vertices;
     let mut alive = dark();
     let mut p = n;
@@ -107,7 +109,14 @@ fn mark_from(
         if a != Board::ABSENT_WIDE {
             let at = n * u;
             let end = at + n;
-            let found = mark_row(&table[at..], a, f, &alive, &mut marks[at..end]);
+            let found = mark_row(
+                &table[at..],
+                &chain[at..],
+                a,
+                f,
+                &alive,
+                &mut marks[at..end],
+            );
             alive[u] = is_alive(board, u, found);
         }
     }
@@ -125,10 +134,11 @@ pub fn prune_marks(
     ensures { λ _. ⌜ StayMarked board (now (table .entry)) (now (marks .exit)) ⌝ }
     ensures { λ _. ⌜ drop (board .vertices) (now (scratch .exit)) ≡ drop (board .vertices) (now (scratch .entry)) ⌝ }
 {
+    let chain = chain::chains(board, table);
     let m = board.inputs;
     let mut i = 0;
     while i < m {
-        mark_from(board, table, list, i, scratch, marks);
+        mark_from(board, table, list, &chain, i, scratch, marks);
         i += 1;
     }
 }

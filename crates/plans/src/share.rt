@@ -6,6 +6,7 @@ use crate::verdict::Difference;
 use paths::Board;
 use paths::arrivals;
 use paths::cells;
+use paths::chain;
 use paths::order;
 use timing::Refusal;
 ghost use mathlib.Core.Path.{_≡_};
@@ -146,6 +147,7 @@ fn columns_difference(
     requires { ⌜ Passable board (now table) (now list) × (board .vertices ≤ length (now scratch)) × TwoOutputs board a b ⌝ }
     ensures { λ r. ⌜ (differenceMeaning r ≡ commonDifference (board .inputs) (column (board .vertices) (graphOf (board .vertices) (now (table .entry))) a) (column (board .vertices) (graphOf (board .vertices) (now (table .entry))) b)) × (drop (board .vertices) (now (scratch .exit)) ≡ drop (board .vertices) (now (scratch .entry))) ⌝ }
 {
+    let chain = chain::chains(board, table);
     let m = board.inputs;
     let mut seen = Seen::Nothing;
     let mut i = 0;
@@ -153,7 +155,7 @@ fn columns_difference(
         if i >= m {
             break 'compare common::settle(seen);
         }
-        arrivals::delays_from(board, table, list, i, scratch);
+        arrivals::delays_from(board, table, list, &chain, i, scratch);
         seen = common::seen_next(seen, scratch[a], scratch[b]);
         if let Seen::Clash = seen {
             break 'compare Difference::Refused(Refusal::NoCommonDifference);
@@ -182,7 +184,8 @@ fn path_back(
     if cells::is_arc(table[at]) {
         return true;
     }
-    arrivals::delays_from(board, table, list, b, scratch);
+    let chain = chain::chains(board, table);
+    arrivals::delays_from(board, table, list, &chain, b, scratch);
     scratch[a] != Board::ABSENT_WIDE
 }
 
@@ -275,9 +278,10 @@ fn rows_difference(
     requires { ⌜ Passable board (now table) (now list) × (board .vertices + board .vertices ≤ length (now scratch)) × (a < board .inputs) × (b < board .inputs) ⌝ }
     ensures { λ r. ⌜ (differenceMeaning r ≡ commonDifference (board .outputs) (matrix (board .inputs) (board .vertices) (graphOf (board .vertices) (now (table .entry))) a) (matrix (board .inputs) (board .vertices) (graphOf (board .vertices) (now (table .entry))) b)) × (drop (board .vertices + board .vertices) (now (scratch .exit)) ≡ drop (board .vertices + board .vertices) (now (scratch .entry))) ⌝ }
 {
+    let chain = chain::chains(board, table);
     let n = board.vertices;
-    arrivals::delays_from(board, table, list, a, scratch);
-    arrivals::delays_from(board, table, list, b, &mut scratch[n..]);
+    arrivals::delays_from(board, table, list, &chain, a, scratch);
+    arrivals::delays_from(board, table, list, &chain, b, &mut scratch[n..]);
     outputs_difference(board, scratch)
 }
 

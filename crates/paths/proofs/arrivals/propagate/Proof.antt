@@ -4,7 +4,6 @@ use mathlib.Core.Path.{sym, subst}
 use mathlib.Core.List.{List}
 use Prim.Native.Nat.{ℕ, _≤_, _<_, _+_, _-_, _*_}
 use native.Mathlib.Omega.{arith}
-use lib.Dec.{T}
 use lib.IntN.{ℤ}
 use lib.ListN.{length, getD}
 use mir.Syntax.{w64}
@@ -12,18 +11,16 @@ use mir.Facts.{sfits-lit}
 use Rattle.laws.proofs.Booleans.{split}
 use Rattle.laws.proofs.Grid.{row-in}
 use Rattle.laws.proofs.Signed.{back, same-bits, other-bits}
-use Rattle.graph.specs.Delay.{Delay}
-use Rattle.timing.specs.Limits.{delayLimit, absentWide, fits}
-use Rattle.timing.proofs.Checks.{sound-fits}
+use Rattle.timing.specs.Limits.{absentWide}
 use Rattle.paths.specs.Arrivals.{Reached, Pushed}
-use Rattle.paths.proofs.Rows.{lent, lent-cell, lent-long}
-use Rattle.paths.proofs.Propagating.{Going, going-start, x-in, skipped, reached, onward, ended}
+use Rattle.paths.proofs.Rows.{lent}
+use Rattle.paths.proofs.Propagating.{pushable, Going, going-start, x-in, skipped, reached, onward, ended}
 
 abbrev Inv-loop : tie.InvT-loop
-Inv-loop table list f₀ n p₀ f p = Going n table list f₀ f p
+Inv-loop table list chain f₀ n p₀ f p = Going n table list f₀ f p
 
 abbrev μ-loop : tie.MeasureT-loop
-μ-loop table list f₀ n p₀ f p = n - p
+μ-loop table list chain f₀ n p₀ f p = n - p
 
 loop-holds : tie.Need-loop-holds Inv-loop μ-loop
 loop-holds c = going-start _ _ _ _
@@ -31,7 +28,7 @@ loop-holds c = going-start _ _ _ _
 -- a turn
 module _ (c : tie.In-loop Inv-loop μ-loop) where
   abbrev start : tie.Start Inv-loop μ-loop
-  start = c .before .before
+  start = c .before .before .before
 
   abbrev n : ℕ
   n = start .args .board .vertices
@@ -43,13 +40,13 @@ module _ (c : tie.In-loop Inv-loop μ-loop) where
   u = getD (start .args .list .now) (c .before .loop .p) 0
 
   few : n ≤ 90
-  few = start .pre .passable .lent .sized .few
+  few = start .pre .0 .passable .lent .sized .few
 
   room : n * n ≤ length t
-  room = start .pre .passable .lent .room
+  room = start .pre .0 .passable .lent .room
 
   vertex : u < n
-  vertex = x-in (start .pre) (c .before .loop .inv) (c .loop-test .taken)
+  vertex = x-in (start .pre .0) (c .before .loop .inv) (c .loop-test .taken)
 
   row : n * u + n ≤ n * n
   row = row-in n u vertex
@@ -64,7 +61,7 @@ mul-a : tie.Need-mul-a Inv-loop μ-loop
 mul-a c = omega (arith, vertex (c .before), few (c .before))
 
 slice-copy-out-a : tie.Need-slice-copy-out-a Inv-loop μ-loop
-slice-copy-out-a c = omega (arith, vertex (c .before), start (c .before) .pre .room, c .before .before .loop .inv .size)
+slice-copy-out-a c = omega (arith, vertex (c .before), start (c .before) .pre .0 .room, c .before .before .loop .inv .size)
 
 mul-at : tie.Need-mul-at Inv-loop μ-loop
 mul-at c = let i = c .before .before .before in omega (arith, row i, room i, vertex i)
@@ -81,19 +78,25 @@ part-push-start c = let i = c .before .before .before in omega (arith, row i, ro
 part-push-end : tie.Need-part-push-end Inv-loop μ-loop
 part-push-end c = omega arith
 
+sub-push-2 : tie.Need-sub-push-2 Inv-loop μ-loop
+sub-push-2 c = let i = c .before .before .before .before in omega (arith, row i, start i .pre .1 .room)
+
+part-push-start-2 : tie.Need-part-push-start-2 Inv-loop μ-loop
+part-push-start-2 c = let i = c .before .before .before .before in omega (arith, row i, start i .pre .1 .room)
+
+part-push-end-2 : tie.Need-part-push-end-2 Inv-loop μ-loop
+part-push-end-2 c = omega arith
+
 push-requires : tie.Need-push-requires Inv-loop μ-loop
 push-requires c κs =
-    let a = c .before .before .before in
+    let k = c .before .before .before in
+    let a = k .before in
     let i = a .before .before in
     let s = start i in
-    let l = i .before in (
-      few i,
-      lent-long (n i) (t i) (u i) (room i) (vertex i),
-      subst Reached (sym (back w64 _ (a .a .given))) (reached (s .pre) (l .loop .inv) (i .loop-test .taken) (other-bits w64 (c .before .before .if1 .taken))),
-      λ v h. subst (λ (d : Delay). T (fits delayLimit d)) (sym (lent-cell (n i) (t i) (u i) (room i) (vertex i) v h)) (sound-fits (s .pre .passable .sound) (u i) v),
-      omega (arith, l .loop .inv .size, s .pre .room),
-      record { rank = s .pre .passable .order .rank; vertex = s .pre .passable .order .vertex },
-      i .loop-test .taken,
+    let l = i .before in
+    let P = s .pre .0 .passable in (
+      subst Reached (sym (back w64 _ (a .a .given))) (reached (s .pre .0) (l .loop .inv) (i .loop-test .taken) (other-bits w64 (k .if1 .taken))),
+      pushable P (s .pre .1) (u i) (vertex i) (l .loop .f) (omega (arith, l .loop .inv .size, s .pre .0 .room)),
     )
 
 add-p : tie.Need-add-p Inv-loop μ-loop
@@ -108,17 +111,17 @@ loop-again c =
     let s = start i in
     let l = i .before in
     split (c .if1 .came)
-    (λ w. subst (λ (y : List ℤ). Going (n i) (t i) (s .args .list .now) (s .args .f .now) y (l .loop .p + 1)) (sym (w .5))
-    (onward (s .pre) (l .loop .inv) (i .loop-test .taken) (w .3 .last .1 .1 .0) (w .3 .kept .1 .1 .0)
-    (subst (λ (z : ℤ). Pushed (n i) (s .args .list .now) (l .loop .p) (lent (n i) (t i) (u i) (room i) (vertex i)) z (l .loop .f) (w .3 .last .1 .1 .0)) (back w64 _ (c .before .a .given)) (w .3 .ensures))))
+    (λ w. subst (λ (y : List ℤ). Going (n i) (t i) (s .args .list .now) (s .args .f .now) y (l .loop .p + 1)) (sym (w .6))
+    (onward (s .pre .0) (l .loop .inv) (i .loop-test .taken) (w .4 .last .1 .1 .1 .0) (w .4 .kept .1 .1 .1 .0)
+    (subst (λ (z : ℤ). Pushed (n i) (lent (n i) (t i) (u i) (room i) (vertex i)) z (l .loop .f) (w .4 .last .1 .1 .1 .0)) (back w64 _ (c .before .a .given)) (w .4 .ensures))))
     (λ w. subst (λ (y : List ℤ). Going (n i) (t i) (s .args .list .now) (s .args .f .now) y (l .loop .p + 1)) (sym (w .1))
-    (skipped (s .pre) (l .loop .inv) (i .loop-test .taken) (same-bits {w = w64} {b = absentWide} (record { sfits = c .before .a .given }) (sfits-lit tt) (w .0 .left))))
+    (skipped (s .pre .0) (l .loop .inv) (i .loop-test .taken) (same-bits {w = w64} {b = absentWide} (record { sfits = c .before .a .given }) (sfits-lit tt) (w .0 .left))))
 
 same-length : tie.Need-same-length Inv-loop μ-loop
 same-length c = c .before .loop .inv .size
 
 returns : tie.Need-returns Inv-loop μ-loop
-returns c = ended (c .before .before .pre) (c .before .loop .inv) (omega (arith, c .before .loop .inv .upto, c .loop-test .left))
+returns c = ended (c .before .before .before .pre .0) (c .before .loop .inv) (omega (arith, c .before .loop .inv .upto, c .loop-test .left))
 
 pub propagate-spec : {M : Type 1} → statement M
 propagate-spec =
@@ -136,6 +139,9 @@ propagate-spec =
     sub-push
     part-push-start
     part-push-end
+    sub-push-2
+    part-push-start-2
+    part-push-end-2
     push-requires
     add-p
     loop-less

@@ -34,14 +34,25 @@ module _ (e : tie.Else2) where
   least : start .args .board .vertices ≤ start .args .board .vertices * start .args .board .vertices
   least = square (start .args .board .vertices) (omega (arith, start .pre .0 .lent .sized .some-inputs, start .pre .0 .lent .sized .roles))
 
+chains-requires : tie.Need-chains-requires
+chains-requires c κs = start c .pre .0 .lent
+
+-- the chains are made
+module _ (m : tie.After-chain) where
+  abbrev lists : tie.Else2
+  lists = m .before .before
+
+slice-aggregate-arrivals : tie.Need-slice-aggregate-arrivals
+slice-aggregate-arrivals c = sym (c .before .chains .ensures .0)
+
 arrivals-requires : tie.Need-arrivals-requires
-arrivals-requires c κs = let e = c .before in (start e .pre .0, given-of _ _ (fit e), omega (arith, start e .pre .1, least e))
+arrivals-requires c κs = let e = lists (c .before) in (start e .pre .0, c .before .before .chains .ensures .1, given-of _ _ (fit e), omega (arith, start e .pre .1, least e))
 
 copy-out-requires : tie.Need-copy-out-requires
 copy-out-requires c κs =
     let a = c .before .before .before in
-    let e = a .before .before in
-    omega (arith, e .if2 .left, a .arrivals .kept .1 .1 .1 .1 .0, start e .pre .0 .sound .room, start e .pre .1, least e)
+    let e = lists (a .before .before) in
+    omega (arith, e .if2 .left, a .arrivals .kept .1 .1 .1 .1 .1 .0, start e .pre .0 .sound .room, start e .pre .1, least e)
 
 same-length : tie.Need-same-length
 same-length c = search needs
@@ -53,11 +64,11 @@ returns-3 : tie.Need-returns-3
 returns-3 c =
     let o = c .before in
     let a = o .before .before .before .before in
-    let e = a .before .before in
+    let e = lists (a .before .before) in
     let s = start e in (
-      lists-done _ _ _ _ _ _ (fit e) (e .if2 .left) _ (o .copy-out .ensures ∙ copied (s .args .board) (s .args .given .now) (s .args .scratch .now) (a .arrivals .last .1 .1 .1 .1 .0) (graphOf (s .args .board .vertices) (s .args .table .now)) _ (s .pre .0 .sound .room) (e .if2 .left) (a .arrivals .ensures)),
-      drop-further (s .args .board .vertices) (s .args .board .vertices * s .args .board .vertices) (s .args .scratch .now) (a .arrivals .last .1 .1 .1 .1 .0) (least e)
-          (filled-drop (s .args .board .vertices) (arrivalAt (s .args .board .inputs) (s .args .board .vertices) (graphOf (s .args .board .vertices) (s .args .table .now)) (arrivalIn (s .args .given .now))) (s .args .scratch .now) (a .arrivals .last .1 .1 .1 .1 .0) (a .arrivals .ensures)),
+      lists-done _ _ _ _ _ _ (fit e) (e .if2 .left) _ (o .copy-out .ensures ∙ copied (s .args .board) (s .args .given .now) (s .args .scratch .now) (a .arrivals .last .1 .1 .1 .1 .1 .0) (graphOf (s .args .board .vertices) (s .args .table .now)) _ (s .pre .0 .sound .room) (e .if2 .left) (a .arrivals .ensures)),
+      drop-further (s .args .board .vertices) (s .args .board .vertices * s .args .board .vertices) (s .args .scratch .now) (a .arrivals .last .1 .1 .1 .1 .1 .0) (least e)
+          (filled-drop (s .args .board .vertices) (arrivalAt (s .args .board .inputs) (s .args .board .vertices) (graphOf (s .args .board .vertices) (s .args .table .now)) (arrivalIn (s .args .given .now))) (s .args .scratch .now) (a .arrivals .last .1 .1 .1 .1 .1 .0) (a .arrivals .ensures)),
     )
 
 pub arrivals-answer-spec : {M : Type 1} → statement M
@@ -67,6 +78,8 @@ arrivals-answer-spec =
     arrivals-fit-requires
     returns
     returns-2
+    chains-requires
+    slice-aggregate-arrivals
     arrivals-requires
     copy-out-requires
     same-length

@@ -1,6 +1,6 @@
 use Rattle.paths.proofs.queries.fill_matrix.Statement.{statement}
 use Rattle.paths.proofs.queries.fill_matrix.Tie as tie
-use mathlib.Core.Path.{_≡_, refl, ap, _∙_}
+use mathlib.Core.Path.{_≡_, refl, sym, ap, _∙_}
 use mathlib.Core.List.{_++_}
 use Prim.Native.Nat.{_≤_, _+_, _-_, _*_}
 use native.Mathlib.Omega.{arith}
@@ -16,20 +16,27 @@ use Rattle.graph.specs.Graph.{longest, walk}
 use Rattle.timing.specs.Table.{graphOf}
 
 abbrev Inv-loop : tie.InvT-loop
-Inv-loop board table list scratch₀ destination₀ m n i₀ scratch destination i = (i ≤ m) × (length scratch ≡ length scratch₀) × (drop (board .vertices) scratch ≡ drop (board .vertices) scratch₀) × (destination ≡ rows n i (entry board table) ++ drop (n * i) destination₀)
+Inv-loop board table list scratch₀ destination₀ chain m n i₀ scratch destination i = (i ≤ m) × (length scratch ≡ length scratch₀) × (drop (board .vertices) scratch ≡ drop (board .vertices) scratch₀) × (destination ≡ rows n i (entry board table) ++ drop (n * i) destination₀)
 
 abbrev μ-loop : tie.MeasureT-loop
-μ-loop board table list scratch₀ destination₀ m n i₀ scratch destination i = m - i
+μ-loop board table list scratch₀ destination₀ chain m n i₀ scratch destination i = m - i
+
+chains-requires : tie.Need-chains-requires Inv-loop μ-loop
+chains-requires c κs = c .pre .0 .lent
 
 loop-holds : tie.Need-loop-holds Inv-loop μ-loop
 loop-holds c = (omega arith, refl, refl, rows-none _ _ _)
 
-delays-from-requires : tie.Need-delays-from-requires Inv-loop μ-loop
-delays-from-requires c κs = let s = c .before .before .before in (s .pre .0, omega (arith, c .before .loop-test .taken, s .pre .0 .sound .room), omega (arith, c .before .before .loop .inv .1, s .pre .1))
+module _ (h : tie.At-loop Inv-loop μ-loop) where
+  abbrev made : tie.After-chains Inv-loop μ-loop
+  made = h .before
+
+  abbrev start : tie.Start Inv-loop μ-loop
+  start = made .before
 
 module _ (i : tie.In-loop Inv-loop μ-loop) where
   abbrev s : tie.Start Inv-loop μ-loop
-  s = i .before .before
+  s = start (i .before)
 
   row : s .args .board .outputs * i .before .loop .i + s .args .board .outputs ≤ s .args .board .outputs * s .args .board .inputs
   row = row-of (s .args .board .outputs) (i .before .loop .i) (s .args .board .inputs) (i .loop-test .taken)
@@ -37,14 +44,20 @@ module _ (i : tie.In-loop Inv-loop μ-loop) where
   long : length (i .before .loop .destination) ≡ length (s .args .destination .now)
   long = matrix-length (s .pre .0) (s .args .destination .now) (i .before .loop .destination) (s .pre .2) (i .before .loop .i) (i .before .loop .inv .3) (i .loop-test .taken)
 
+slice-aggregate-delays-from : tie.Need-slice-aggregate-delays-from Inv-loop μ-loop
+slice-aggregate-delays-from c = sym (made (c .before .before) .chains .ensures .0)
+
+delays-from-requires : tie.Need-delays-from-requires Inv-loop μ-loop
+delays-from-requires c κs = let i = c .before .before in (s i .pre .0, made (i .before) .chains .ensures .1, omega (arith, i .loop-test .taken, s i .pre .0 .sound .room), omega (arith, i .before .loop .inv .1, s i .pre .1))
+
 mul-at : tie.Need-mul-at Inv-loop μ-loop
-mul-at c = let i = c .before .before .before in omega (arith, row i, s i .pre .2, s i .good)
+mul-at c = let i = c .before .before .before .before in omega (arith, row i, s i .pre .2, s i .good)
 
 add-end : tie.Need-add-end Inv-loop μ-loop
-add-end c = let i = c .before .before .before in omega (arith, row i, s i .pre .2, s i .good)
+add-end c = let i = c .before .before .before .before in omega (arith, row i, s i .pre .2, s i .good)
 
 mul-copy-out : tie.Need-mul-copy-out Inv-loop μ-loop
-mul-copy-out c = let i = c .before .before .before in omega (arith, row i, s i .pre .2, s i .good)
+mul-copy-out c = let i = c .before .before .before .before in omega (arith, row i, s i .pre .2, s i .good)
 
 sub-copy-out : tie.Need-sub-copy-out Inv-loop μ-loop
 sub-copy-out c = omega arith
@@ -53,37 +66,37 @@ part-copy-out-start : tie.Need-part-copy-out-start Inv-loop μ-loop
 part-copy-out-start c = omega arith
 
 part-copy-out-end : tie.Need-part-copy-out-end Inv-loop μ-loop
-part-copy-out-end c = let i = c .before .before .before in omega (arith, row i, s i .pre .2, long i)
+part-copy-out-end c = let i = c .before .before .before .before in omega (arith, row i, s i .pre .2, long i)
 
 copy-out-requires : tie.Need-copy-out-requires Inv-loop μ-loop
 copy-out-requires c κs =
     let d = c .before .before .before in
-    let i = d .before .before in
+    let i = d .before .before .before in
     omega (
       arith,
       s i .pre .0 .sound .room,
       s i .pre .1,
       i .before .loop .inv .1,
-      d .delays-from .kept .1 .1 .1 .1 .0,
+      d .delays-from .kept .1 .1 .1 .1 .1 .0,
       row-length (s i .pre .0) (s i .args .destination .now) (i .before .loop .destination) (s i .pre .2) (i .before .loop .i) (i .before .loop .inv .3) (i .loop-test .taken),
     )
 
 add-i : tie.Need-add-i Inv-loop μ-loop
-add-i c = let i = c .before .before .before .before .before .before .before in omega (arith, i .loop-test .taken, s i .pre .0 .lent .sized)
+add-i c = let i = c .before .before .before .before .before .before .before .before in omega (arith, i .loop-test .taken, s i .pre .0 .lent .sized)
 
 loop-less : tie.Need-loop-less Inv-loop μ-loop
-loop-less c = let i = c .before .before .before .before .before .before .before in omega (arith, i .loop-test .taken)
+loop-less c = let i = c .before .before .before .before .before .before .before .before in omega (arith, i .loop-test .taken)
 
 loop-again : tie.Need-loop-again Inv-loop μ-loop
 loop-again c =
     let d = c .before .before .before .before .before in
-    let i = d .before .before in
+    let i = d .before .before .before in
     let l = i .before in (
       omega (arith, i .loop-test .taken),
-      d .delays-from .kept .1 .1 .1 .1 .0 ∙ l .loop .inv .1,
-      filled-drop (s i .args .board .vertices) (walk (longest (graphOf (s i .args .board .vertices) (s i .args .table .now)) (s i .args .board .vertices)) (l .loop .i)) (l .loop .scratch) (d .delays-from .last .1 .1 .1 .1 .0) (d .delays-from .ensures) ∙ l .loop .inv .2,
+      d .delays-from .kept .1 .1 .1 .1 .1 .0 ∙ l .loop .inv .1,
+      filled-drop (s i .args .board .vertices) (walk (longest (graphOf (s i .args .board .vertices) (s i .args .table .now)) (s i .args .board .vertices)) (l .loop .i)) (l .loop .scratch) (d .delays-from .last .1 .1 .1 .1 .1 .0) (d .delays-from .ensures) ∙ l .loop .inv .2,
       row-back (s i .args .board .outputs) (entry (s i .args .board) (s i .args .table .now)) (s i .args .destination .now) (l .loop .destination) (l .loop .i) (l .loop .inv .3) (c .before .copy-out .last .0)
-          (row-done (s i .pre .0) (s i .args .destination .now) (l .loop .destination) (s i .pre .2) (l .loop .i) (l .loop .inv .3) (i .loop-test .taken) (l .loop .scratch) (d .delays-from .last .1 .1 .1 .1 .0) (c .before .copy-out .last .0)
+          (row-done (s i .pre .0) (s i .args .destination .now) (l .loop .destination) (s i .pre .2) (l .loop .i) (l .loop .inv .3) (i .loop-test .taken) (l .loop .scratch) (d .delays-from .last .1 .1 .1 .1 .1 .0) (c .before .copy-out .last .0)
           (d .delays-from .ensures) (c .before .copy-out .ensures)),
     )
 
@@ -93,14 +106,14 @@ same-length c = c .before .loop .inv .1
 same-length-2 : tie.Need-same-length-2 Inv-loop μ-loop
 same-length-2 c =
     let l = c .before in
-    let e : l .loop .i ≡ l .before .args .board .inputs = omega (arith, l .loop .inv .0, c .loop-test .left) in
-    ap length (l .loop .inv .3) ∙ simp (length-append, length-rows, length-drop, e) (omega (arith, l .before .pre .2))
+    let e : l .loop .i ≡ start l .args .board .inputs = omega (arith, l .loop .inv .0, c .loop-test .left) in
+    ap length (l .loop .inv .3) ∙ simp (length-append, length-rows, length-drop, e) (omega (arith, start l .pre .2))
 
 returns : tie.Need-returns Inv-loop μ-loop
 unfolding matrixCells
 returns c =
     let l = c .before in
-    let e : l .loop .i ≡ l .before .args .board .inputs = omega (arith, l .loop .inv .0, c .loop-test .left) in
+    let e : l .loop .i ≡ start l .args .board .inputs = omega (arith, l .loop .inv .0, c .loop-test .left) in
     (rw e at (l .loop .inv .3), l .loop .inv .2)
 
 pub fill-matrix-spec : {M : Type 1} → statement M
@@ -109,7 +122,9 @@ fill-matrix-spec =
     (tie.spec
     Inv-loop
     μ-loop
+    chains-requires
     loop-holds
+    slice-aggregate-delays-from
     delays-from-requires
     mul-at
     add-end

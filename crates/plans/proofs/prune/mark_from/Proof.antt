@@ -4,33 +4,32 @@ use mathlib.Core.Path.{_≡_, sym, subst}
 use mathlib.Core.List.{List}
 use Prim.Native.Nat.{ℕ, _≤_, _<_, _+_, _-_, _*_}
 use native.Mathlib.Omega.{arith}
-use lib.Dec.{T}
 use lib.IntN.{ℤ, pos}
 use lib.ListN.{length, getD}
 use mir.Syntax.{w64}
 use mir.Facts.{sfits-lit}
 use Rattle.laws.proofs.Grid.{row-in}
 use Rattle.laws.proofs.Signed.{back, same-bits, other-bits}
-use Rattle.graph.specs.Delay.{Delay}
 use Rattle.graph.specs.Graph.{longest, walk}
-use Rattle.timing.specs.Limits.{delayLimit, absentWide, fits}
+use Rattle.timing.specs.Limits.{absentWide}
 use Rattle.timing.specs.Table.{graphOf}
-use Rattle.timing.proofs.Checks.{sound-fits}
-use Rattle.paths.specs.Arrivals.{Reached}
-use Rattle.paths.proofs.Rows.{lent, lent-cell, lent-long}
+use Rattle.paths.specs.Arrivals.{Reached, Pushable}
+use Rattle.paths.proofs.Rows.{lent}
 use Rattle.paths.proofs.Sizes.{board-area}
 use Rattle.paths.proofs.Starting.{filled-drop}
+use Rattle.paths.proofs.Chaining.{lentChain}
+use Rattle.paths.proofs.Propagating.{pushable}
 use Rattle.plans.specs.PruneMarks.{RowMarked}
 use Rattle.plans.proofs.AliveSweep as A
 
 abbrev Inv-loop : tie.InvT-loop
-Inv-loop board table list i f marks₀ n alive₀ p₀ marks alive p = (S : A.Sweep board i table list f marks₀) → A.Going board i table (S .passable .order .rank) marks₀ marks alive p
+Inv-loop board table list chain i f marks₀ n alive₀ p₀ marks alive p = (S : A.Sweep board i table list f marks₀) → A.Going board i table (S .passable .order .rank) marks₀ marks alive p
 
 abbrev μ-loop : tie.MeasureT-loop
-μ-loop board table list i f marks₀ n alive₀ p₀ marks alive p = p
+μ-loop board table list chain i f marks₀ n alive₀ p₀ marks alive p = p
 
 delays-from-requires : tie.Need-delays-from-requires Inv-loop μ-loop
-delays-from-requires c κs = let s = c .before .before in (s .pre .0, omega (arith, s .pre .1, s .pre .0 .sound .room), s .pre .2)
+delays-from-requires c κs = let s = c .before .before .before in (s .pre .0, s .pre .1, omega (arith, s .pre .2, s .pre .0 .sound .room), s .pre .3)
 
 dark-requires : tie.Need-dark-requires Inv-loop μ-loop
 dark-requires c κs = tt
@@ -44,19 +43,19 @@ module _ (h : tie.At-loop Inv-loop μ-loop) where
   d = h .before .before .before
 
   abbrev s : tie.Start Inv-loop μ-loop
-  s = d .before .before .before
+  s = d .before .before .before .before
 
   abbrev n : ℕ
   n = s .args .board .vertices
 
   abbrev f : List ℤ
-  f = d .delays-from .last .1 .1 .1 .1 .0
+  f = d .delays-from .last .1 .1 .1 .1 .1 .0
 
   long : length f ≡ length (s .args .f .now)
-  long = d .delays-from .kept .1 .1 .1 .1 .0
+  long = d .delays-from .kept .1 .1 .1 .1 .1 .0
 
   S : A.Sweep (s .args .board) (s .args .i) (s .args .table .now) (s .args .list .now) f (s .args .marks .now)
-  S = A.sweep (s .pre .0) (s .args .i) (s .pre .1) (s .args .f .now) f (s .pre .2) long (d .delays-from .ensures) (s .args .marks .now) (s .pre .3)
+  S = A.sweep (s .pre .0) (s .args .i) (s .pre .2) (s .args .f .now) f (s .pre .3) long (d .delays-from .ensures) (s .args .marks .now) (s .pre .4)
 
 -- a turn, at the place before p
 module _ (t : tie.In-loop Inv-loop μ-loop) where
@@ -121,13 +120,22 @@ part-mark-row-end : tie.Need-part-mark-row-end Inv-loop μ-loop
 part-mark-row-end c = omega arith
 
 sub-mark-row-2 : tie.Need-sub-mark-row-2 Inv-loop μ-loop
-sub-mark-row-2 c = omega arith
+sub-mark-row-2 c = let t = turn-of (c .before) in omega (arith, row t, s (h t) .pre .1 .room)
 
 part-mark-row-start-2 : tie.Need-part-mark-row-start-2 Inv-loop μ-loop
-part-mark-row-start-2 c = omega arith
+part-mark-row-start-2 c = let t = turn-of (c .before) in omega (arith, row t, s (h t) .pre .1 .room)
 
 part-mark-row-end-2 : tie.Need-part-mark-row-end-2 Inv-loop μ-loop
-part-mark-row-end-2 c = let t = turn-of (c .before .before .before) in omega (arith, row t, s (h t) .pre .3, going t (S (h t)) .size)
+part-mark-row-end-2 c = omega arith
+
+sub-mark-row-3 : tie.Need-sub-mark-row-3 Inv-loop μ-loop
+sub-mark-row-3 c = omega arith
+
+part-mark-row-start-3 : tie.Need-part-mark-row-start-3 Inv-loop μ-loop
+part-mark-row-start-3 c = omega arith
+
+part-mark-row-end-3 : tie.Need-part-mark-row-end-3 Inv-loop μ-loop
+part-mark-row-end-3 c = let t = turn-of (c .before .before .before .before) in omega (arith, row t, s (h t) .pre .4, going t (S (h t)) .size)
 
 -- the vertex is reached
 module _ (k : tie.Then1 Inv-loop μ-loop) where
@@ -145,18 +153,17 @@ module _ (k : tie.Then1 Inv-loop μ-loop) where
 
 mark-row-requires : tie.Need-mark-row-requires Inv-loop μ-loop
 mark-row-requires c κs =
-    let k = c .before .before .before .before in
+    let k = c .before .before .before .before .before in
     let t = turn-of k in
-    let p = s (h t) .pre .0 in (
-      omega (arith, part k, p .lent .sized .few),
-      omega (arith, part k, lent-long (n (h t)) (s (h t) .args .table .now) (x t) (p .lent .room) (vertex t)),
+    let b = s (h t) in
+    let p = b .pre .0 in (
       subst Reached (sym (back w64 _ (k .before .a .given))) (reached k),
-      λ v l. subst (λ (e : Delay). T (fits delayLimit e)) (sym (lent-cell (n (h t)) (s (h t) .args .table .now) (x t) (p .lent .room) (vertex t) v (omega (arith, part k)))) (sound-fits (p .sound) (x t) v),
-      omega (arith, part k, S (h t) .room),
+      subst (λ (z : ℕ). Pushable z (lent (n (h t)) (b .args .table .now) (x t) (p .lent .room) (vertex t)) (lentChain (b .pre .1) (x t) (p .lent .room) (vertex t)) (f (h t))) (sym (part k))
+          (pushable p (b .pre .1) (x t) (vertex t) (f (h t)) (S (h t) .room)),
     )
 
 abbrev reached-of : tie.After-mark-row Inv-loop μ-loop → tie.Then1 Inv-loop μ-loop
-reached-of c = c .before .before .before .before .before
+reached-of c = c .before .before .before .before .before .before
 
 is-alive-requires : tie.Need-is-alive-requires Inv-loop μ-loop
 is-alive-requires c κs = s (h (turn-of (reached-of (c .before .before)))) .pre .0 .lent .sized
@@ -172,10 +179,10 @@ loop-again c w =
     let r = c .before .before .before in
     let k = reached-of r in
     let t = turn-of k in
-    A.turn w (h t .loop .marks) (h t .loop .alive) (q t) (going t w) (r .mark-row .last .1 .1 .1 .1 .0) (r .mark-row .result) (c .is-alive .result)
+    A.turn w (h t .loop .marks) (h t .loop .alive) (q t) (going t w) (r .mark-row .last .1 .1 .1 .1 .1 .0) (r .mark-row .result) (c .is-alive .result)
     (subst (λ (y : ℤ). RowMarked (lent (n (h t)) (s (h t) .args .table .now) (x t) (s (h t) .pre .0 .lent .room) (vertex t)) y (f (h t)) (h t .loop .alive)
-    (A.part w (h t .loop .marks) (h t .loop .alive) (q t) (going t w)) (r .mark-row .last .1 .1 .1 .1 .0) (r .mark-row .result)) (back w64 _ (k .before .a .given)) (r .mark-row .ensures))
-    (other-bits w64 (k .if1 .taken)) (c .is-alive .ensures) (r .mark-row .kept .1 .1 .1 .1 .0)
+    (A.part w (h t .loop .marks) (h t .loop .alive) (q t) (going t w)) (r .mark-row .last .1 .1 .1 .1 .1 .0) (r .mark-row .result)) (back w64 _ (k .before .a .given)) (r .mark-row .ensures))
+    (other-bits w64 (k .if1 .taken)) (c .is-alive .ensures) (r .mark-row .kept .1 .1 .1 .1 .1 .0)
 
 loop-less-2 : tie.Need-loop-less-2 Inv-loop μ-loop
 loop-less-2 c = omega (arith, c .before .before .before .loop-test .taken)
@@ -223,6 +230,9 @@ mark-from-spec =
     sub-mark-row-2
     part-mark-row-start-2
     part-mark-row-end-2
+    sub-mark-row-3
+    part-mark-row-start-3
+    part-mark-row-end-3
     mark-row-requires
     is-alive-requires
     array-write-alive

@@ -26,11 +26,14 @@ abbrev into : ℕ → List ℤ → ℕ → ℕ → Delay
 into N table v = column N (graphOf N table) v
 
 abbrev Inv-compare : tie.InvT-compare
-Inv-compare board table list scratch₀ a b m seen₀ i₀ scratch s i =
+Inv-compare board table list scratch₀ a b chain m seen₀ i₀ scratch s i =
     (i ≤ m) × (length scratch ≡ length scratch₀) × (drop (board .vertices) scratch ≡ drop (board .vertices) scratch₀) × (s ≡ seen i (into (board .vertices) table a) (into (board .vertices) table b))
 
 abbrev μ-compare : tie.MeasureT-compare
-μ-compare board table list scratch₀ a b m seen₀ i₀ scratch s i = m - i
+μ-compare board table list scratch₀ a b chain m seen₀ i₀ scratch s i = m - i
+
+chains-requires : tie.Need-chains-requires Inv-compare μ-compare
+chains-requires c κs = c .pre .0 .lent
 
 compare-holds : tie.Need-compare-holds Inv-compare μ-compare
 compare-holds c = (omega arith, refl, refl, seen-none _ _)
@@ -44,7 +47,7 @@ module _ (c : tie.Else1 Inv-compare μ-compare) where
   loop = c .before
 
   abbrev start : tie.Start Inv-compare μ-compare
-  start = loop .before
+  start = loop .before .before
 
   abbrev N : ℕ
   N = start .args .board .vertices
@@ -67,19 +70,22 @@ module _ (c : tie.Else1 Inv-compare μ-compare) where
   room : N ≤ length (loop .compare .scratch)
   room = omega (arith, loop .compare .inv .1, start .pre .1)
 
+slice-aggregate-delays-from : tie.Need-slice-aggregate-delays-from Inv-compare μ-compare
+slice-aggregate-delays-from c = sym (loop (c .before) .before .chains .ensures .0)
+
 delays-from-requires : tie.Need-delays-from-requires Inv-compare μ-compare
-delays-from-requires c κs = let e = c .before in (start e .pre .0, inside e, room e)
+delays-from-requires c κs = let e = c .before .before in (start e .pre .0, loop e .before .chains .ensures .1, inside e, room e)
 
 -- the delays from input i are there
 module _ (c : tie.After-delays-from Inv-compare μ-compare) where
   abbrev turn : tie.Else1 Inv-compare μ-compare
-  turn = c .before .before
+  turn = c .before .before .before
 
   abbrev before : List ℤ
   before = loop turn .compare .scratch
 
   abbrev after : List ℤ
-  after = c .delays-from .last .1 .1 .1 .1 .0
+  after = c .delays-from .last .1 .1 .1 .1 .1 .0
 
   long : length after ≡ length before
   long = held-length (start turn .pre .0) (i turn) (inside turn) before after (room turn) (c .delays-from .ensures)
@@ -151,7 +157,7 @@ same-length c = c .before .before .compare .inv .1
 returns : tie.Need-returns Inv-compare μ-compare
 returns c =
     let l = c .before .before in
-    let s = l .before in
+    let s = l .before .before in
     let n = s .args .board .vertices in
     let f = into n (s .args .table .now) (s .args .a) in
     let g = into n (s .args .table .now) (s .args .b) in
@@ -181,8 +187,10 @@ columns-difference-spec =
     (tie.spec
     Inv-compare
     μ-compare
+    chains-requires
     compare-holds
     settle-requires
+    slice-aggregate-delays-from
     delays-from-requires
     mul-seen-next
     slice-copy-out-seen-next

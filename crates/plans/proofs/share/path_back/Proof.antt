@@ -80,16 +80,22 @@ said c =
 returns-2 : tie.Need-returns-2
 returns-2 c = (sym (arc-path (c .before .before .before .before .before) (said (c .before) ∙ c .if2 .taken)), refl)
 
+chains-requires : tie.Need-chains-requires
+chains-requires c κs = c .before .before .before .before .before .pre .0 .lent
+
+slice-aggregate-delays-from : tie.Need-slice-aggregate-delays-from
+slice-aggregate-delays-from c = sym (c .before .chains .ensures .0)
+
 delays-from-requires : tie.Need-delays-from-requires
-delays-from-requires c κs = let s = c .before .before .before .before .before .before in (s .pre .0, s .pre .2 .below-b, s .pre .1)
+delays-from-requires c κs = let m = c .before .before in let s = m .before .before .before .before .before .before in (s .pre .0, m .chains .ensures .1, s .pre .2 .below-b, s .pre .1)
 
 -- the delays from b are there
 module _ (c : tie.After-delays-from) where
   abbrev start : tie.Start
-  start = c .before .before .before .before .before .before .before
+  start = c .before .before .before .before .before .before .before .before .before
 
   abbrev after : List ℤ
-  after = c .delays-from .last .1 .1 .1 .1 .0
+  after = c .delays-from .last .1 .1 .1 .1 .1 .0
 
   long : length after ≡ length (start .args .scratch .now)
   long = held-length (start .pre .0) (b start) (start .pre .2 .below-b) (start .args .scratch .now) after (start .pre .1) (c .delays-from .ensures)
@@ -139,6 +145,8 @@ path-back-spec =
     shared-slice-copy-out-is-arc
     is-arc-requires
     returns-2
+    chains-requires
+    slice-aggregate-delays-from
     delays-from-requires
     mul-result
     slice-copy-out-result

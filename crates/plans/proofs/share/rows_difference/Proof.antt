@@ -1,5 +1,5 @@
 use borrow.Author.Needs.{needs}
-use mathlib.Core.Path.{_≡_, _∙_}
+use mathlib.Core.Path.{_≡_, sym, _∙_}
 use mathlib.Core.List.{List}
 use Prim.Native.Nat.{ℕ, _<_}
 use native.Mathlib.Omega.{arith}
@@ -17,13 +17,22 @@ module _ (c : tie.Start) where
   b-in : c .args .b < c .args .board .vertices
   b-in = omega (arith, c .pre .3, c .pre .0 .lent .sized .roles)
 
+chains-requires : tie.Need-chains-requires
+chains-requires c κs = c .pre .0 .lent
+
+slice-aggregate-delays-from : tie.Need-slice-aggregate-delays-from
+slice-aggregate-delays-from c = sym (c .before .chains .ensures .0)
+
 delays-from-requires : tie.Need-delays-from-requires
-delays-from-requires c κs = let s = c .before in (s .pre .0, a-in s, omega (arith, s .pre .1))
+delays-from-requires c κs = let m = c .before .before in let s = m .before in (s .pre .0, m .chains .ensures .1, a-in s, omega (arith, s .pre .1))
 
 -- the delays from a are there
 module _ (c : tie.After-delays-from) where
+  abbrev made : tie.After-chains
+  made = c .before .before .before
+
   abbrev start : tie.Start
-  start = c .before .before
+  start = made .before
 
   abbrev N : ℕ
   N = start .args .board .vertices
@@ -32,39 +41,42 @@ module _ (c : tie.After-delays-from) where
   before = start .args .scratch .now
 
   abbrev first : List ℤ
-  first = c .delays-from .last .1 .1 .1 .1 .0
+  first = c .delays-from .last .1 .1 .1 .1 .1 .0
 
   long : length first ≡ length before
   long = first-length (start .pre .0) (start .args .a) (start .args .b) (a-in start) (b-in start) before first first (start .pre .1) (c .delays-from .ensures)
 
+slice-aggregate-delays-from-2 : tie.Need-slice-aggregate-delays-from-2
+slice-aggregate-delays-from-2 c = sym (made (c .before .before) .chains .ensures .0)
+
 mul-delays-from : tie.Need-mul-delays-from
-mul-delays-from c = let d = c .before in omega (arith, long d, start d .pre .1)
+mul-delays-from c = let d = c .before .before in omega (arith, long d, start d .pre .1)
 
 sub-delays-from : tie.Need-sub-delays-from
-sub-delays-from c = let d = c .before in omega (arith, long d, start d .pre .1)
+sub-delays-from c = let d = c .before .before in omega (arith, long d, start d .pre .1)
 
 part-delays-from-start : tie.Need-part-delays-from-start
-part-delays-from-start c = let d = c .before in omega (arith, long d, start d .pre .1)
+part-delays-from-start c = let d = c .before .before in omega (arith, long d, start d .pre .1)
 
 part-delays-from-end : tie.Need-part-delays-from-end
 part-delays-from-end c = omega arith
 
 delays-from-requires-2 : tie.Need-delays-from-requires-2
 delays-from-requires-2 c κs =
-    let d = c .before .before in
+    let d = c .before .before .before in
     let s = start d in
-    (s .pre .0, b-in s, rest-room (s .pre .0) (s .args .a) (s .args .b) (a-in s) (b-in s) (before d) (first d) (first d) (s .pre .1) (d .delays-from .ensures))
+    (s .pre .0, made d .chains .ensures .1, b-in s, rest-room (s .pre .0) (s .args .a) (s .args .b) (a-in s) (b-in s) (before d) (first d) (first d) (s .pre .1) (d .delays-from .ensures))
 
 -- and those from b
 module _ (c : tie.After-delays-from2) where
   abbrev d : tie.After-delays-from
-  d = c .before .before .before
+  d = c .before .before .before .before
 
   abbrev s : tie.Start
   s = start d
 
   abbrev second : List ℤ
-  second = c .delays-from2 .last .1 .1 .1 .1 .0
+  second = c .delays-from2 .last .1 .1 .1 .1 .1 .0
 
 outputs-difference-requires : tie.Need-outputs-difference-requires
 outputs-difference-requires c κs =
@@ -86,7 +98,10 @@ pub rows-difference-spec : {M : Type 1} → statement M
 rows-difference-spec =
     tie.close
     (tie.spec
+    chains-requires
+    slice-aggregate-delays-from
     delays-from-requires
+    slice-aggregate-delays-from-2
     mul-delays-from
     sub-delays-from
     part-delays-from-start
