@@ -11,17 +11,13 @@ use Rattle.graph.specs.Delay.{at}
 use Rattle.timing.specs.declared.Refusal.the-variants.{FileEnds, WrongField}
 use Rattle.timing.specs.Limits.{delayLimit, fits}
 use Rattle.timing.specs.Refusal.{accepted}
-use Rattle.timing.proofs.Verdict.{require-accepted, then-accepted}
+use Rattle.timing.proofs.Verdict.{require-accepted, then-accepted, same-accepted}
 use Rattle.codec.specs.Bytes.{signedAt}
 use Rattle.format.specs.declared.Mark.{Mark}
 use Rattle.format.specs.declared.Mark.the-variants as M
 use Rattle.format.specs.declared.Record.{Record}
-use Rattle.format.specs.declared.Record.the-variants as R
 use Rattle.format.specs.Records.{byteAt, ticksOf, from, to, markAt, body, recordAt}
 use Rattle.files.specs.Records.{Legal}
-
-same : (x y : Record) → accepted x ≡ accepted y → x ≡ y
-same x y e = cc
 
 module _ (N : ℕ) (s : List ℕ) (p : ℕ) where
   -- both ends are vertices
@@ -37,17 +33,17 @@ module _ (N : ℕ) (s : List ℕ) (p : ℕ) where
       let fields = require-accepted (ends && fits delayLimit (at d)) WrongField _ r (whole .1) in
       let f = and-e ends (fits delayLimit (at d)) (fields .0) in
       let v = vertices (f .0) in
-      subst (Legal N s p) (same (R.Arc (from N s p) (to N s p) d) r (fields .1)) (leb→le (p + 8) (length s) (whole .0), v .0, v .1, f .1)
+      subst (Legal N s p) (same-accepted (fields .1)) (leb→le (p + 8) (length s) (whole .0), v .0, v .1, f .1)
   legal-body M.Cell r e =
       let c = byteAt s (p + 4) in
       let whole = require-accepted (leb (p + 5) (length s)) FileEnds _ r e in
       let fields = require-accepted (ltb (from N s p) N && ltb (to N s p) N) WrongField _ r (whole .1) in
       let ticks = then-accepted (ticksOf c) _ r (fields .1) in
       let v = vertices (fields .0) in
-      subst (Legal N s p) (same (R.Cell (from N s p) (to N s p) c) r (ticks .2)) (leb→le (p + 5) (length s) (whole .0), v .0, v .1, rw (ticks .1) tt)
+      subst (Legal N s p) (same-accepted (ticks .2)) (leb→le (p + 5) (length s) (whole .0), v .0, v .1, rw (ticks .1) tt)
   legal-body M.End r e =
       let whole = require-accepted (leb (p + 4) (length s)) FileEnds _ r e in
-      subst (Legal N s p) (same _ r (whole .1)) (leb→le (p + 4) (length s) (whole .0))
+      subst (Legal N s p) (same-accepted (whole .1)) (leb→le (p + 4) (length s) (whole .0))
   legal-body M.Other r e = absurd (let z : _≡_ {A = ℕ} 0 1 = cc in omega arith)
 
   pub legal : (r : Record) → recordAt N s p ≡ accepted r → Legal N s p r

@@ -16,7 +16,7 @@ use Rattle.timing.specs.Refusal.{Verdict, refused, accepted, isAccepted}
 use Rattle.timing.specs.Table.{readCell, writeCell}
 use Rattle.timing.proofs.Limits.{not-mark}
 use Rattle.timing.proofs.Table.{read-at}
-use Rattle.timing.proofs.Verdict.{require-accepted, is-accepted}
+use Rattle.timing.proofs.Verdict.{require-accepted, is-accepted, same-accepted}
 use Rattle.format.specs.declared.Record.the-variants as R
 use Rattle.format.specs.Records.{cellTicks, ticksOf, delayOf, valueOf, recordAt}
 use Rattle.format.specs.Reading.{withArc, arcOf}
@@ -28,11 +28,8 @@ use Rattle.files.proofs.AcceptedRecords.{legal}
 -- a cell's ticks are no absent mark
 ticks-held : (c : ℕ) (z : ℤ) → ticksOf c ≡ accepted z → z ≢ absentCell
 unfolding ticksOf
-ticks-held c z e q = clash (getD cellTicks c 0) (same (require-accepted (ltb c (length cellTicks)) WrongField (accepted (pos (getD cellTicks c 0))) z e .1) ∙ q)
+ticks-held c z e q = clash (getD cellTicks c 0) (same-accepted (require-accepted (ltb c (length cellTicks)) WrongField (accepted (pos (getD cellTicks c 0))) z e .1) ∙ q)
   where
-    same : accepted (pos (getD cellTicks c 0)) ≡ accepted z → pos (getD cellTicks c 0) ≡ z
-    same h = cc
-
     clash : (k : ℕ) → pos k ≡ absentCell → ⊥
     clash k h = omega zarith
 

@@ -15,13 +15,12 @@ use Rattle.laws.specs.Lists.{tabulate, rows}
 use Rattle.laws.proofs.Booleans.{and-e, eqb-same, eqb-other}
 use Rattle.laws.proofs.Filling.{rows-none, rows-step, length-fill}
 use Rattle.laws.proofs.Grid.{row-of, row-in, row-cell}
-use Rattle.laws.proofs.Lists.{length-tabulate, getD-tabulate}
+use Rattle.laws.proofs.Lists.{length-tabulate, getD-tabulate, is-tabulate}
 use Rattle.graph.specs.Delay.{absent}
 use Rattle.graph.specs.Graph.{Graph}
 use Rattle.timing.specs.Limits.{absentCell}
 use Rattle.timing.specs.Table.{readCell, writeCell, graphOf, withGraph}
 use Rattle.timing.proofs.Table.{written-read, graphOf-at}
-use Rattle.plans.proofs.Tabulated.{is-tabulate}
 use Rattle.format.specs.Reading.{noArcs, withArc}
 
 -- ---- rows

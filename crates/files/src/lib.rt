@@ -1,7 +1,6 @@
 // Board files over lent memory.
 pub mod answer;
 pub mod lines;
-pub mod numbers;
 pub mod place;
 pub mod put;
 pub mod read;

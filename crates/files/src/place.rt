@@ -4,7 +4,7 @@ use crate::records::Found;
 use crate::records::Ticks;
 use format::Record;
 use paths::Board;
-use plans::rows;
+use paths::cells;
 ghost use mathlib.Core.Path.{_≡_};
 ghost use Prim.Native.Nat.{ℕ, _*_, _≤_};
 ghost use lib.ListN.{length};
@@ -28,7 +28,7 @@ pub fn blank(table: &mut [i32], n: usize)
     ensures { λ _. ⌜ now (table .exit) ≡ withGraph n noArcs (now (table .entry)) ⌝ }
 {
     let end = n * n;
-    rows::clear(&mut table[..end]);
+    cells::clear(&mut table[..end]);
 }
 
 // A record's delay, as a cell.

@@ -4,7 +4,6 @@ use codec::unsigned;
 use format::Mark;
 use format::Record;
 use paths::cells;
-use plans::sums;
 use timing::Refusal;
 ghost use mathlib.Core.Bool.{_&&_};
 ghost use mathlib.Core.Path.{_≡_};
@@ -113,7 +112,7 @@ fn arc_at(bytes: &[u8], n: usize, at: usize) -> Found
     if !cells::in_range(d) {
         return Found::Refused(Refusal::WrongField);
     }
-    Found::Record(Record::Arc(u, v, sums::narrow(d)))
+    Found::Record(Record::Arc(u, v, cells::narrow(d)))
 }
 
 fn cell_at(bytes: &[u8], n: usize, at: usize) -> Found

@@ -1,7 +1,6 @@
 // The whole text of `thin`: the size, the arcs and the counts of a board file that was read and reduced, or its refusal.
 use crate::answer::Read;
 use crate::lines;
-use crate::numbers;
 use crate::place;
 use crate::read;
 use crate::write;
@@ -10,6 +9,7 @@ use paths::Board;
 use run::answer::Ran;
 use run::calls;
 use timing::Refusal;
+use timing::numbers;
 ghost use mathlib.Core.Path.{_≡_};
 ghost use Prim.Native.Nat.{_≤_, _<_, _^_};
 ghost use lib.ListN.{length};

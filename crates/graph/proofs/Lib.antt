@@ -9,3 +9,4 @@ pub mod Cycle
 pub mod Count
 pub mod Span
 pub mod Propagation
+pub mod FewerArcs

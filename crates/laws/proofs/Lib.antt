@@ -10,3 +10,5 @@ pub mod Storing
 pub mod Signed
 pub mod Grid
 pub mod LentParts
+pub mod Somewhere
+pub mod Truth

@@ -6,7 +6,7 @@ use Prim.Native.Nat.{ℕ, zero, suc, _+_, _*_, _<_}
 use native.Mathlib.Nat.{not-suc-le-zero, mul-suc, mul-zero, eq-or-lt-of-le, le-of-suc-le-suc, le-step, le-refl}
 use native.Mathlib.Omega.{arith}
 use lib.ListN.{length, getD, length-append, List·getD-append}
-use lib.Seq.{getD-at, getD-append-add}
+use lib.Seq.{ext-getD, getD-at, getD-append-add}
 use Rattle.laws.specs.Lists.{tabulate, rows}
 
 module _ {A : Type 0} (f : ℕ → A) where
@@ -55,3 +55,7 @@ cell-rows n (suc r) f rest u v d h k =
         ap (λ k. getD (rows n r f ++ (tabulate n (f r) ++ rest)) k d) q ∙ getD-append-add (rows n r f) (tabulate n (f r) ++ rest) v d
         ∙ List·getD-append (tabulate n (f r)) rest d v w ∙ getD-tabulate (f r) n v d k ∙ ap (λ k. f k v) (sym e)
     go ih (inr l) = ih l
+
+-- a list that is known place by place
+pub is-tabulate : {A : Type 0} (d : A) (l : List A) (n : ℕ) (f : ℕ → A) → length l ≡ n → ((i : ℕ) → i < n → getD l i d ≡ f i) → l ≡ tabulate n f
+is-tabulate d l n f e h = ext-getD d l (tabulate n f) (e ∙ sym (length-tabulate f n)) (λ i k. h i (omega arith) ∙ sym (getD-tabulate f n i d (omega arith)))

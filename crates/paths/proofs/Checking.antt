@@ -16,7 +16,7 @@ use Rattle.timing.specs.Refusal.{number, Verdict, refused, accepted, require, _
 use Rattle.timing.specs.Table.{graphOf}
 use Rattle.timing.specs.Checks.{sizesFit, tableFits, scratchFits, cellsFit, noArcIntoInput, noCycle, checked}
 use Rattle.timing.proofs.Table.{graphOf-within}
-use Rattle.timing.proofs.Verdict.{require-accepted, then-accepted}
+use Rattle.timing.proofs.Verdict.{require-accepted, then-accepted, same-accepted}
 use Rattle.timing.proofs.Checks.{sound-of, checked-accepted}
 use Rattle.paths.specs.declared.board.Board.{Board}
 use Rattle.paths.specs.declared.board.Made.{Made}
@@ -101,11 +101,8 @@ pub made-board : (m n N : ℕ) (b : Board) (r : Made) → boardMeaning r ≡ boa
 unfolding boardOf
 made-board m n N b r e q =
     let p = require-accepted (sizesFit m n N) Sizes (accepted (sizes m n N)) b (sym e ∙ ap boardMeaning q) in
-    let s : sizes m n N ≡ b = same (p .1) in
+    let s : sizes m n N ≡ b = same-accepted (p .1) in
     (s, subst Sized s (sized m n N (p .0)))
-  where
-    same : accepted (sizes m n N) ≡ accepted b → sizes m n N ≡ b
-    same z = cc
 
 pub made-refused : (m n N s : ℕ) (t : List ℤ) (o : List ℕ) (x : Refusal) (r : Made) → boardMeaning r ≡ boardOf m n N → r ≡ M.Refused x → Checking m n N s t o r
 made-refused m n N s t o x r e q = subst (Checking m n N s t o) (sym q) (refusal x (sizes-refused m n N s t (number x) (sym e ∙ ap boardMeaning q)))
@@ -114,10 +111,7 @@ made-refused m n N s t o x r e q = subst (Checking m n N s t o) (sym q) (refusal
 
 module _ (m n N s : ℕ) (t : List ℤ) where
   checks-of : (v : Verdict Graph) (b : Board) → (v then λ _. accepted (sizes m n N)) ≡ accepted b → (g : Graph) × (v ≡ accepted g) × (sizes m n N ≡ b)
-  checks-of v b e = let p = then-accepted v _ b e in (p .0, p .1, same (p .2))
-    where
-      same : accepted (sizes m n N) ≡ accepted b → sizes m n N ≡ b
-      same z = cc
+  checks-of v b e = let p = then-accepted v _ b e in (p .0, p .1, same-accepted (p .2))
 
   -- all six passed: the call goes on with the table's graph
   pub call-on : {A : Type 0} (b : Board) (r : Made) → boardMeaning r ≡ boardChecked m n N s t → r ≡ M.Board b → (f : Graph → Verdict A) → ((checked m n N s t then f) ≡ f (graphOf N t)) × (sizes m n N ≡ b)

@@ -13,3 +13,5 @@ pub mod Checking
 pub mod MatrixRows
 pub mod Answering
 pub mod ArrivalLists
+pub mod PathDelays
+pub mod WalkBounds

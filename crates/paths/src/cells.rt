@@ -2,8 +2,10 @@
 use crate::board::Board;
 ghost use mathlib.Core.Path.{_≡_};
 ghost use Prim.Native.Nat.{_+_, _*_, _<_, _≤_};
+ghost use lib.Dec.{T};
 ghost use lib.ListN.{length};
 ghost use Rattle.laws.specs.Bounded.{every, sum};
+ghost use Rattle.laws.specs.Lists.{tabulate};
 ghost use Rattle.graph.specs.Delay.{at, present};
 ghost use Rattle.graph.specs.Count.{bit, fanIn, fanOut, arcs};
 ghost use Rattle.timing.specs.Limits.{delayLimit, absentCell, fits};
@@ -17,6 +19,14 @@ pub fn wide(x: i32) -> i64
     ensures { λ r. ⌜ r ≡ x ⌝ }
 {
     x as i64
+}
+
+// A delay that fits a cell.
+pub fn narrow(x: i64) -> i32
+    requires { ⌜ T (fits delayLimit (at x)) ⌝ }
+    ensures { λ r. ⌜ r ≡ x ⌝ }
+{
+    x as i32
 }
 
 // Whether a cell has an arc.
@@ -144,4 +154,15 @@ pub fn no_arc_into_input(board: Board, table: &[i32]) -> bool
         i += 1;
     }
     true
+}
+
+// No arcs.
+pub fn clear(row: &mut [i32])
+    ensures { λ _. ⌜ now (row .exit) ≡ tabulate (length (now (row .entry))) (λ _. absentCell) ⌝ }
+{
+    let mut v = 0;
+    while v < row.len() {
+        row[v] = Board::ABSENT;
+        v += 1;
+    }
 }

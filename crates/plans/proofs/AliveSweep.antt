@@ -34,10 +34,10 @@ use Rattle.paths.proofs.Starting.{stored-cell}
 use Rattle.plans.specs.TightArcs.{tight, live, decidesFrom}
 use Rattle.plans.specs.PruneMarks.{tightTo, RowMarked, MarkedFrom}
 use Rattle.laws.proofs.LentParts.{put-before, put-after, put-in}
-use Rattle.plans.proofs.Somewhere.{some-same, some-none, and-true, or-none}
+use Rattle.laws.proofs.Somewhere.{some-same, some-none, and-true, or-none}
 use Rattle.plans.proofs.TightPaths.{arc-is, live-is}
-use Rattle.plans.proofs.Truth.{no-first}
-use Rattle.plans.proofs.WalkBounds.{walk-far, read-far}
+use Rattle.laws.proofs.Truth.{no-first}
+use Rattle.paths.proofs.WalkBounds.{walk-far, read-far}
 
 -- nothing leads on from a vertex that is not reached
 gone : (x y : Delay) → x ≡ absent → (present y && eqD y x) ≡ false

@@ -15,7 +15,7 @@ use Rattle.timing.specs.Limits.{delayLimit, absentCell, fits}
 use Rattle.timing.specs.Refusal.{accepted}
 use Rattle.timing.specs.declared.Refusal.the-variants.{WrongVertex, WrongArcs, DelayOutOfRange}
 use Rattle.timing.specs.Table.{readCell, graphOf}
-use Rattle.timing.proofs.Verdict.{require-accepted}
+use Rattle.timing.proofs.Verdict.{require-accepted, same-accepted}
 use Rattle.reduction.specs.Outcome.{isOutput, isInner}
 use Rattle.reduction.specs.MergeBack.{driver, driverDelay, mergeFits, mergeBackVerdict}
 use Rattle.paths.proofs.ReadCells.{arc-cell}
@@ -51,8 +51,5 @@ module _ (N : ℕ) (t : List ℤ) (o : ℕ) (range : (u v : ℕ) → T (fits del
       let arcs = require-accepted (eqb (fanIn N g o) 1 && isInner m n N v) WrongArcs _ x (role .1) in
       let range = require-accepted (mergeFits N g v o d) DelayOutOfRange _ x (arcs .1) in
       let inner = and-e (eqb (fanIn N g o) 1) (isInner m n N v) (arcs .0) in
-      subst (λ (y : ℕ × ℤ). Drives N t (y .0) o (y .1) × T (mergeFits N g (y .0) o (y .1))) (same (v, d) (range .1))
+      subst (λ (y : ℕ × ℤ). Drives N t (y .0) o (y .1) × T (mergeFits N g (y .0) o (y .1))) (same-accepted (range .1))
       (driver-drives (output-below m n N o roles (role .0)) (inner-below m n N v (inner .1)), range .0)
-    where
-      same : (y : ℕ × ℤ) → accepted y ≡ accepted x → y ≡ x
-      same y z = cc

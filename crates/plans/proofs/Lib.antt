@@ -1,10 +1,8 @@
 pub mod SumCells
-pub mod Tabulated
 pub mod ShrunkRows
 pub mod ShrunkTable
 pub mod Members
 pub mod Sets
-pub mod Truth
 pub mod LeastOf
 pub mod Marking
 pub mod CentreCells
@@ -19,14 +17,10 @@ pub mod MergedTable
 pub mod Differences
 pub mod DifferenceCells
 pub mod SharedRows
-pub mod PathDelays
 pub mod ShareConditions
 pub mod Vectors
 pub mod TightPaths
-pub mod Somewhere
 pub mod TightCells
-pub mod WalkBounds
 pub mod AliveSweep
-pub mod FewerArcs
 pub mod MarkedRows
 pub mod PruneOutcome

@@ -17,7 +17,7 @@ use Rattle.timing.proofs.Table.{graphOf-at, written-read}
 use Rattle.paths.specs.Cells.{cellAt}
 use Rattle.paths.proofs.Rows.{lent, lent-cell}
 use Rattle.plans.specs.PruneMarks.{markedArcs}
-use Rattle.plans.proofs.Somewhere.{some-same}
+use Rattle.laws.proofs.Somewhere.{some-same}
 
 module _ (N : ℕ) (t : List ℤ) (marks : List Bool) (u : ℕ) (room : N * N ≤ length t) (cells : N * N ≤ length marks) (l : u < N) where
   abbrev pub lentMarks : List Bool

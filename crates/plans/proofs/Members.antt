@@ -15,7 +15,7 @@ use Rattle.laws.proofs.Bounded.{each-at}
 use Rattle.reduction.specs.Star.{nonEmpty, distinct}
 use Rattle.plans.specs.Members.{sumOver}
 use Rattle.plans.specs.StarReady.{below}
-use Rattle.plans.proofs.Truth.{no-second}
+use Rattle.laws.proofs.Truth.{no-second}
 
 pub rest : (xs : List ℕ) (i : ℕ) → i < length xs → drop i xs ≡ getD xs i 0 ∷ drop (i + 1) xs
 rest xs i l = drop-cons xs i 0 l ∙ ap (λ (k : ℕ). getD xs i 0 ∷ drop k xs) (sym (add-one i))

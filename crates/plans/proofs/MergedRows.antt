@@ -11,7 +11,7 @@ use lib.ListN.{length, getD, set, length-set}
 use lib.Seq.{getD-set-same, getD-set-other}
 use Rattle.laws.specs.Lists.{tabulate}
 use Rattle.laws.proofs.Booleans.{eqb-same, eqb-other}
-use Rattle.laws.proofs.Lists.{length-tabulate, getD-tabulate, tabulate-same}
+use Rattle.laws.proofs.Lists.{length-tabulate, getD-tabulate, tabulate-same, is-tabulate}
 use Rattle.graph.specs.Delay.{Delay, at, _⋓_, _⊕_}
 use Rattle.graph.proofs.Delay.{⊕-comm}
 use Rattle.timing.specs.Limits.{absentCell}
@@ -20,7 +20,6 @@ use Rattle.timing.proofs.Table.{written-read}
 use Rattle.paths.specs.Cells.{cellAt}
 use Rattle.plans.specs.ShrunkRow.{joinedCell}
 use Rattle.plans.specs.MergedRow.{redirectedCell, mergedCell}
-use Rattle.plans.proofs.Tabulated.{is-tabulate}
 
 -- x is stored at o, then v is cleared
 pub redirected-after : (row : List ℤ) (into : Delay) (v o : ℕ) (d x : ℤ) → v < length row → o < length row → readCell absentCell x ≡ into ⊕ at d

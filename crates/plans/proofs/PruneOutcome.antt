@@ -16,8 +16,8 @@ use Rattle.timing.specs.Table.{writeCell, graphOf, withGraph}
 use Rattle.reduction.specs.Prune.{critical, pruned, pruneVerdict}
 use Rattle.paths.specs.declared.board.Board.{Board}
 use Rattle.plans.specs.PruneMarks.{StayMarked, someUnmarked, markedArcs, tableAfterPrune}
-use Rattle.plans.proofs.FewerArcs.{fewer}
-use Rattle.plans.proofs.Somewhere.{some-same}
+use Rattle.graph.proofs.FewerArcs.{fewer}
+use Rattle.laws.proofs.Somewhere.{some-same}
 
 module _ (b : Board) (t : List ℤ) (marks : List Bool) (M : StayMarked b t marks) where
   abbrev m : ℕ

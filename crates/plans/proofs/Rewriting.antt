@@ -5,21 +5,16 @@ use mathlib.Core.Bool.{Bool, true, false, not, cond}
 use mathlib.Core.List.{List, [], _∷_}
 use Prim.Native.Nat.{ℕ, zero, suc, _+_, _≤_, _<_}
 use native.Mathlib.Decide.{ℕ-discrete}
-use native.Mathlib.Omega.{arith}
 use lib.Dec.{T}
 use lib.IntN.{ℤ, pos}
 use lib.ListN.{length, getD, set, drop}
-use lib.Seq.{ext-getD, getD-set-same, getD-set-other}
+use lib.Seq.{getD-set-same, getD-set-other}
 use Rattle.laws.specs.Bounded.{member}
 use Rattle.laws.specs.Lists.{tabulate}
 use Rattle.laws.proofs.Booleans.{T-not-false, and-e, cases, eqb-same, eqb-other}
-use Rattle.laws.proofs.Lists.{length-tabulate, getD-tabulate}
+use Rattle.laws.proofs.Lists.{is-tabulate}
 use Rattle.reduction.specs.Star.{distinct}
 use Rattle.plans.proofs.Members.{rest, member-pass, member-stop, member-end}
-
--- a list by its cells
-pub tabulate-is : (l : List ℤ) (n : ℕ) (f : ℕ → ℤ) → length l ≡ n → ((v : ℕ) → v < n → getD l v (pos 0) ≡ f v) → l ≡ tabulate n f
-tabulate-is l n f e h = ext-getD (pos 0) l (tabulate n f) (e ∙ sym (length-tabulate f n)) (λ v k. let j : v < n = omega arith in h v j ∙ sym (getD-tabulate f n v (pos 0) j))
 
 distinct-drop : (xs : List ℕ) (i : ℕ) → T (distinct xs) → T (distinct (drop i xs))
 distinct-drop xs zero t = t
@@ -62,4 +57,4 @@ module _ (xs : List ℕ) (old new : ℕ → ℤ) where
       rewriting-keep e = turn row (rewriting-here ∙ sym e) (λ v n. refl)
 
   pub rewriting-end : (i : ℕ) → length xs ≤ i → (row : List ℤ) (n : ℕ) → length row ≡ n → Rewriting row i → row ≡ tabulate n new
-  rewriting-end i l row n e w = tabulate-is row n new e (λ v _. w v ∙ sym (pick v (member v (drop i xs)) false (member-end xs i l v)))
+  rewriting-end i l row n e w = is-tabulate (pos 0) row n new e (λ v _. w v ∙ sym (pick v (member v (drop i xs)) false (member-end xs i l v)))

@@ -12,12 +12,11 @@ use lib.Seq.{getD-set-same, getD-set-other}
 use Rattle.laws.specs.Bounded.{member}
 use Rattle.laws.specs.Lists.{tabulate}
 use Rattle.laws.proofs.Booleans.{eqb-same, eqb-other}
-use Rattle.laws.proofs.Lists.{length-tabulate, getD-tabulate}
+use Rattle.laws.proofs.Lists.{length-tabulate, getD-tabulate, is-tabulate}
 use Rattle.graph.specs.Delay.{ticks}
 use Rattle.timing.specs.Limits.{absentCell}
 use Rattle.plans.specs.StarCells.{leastGap, meets, clearedCell, sourceCell, centreCell, cellAfter}
-use Rattle.plans.proofs.Truth.{both, no-first, no-second}
-use Rattle.plans.proofs.Rewriting.{tabulate-is}
+use Rattle.laws.proofs.Truth.{both, no-first, no-second}
 
 module _ (row first : List ℤ) (Ts : List ℕ) (v : ℕ) where
   pub centre-target : member v Ts ≡ true → centreCell row first Ts v ≡ getD first v (pos 0)
@@ -53,7 +52,7 @@ module _ (row first : List ℤ) (Ts : List ℕ) (k : ℕ) (e : ℤ) where
   beside-centre v q = ap (λ (b : Bool). cond b e (clearedCell row first Ts e v)) q
 
   pub source-made : (l : List ℤ) (z : ℤ) → k < length row → l ≡ tabulate (length row) (clearedCell row first Ts e) → z ≡ e → set l k z ≡ tabulate (length row) (sourceCell row first Ts k e)
-  source-made l z h q ez = tabulate-is (set l k z) (length row) (sourceCell row first Ts k e) (length-set l k z ∙ same) (λ v j. go v j (ℕ-discrete v k))
+  source-made l z h q ez = is-tabulate (pos 0) (set l k z) (length row) (sourceCell row first Ts k e) (length-set l k z ∙ same) (λ v j. go v j (ℕ-discrete v k))
     where
       same : length l ≡ length row
       same = ap length q ∙ length-tabulate (clearedCell row first Ts e) (length row)

@@ -14,7 +14,7 @@ use lib.Seq.{getD-set-same, getD-set-other}
 use Rattle.laws.specs.Lists.{tabulate}
 use Rattle.laws.proofs.Booleans.{eqb-same, eqb-other}
 use Rattle.laws.proofs.Grid.{row-in, row-cell}
-use Rattle.laws.proofs.Lists.{tabulate-same}
+use Rattle.laws.proofs.Lists.{tabulate-same, is-tabulate}
 use Rattle.graph.specs.Delay.{Delay, absent, at, immediate}
 use Rattle.timing.specs.Limits.{absentCell}
 use Rattle.timing.specs.Table.{writeCell, graphOf}
@@ -22,7 +22,6 @@ use Rattle.timing.proofs.Table.{graphOf-at, written-read}
 use Rattle.reduction.specs.ShareInputs.{inputsShared}
 use Rattle.reduction.specs.ShareOutputs.{outputsShared}
 use Rattle.plans.specs.SharedRow.{onlyArc, inputsCell, outputsCell}
-use Rattle.plans.proofs.Tabulated.{is-tabulate}
 
 -- a row known cell by cell, with one cell stored
 pub set-cell : (r : List ℤ) (n k : ℕ) (x : ℤ) (f : ℕ → ℤ) → length r ≡ n → k < n → ((t : ℕ) → t < n → getD r t (pos 0) ≡ f t) → set r k x ≡ tabulate n (λ t. cond (eqb t k) x (f t))

@@ -10,7 +10,7 @@ use lib.ListN.{length, getD, set, length-set}
 use lib.Seq.{getD-set-same, getD-set-other}
 use Rattle.laws.specs.Lists.{tabulate}
 use Rattle.laws.proofs.Booleans.{eqb-same, eqb-other}
-use Rattle.laws.proofs.Lists.{length-tabulate, getD-tabulate, tabulate-same}
+use Rattle.laws.proofs.Lists.{length-tabulate, getD-tabulate, tabulate-same, is-tabulate}
 use Rattle.graph.specs.Delay.{present}
 use Rattle.graph.proofs.Delay.{⋓-absent}
 use Rattle.timing.specs.Limits.{absentCell}
@@ -19,7 +19,6 @@ use Rattle.paths.specs.Cells.{cellAt}
 use Rattle.paths.proofs.ReadCells.{absent-cell}
 use Rattle.plans.specs.ShrunkRow.{joinedCell, bypassedCell, shrunkCell}
 use Rattle.plans.proofs.SumCells.{mark-of}
-use Rattle.plans.proofs.Tabulated.{is-tabulate}
 
 module _ (row via : List ℤ) (k : ℕ) where
   -- where no arc leads to k, the row is as it should be

@@ -16,7 +16,7 @@ use Rattle.reduction.specs.Outcome.{isInner, unused}
 use Rattle.reduction.specs.Star.{nonEmpty, distinct, toCentre, coveredArcs, starVerdict}
 use Rattle.timing.proofs.Verdict.{require-accepted}
 use Rattle.plans.specs.StarReady.{below, VertexSet, Bundle, StarReady}
-use Rattle.plans.proofs.Truth.{both, no-first, no-second}
+use Rattle.laws.proofs.Truth.{both, no-first, no-second}
 
 abbrev chain : Bool → Bool → Bool → Bool → Bool → Bool → Verdict (Unit {0})
 chain a b c d e f = require a WrongVertex (require b WrongSet (require c NumberTaken (require d WrongArcs (require e NothingSaved (require f DelayOutOfRange (accepted tt))))))

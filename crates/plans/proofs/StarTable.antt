@@ -20,7 +20,7 @@ use Rattle.reduction.specs.Star.{firstOf, toCentre, fromCentre, covered, starre
 use Rattle.reduction.proofs.Better.{unused-in, unused-out}
 use Rattle.plans.specs.StarCells.{leastGap, meets, clearedCell, sourceCell, centreCell, cellAfter}
 use Rattle.plans.specs.StarReady.{StarReady}
-use Rattle.plans.proofs.Truth.{yes-first, no-first}
+use Rattle.laws.proofs.Truth.{yes-first, no-first}
 use Rattle.plans.proofs.CentreCells.{no-source, no-target, from-first, to-centre, covered-is}
 use Rattle.plans.proofs.RowCells.{centre-target, centre-other, at-centre, beside-centre, of-centre, of-source, of-other}
 

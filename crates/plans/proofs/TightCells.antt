@@ -21,7 +21,7 @@ use Rattle.timing.proofs.Table.{read-absent, read-at}
 use Rattle.paths.specs.Arrivals.{reachedLimit, Reached}
 use Rattle.paths.proofs.Later.{sum-fits}
 use Rattle.plans.specs.TightArcs.{tight}
-use Rattle.plans.proofs.Truth.{same-truth}
+use Rattle.laws.proofs.Truth.{same-truth}
 
 pub sum-parts : {a d : ℤ} → SFits w64 a → SFits w32 d → toZ w64 (ofZ w64 a) +ℤ toZ w64 (ofZ w64 (toZ w32 (ofZ w32 d))) ≡ a +ℤ d
 sum-parts fa fd = ap₂ _+ℤ_ (toZ-ofZ fa) (ap (λ (z : ℤ). toZ w64 (ofZ w64 z)) (toZ-ofZ fd) ∙ toZ-ofZ (widens fd))

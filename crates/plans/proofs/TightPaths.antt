@@ -22,7 +22,7 @@ use Rattle.reduction.specs.Outcome.{isOutput}
 use Rattle.reduction.specs.Prune.{decides, critical}
 use Rattle.reduction.proofs.Prune.{throughArc, through-⊑}
 use Rattle.plans.specs.TightArcs.{tight, live, decidesFrom}
-use Rattle.plans.proofs.Truth.{same-truth}
+use Rattle.laws.proofs.Truth.{same-truth}
 
 pub critical-is : (m n N : ℕ) (g : Graph) (u v : ℕ) → some m (λ i. decidesFrom m n (longest g N) g i u v) ≡ critical m n N g u v
 unfolding critical decidesFrom

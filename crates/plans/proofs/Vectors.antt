@@ -22,7 +22,7 @@ use Rattle.plans.specs.Comparing.{Comparable}
 use Rattle.plans.specs.Sharing.{TwoVectors}
 use Rattle.plans.proofs.Differences.{common-same}
 use Rattle.paths.proofs.Answering.{drop-further}
-use Rattle.plans.proofs.PathDelays.{walk-near, held-length, held-past, held-walk}
+use Rattle.paths.proofs.PathDelays.{walk-near, held-length, held-past, held-walk}
 
 -- ---- the cells from the n-th on, lent as `&mut f[n..]`, that came back as y
 module _ (n : ℕ) (f y : List ℤ) (h : n ≤ length f) where

@@ -122,7 +122,7 @@ fn merge_row(
     ensures { λ _. ⌜ now (row .exit) ≡ tabulate (length (now (row .entry))) (mergedCell (now (row .entry)) (now (via .entry)) v o d u) ⌝ }
 {
     if u == v {
-        rows::clear(row);
+        cells::clear(row);
         return;
     }
     let into = row[v];

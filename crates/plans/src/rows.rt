@@ -6,8 +6,7 @@ ghost use mathlib.Core.Bool.{_&&_};
 ghost use Prim.Native.Nat.{ℕ, _<_, _≤_};
 ghost use lib.IntN.{pos};
 ghost use lib.ListN.{length, getD};
-ghost use Rattle.laws.specs.Lists.{tabulate};
-ghost use Rattle.timing.specs.Limits.{maxVertices, absentCell};
+ghost use Rattle.timing.specs.Limits.{maxVertices};
 ghost use Rattle.timing.specs.Table.{graphOf};
 ghost use Rattle.reduction.specs.Outcome.{isOutput, isInner, unused};
 ghost use Rattle.paths.specs.Board.{Sized, Lent};
@@ -62,15 +61,4 @@ pub fn row_copy(row: &[i32], n: usize) -> [i32; Board::MAX_VERTICES]
         v += 1;
     }
     copy
-}
-
-// No arcs.
-pub fn clear(row: &mut [i32])
-    ensures { λ _. ⌜ now (row .exit) ≡ tabulate (length (now (row .entry))) (λ _. absentCell) ⌝ }
-{
-    let mut v = 0;
-    while v < row.len() {
-        row[v] = Board::ABSENT;
-        v += 1;
-    }
 }

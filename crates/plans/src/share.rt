@@ -36,7 +36,7 @@ fn only_arc(row: &mut [i32], k: usize, d: i32)
     requires { ⌜ k < length (now row) ⌝ }
     ensures { λ _. ⌜ now (row .exit) ≡ tabulate (length (now (row .entry))) (onlyArc k d) ⌝ }
 {
-    rows::clear(row);
+    cells::clear(row);
     row[k] = d;
 }
 

@@ -114,7 +114,7 @@ fn shrink_row(row: &mut [i32], via: &[i32; Board::MAX_VERTICES], k: usize, u: us
     ensures { λ _. ⌜ now (row .exit) ≡ tabulate (length (now (row .entry))) (shrunkCell (now (row .entry)) (now (via .entry)) k u) ⌝ }
 {
     if u == k {
-        rows::clear(row);
+        cells::clear(row);
         return;
     }
     bypass(row, via, k);

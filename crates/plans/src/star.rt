@@ -1,6 +1,5 @@
 // Star: the conditions, and the table after an accepted step.
 use crate::rows;
-use crate::sums;
 use crate::verdict::Fit;
 use paths::Board;
 use paths::cells;
@@ -310,7 +309,7 @@ fn source_row(row: &mut [i32], first: &[i32; Board::MAX_VERTICES], targets: &[us
 {
     let e = least_difference(row, first, targets);
     clear_covered(row, first, targets, e);
-    row[k] = sums::narrow(e);
+    row[k] = cells::narrow(e);
 }
 
 // The row of u.

@@ -4,7 +4,7 @@ use paths::cells;
 ghost use mathlib.Core.Path.{_≡_};
 ghost use lib.Dec.{T};
 ghost use lib.IntN.{_+ℤ_};
-ghost use Rattle.graph.specs.Delay.{at, _⋓_, _⊕_};
+ghost use Rattle.graph.specs.Delay.{_⋓_, _⊕_};
 ghost use Rattle.timing.specs.Limits.{delayLimit, absentCell, fits};
 ghost use Rattle.timing.specs.Table.{readCell, writeCell};
 
@@ -58,12 +58,4 @@ pub fn join(old: i32, a: i32, b: i32) -> i32
     ensures { λ r. ⌜ r ≡ writeCell absentCell (readCell absentCell old ⋓ (readCell absentCell a ⊕ readCell absentCell b)) ⌝ }
 {
     larger(old, sum(a, b))
-}
-
-// A delay that fits a cell.
-pub fn narrow(x: i64) -> i32
-    requires { ⌜ T (fits delayLimit (at x)) ⌝ }
-    ensures { λ r. ⌜ r ≡ x ⌝ }
-{
-    x as i32
 }

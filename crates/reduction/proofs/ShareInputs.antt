@@ -22,7 +22,7 @@ use Rattle.graph.proofs.Arrivals.{Arrivals, arrivals-longest, walk-arrivals}
 use Rattle.timing.specs.Limits.{delayLimit, fits}
 use Rattle.timing.specs.Refusal.{accepted}
 use Rattle.timing.specs.declared.Refusal.the-variants.{WrongVertex, NumberTaken, NothingSaved, DelayOutOfRange}
-use Rattle.timing.proofs.Verdict.{require-accepted, then-accepted}
+use Rattle.timing.proofs.Verdict.{require-accepted, then-accepted, same-accepted}
 use Rattle.timing.proofs.Checks.{LegalArc, Sound, sound-within, sound-inputs}
 use Rattle.reduction.specs.Outcome.{isInput, isInner, unused}
 use Rattle.reduction.proofs.Better.{Output, Inner, Better, inner-of, unused-in, unused-out, rank-of, longest-of, input-output, input-inner, output-inner, better}
@@ -212,11 +212,8 @@ share-inputs-better {m} {n} {N} a b k {g} e s q =
     let f = and-e (isInner m n N k) (unused N g k) (p8 .0) in
     step (ltb→lt a m (h″ .0)) (ltb→lt b m (h″ .1)) (neqb→ne a b (h′ .1)) (inner-of m n N k (f .0)) (unused-out (sound-within s) k (f .1)) (unused-in (sound-within s) k (f .1))
     (common-difference n (matrix m N g a) (matrix m N g b) e (p11 .1 ∙ p14 .1)) (leb→le 3 (fanOut N g b) (p13 .0))
-    (subst (λ (z : ℤ). T (fits delayLimit (at z))) (same (p11 .0) (p14 .1)) (p14 .0))
+    (subst (λ (z : ℤ). T (fits delayLimit (at z))) (same-accepted (p14 .1)) (p14 .0))
   where
-    same : (d : ℤ) → accepted d ≡ accepted e → d ≡ e
-    same d z = cc
-
     step : a < m → b < m → a ≢ b → Inner m n N k → ((v : ℕ) → g k v ≡ absent) → ((u : ℕ) → g u k ≡ absent) → ((j : ℕ) → j < n → longest g N b (m + j) ≡ longest g N a (m + j) ⊕ at e)
         → 3 ≤ fanOut N g b → T (fits delayLimit (at e)) → Better m n N g (inputsShared a b k e g)
     step ha hb ab hk out in′ dif three low =

@@ -21,7 +21,7 @@ use Rattle.graph.proofs.Count.{arcs-fanIn}
 use Rattle.timing.specs.Limits.{delayLimit, fits}
 use Rattle.timing.specs.Refusal.{accepted}
 use Rattle.timing.specs.declared.Refusal.the-variants.{WrongVertex, PathBack, NothingSaved, DelayOutOfRange}
-use Rattle.timing.proofs.Verdict.{require-accepted, then-accepted}
+use Rattle.timing.proofs.Verdict.{require-accepted, then-accepted, same-accepted}
 use Rattle.timing.proofs.Checks.{LegalArc, Sound}
 use Rattle.reduction.specs.Outcome.{isOutput}
 use Rattle.reduction.proofs.Better.{Output, Better, output-of, rank-of, longest-of, input-output, better}
@@ -111,11 +111,8 @@ share-outputs-better {m} {n} {N} a b {g} e s q =
     step (output-of m n a (h′ .0)) (output-of m n b (h′ .1)) (neqb→ne a b (h .1))
     (common-difference m (column N g a) (column N g b) e (p11 .1 ∙ p14 .1))
     (absent-unless (longest g N b a) (p12 .0)) (leb→le 2 (fanIn N g b) (p13 .0))
-    (subst (λ (z : ℤ). T (fits delayLimit (at z))) (same (p11 .0) (p14 .1)) (p14 .0))
+    (subst (λ (z : ℤ). T (fits delayLimit (at z))) (same-accepted (p14 .1)) (p14 .0))
   where
-    same : (d : ℤ) → accepted d ≡ accepted e → d ≡ e
-    same d z = cc
-
     step : Output m n a → Output m n b → a ≢ b → ((i : ℕ) → i < m → longest g N i b ≡ longest g N i a ⊕ at e) → longest g N b a ≡ absent → 2 ≤ fanIn N g b → T (fits delayLimit (at e))
         → Better m n N g (outputsShared a b e g)
     step ha hb ab dif way two low =

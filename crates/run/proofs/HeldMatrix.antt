@@ -18,8 +18,8 @@ use Rattle.timing.specs.Table.{readCell, writeCell, graphOf}
 use Rattle.timing.specs.Delays.{matrix, matrixCells, arrivalIn}
 use Rattle.paths.specs.declared.board.Board.{Board}
 use Rattle.paths.specs.Arrivals.{reachedLimit, Passable}
-use Rattle.plans.proofs.PathDelays.{walk-near}
-use Rattle.plans.proofs.WalkBounds.{walk-far, read-far}
+use Rattle.paths.proofs.PathDelays.{walk-near}
+use Rattle.paths.proofs.WalkBounds.{walk-far, read-far}
 use Rattle.run.specs.Running.{progress, Running, Held}
 
 module _ {b : Board} {t : List ℤ} {o : List ℕ} (p : Passable b t o) where

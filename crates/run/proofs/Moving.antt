@@ -15,7 +15,7 @@ use Rattle.timing.specs.Refusal.{Verdict, refused, accepted, _then_}
 use Rattle.timing.specs.Table.{graphOf, withGraph}
 use Rattle.timing.specs.Checks.{sizesFit}
 use Rattle.timing.specs.declared.Refusal.the-variants.{WrongVertex}
-use Rattle.timing.proofs.Verdict.{require-accepted, then-accepted}
+use Rattle.timing.proofs.Verdict.{require-accepted, then-accepted, same-accepted}
 use Rattle.timing.proofs.Checks.{Passed, checked-passed}
 use Rattle.reduction.specs.Outcome.{Reduced, oneStep, isInput}
 use Rattle.reduction.specs.Steps.{Step, share-inputs, plan, stepCall}
@@ -64,16 +64,13 @@ module _ {b : Board} {t : List ℤ} (ok : Checked b t) where
       → (s c : ℕ) → scratchCells (b .vertices) ≤ s → attempt (tryStep (b .inputs) (b .outputs) (b .vertices) s q t) (progress t c) ≡ progress after (c + gained r)
   moves q after r h s c room = ap (λ (x : Verdict Reduced). attempt (tried x) (progress t c)) (call-is-step s room q) ∙ go (plan m n N q (graphOf N t)) r h
     where
-      same : (x y : List ℤ) → accepted x ≡ accepted y → x ≡ y
-      same x y e = cc
-
       never : (y : ℕ) → refused y ≡ accepted after → ⊥
       never y e = let z : _≡_ {A = ℕ} 0 1 = cc in omega arith
 
       go : (x : Verdict Graph) (r : Bool) → Tries (x then λ g′. accepted (withGraph N g′ t)) t after r → attempt (tried (x then λ g′. accepted (oneStep N t g′))) (progress t c) ≡ progress after (c + gained r)
       go (refused y) true k = absurd (never y (k .taken refl))
       go (refused y) false k = ap (λ (x : ℕ). progress t x) (omega arith) ∙ ap (λ (x : List ℤ). progress x (c + 0)) (sym (k .refused refl .1))
-      go (accepted g′) true k = ap (λ (x : List ℤ). progress x (c + 1)) (same (withGraph N g′ t) after (k .taken refl))
+      go (accepted g′) true k = ap (λ (x : List ℤ). progress x (c + 1)) (same-accepted (k .taken refl))
       go (accepted g′) false k = absurd (k .refused refl .0)
 
 -- a share of inputs without a free number is skipped; as a step it would be refused

@@ -9,7 +9,7 @@ use lib.IntN.{ℤ}
 use Rattle.graph.specs.Graph.{Graph}
 use Rattle.timing.specs.Refusal.{Verdict, refused, accepted, isAccepted, _then_}
 use Rattle.timing.specs.Table.{graphOf, withGraph}
-use Rattle.timing.proofs.Verdict.{then-accepted}
+use Rattle.timing.proofs.Verdict.{then-accepted, same-accepted}
 use Rattle.reduction.specs.ShareInputs.{inputsShared}
 use Rattle.reduction.specs.ShareOutputs.{outputsShared}
 use Rattle.reduction.specs.Steps.{Step, share-inputs, plan}
@@ -86,10 +86,7 @@ module _ (board : Board) (t : List ℤ) (side : Side) (a b k : ℕ) where
   share-graph ok after h =
       let put = then-accepted (plan m n N (shareStep side a b k) g) _ after (h .taken refl) in
       let made = then-accepted verdict _ (put .0) (sym (share-plan m n N side a b k g) ∙ put .1) in
-      (made .0, ap (graphOf N) (sym (same (put .2))) ∙ put-back m n N t (put .0) (plan-better (ok .sound) (shareStep side a b k) (put .0) (put .1)) ∙ sym (same (made .2)))
-    where
-      same : {A : Type 0} {x y : A} → accepted x ≡ accepted y → x ≡ y
-      same e = cc
+      (made .0, ap (graphOf N) (sym (same-accepted (put .2))) ∙ put-back m n N t (put .0) (plan-better (ok .sound) (shareStep side a b k) (put .0) (put .1)) ∙ sym (same-accepted (made .2)))
 
 -- ---- as the one try of a round
 

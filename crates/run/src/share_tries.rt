@@ -3,9 +3,9 @@ use crate::counts;
 use crate::fresh;
 use crate::side::Side;
 use paths::Board;
+use paths::cells;
 use paths::order;
 use plans::share;
-use plans::sums;
 use plans::verdict::Difference;
 ghost use mathlib.Core.Path.{_≡_};
 ghost use mathlib.Core.List.{_∷_, []};
@@ -38,7 +38,7 @@ fn share_rows(board: Board, table: &mut [i32], a: usize, b: usize, k: usize, e: 
     }
     let saved = share::inputs_saved(board, table, b, e);
     if let Difference::Common(d) = saved {
-        share::share_inputs_apply(board, table, a, b, k, sums::narrow(d));
+        share::share_inputs_apply(board, table, a, b, k, cells::narrow(d));
         return true;
     }
     false
@@ -60,7 +60,7 @@ fn share_columns(
 {
     let saved = share::outputs_saved(board, table, list, scratch, a, b, e);
     if let Difference::Common(d) = saved {
-        share::share_outputs_apply(board, table, a, b, sums::narrow(d));
+        share::share_outputs_apply(board, table, a, b, cells::narrow(d));
         return true;
     }
     false

@@ -19,7 +19,7 @@ use Rattle.graph.specs.Count.{fanIn, fanOut}
 use Rattle.timing.specs.declared.Refusal.the-variants.{WrongVertex, NumberTaken, WrongArcs, PathBack, NothingSaved, DelayOutOfRange}
 use Rattle.timing.specs.Limits.{delayLimit, fits}
 use Rattle.timing.specs.Refusal.{accepted, require}
-use Rattle.timing.proofs.Verdict.{require-accepted, then-accepted}
+use Rattle.timing.proofs.Verdict.{require-accepted, then-accepted, same-accepted}
 use Rattle.timing.specs.Table.{graphOf}
 use Rattle.timing.proofs.Checks.{sound-fits}
 use Rattle.reduction.specs.MergeBack.{mergeFits, mergeBackVerdict}
@@ -34,9 +34,6 @@ use Rattle.plans.specs.MergedRow.{Drives}
 use Rattle.plans.proofs.SumCells.{delay-narrow}
 use Rattle.plans.proofs.Drivers.{output-below, verdict-drives}
 use Rattle.steps.specs.Reduces.{Checked}
-
-same : (x y : ℤ) → accepted x ≡ accepted y → x ≡ y
-same x y e = cc
 
 pub shrink-ready : (m n N k : ℕ) (g : Graph) → shrinkVerdict m n N k g ≡ accepted tt → (k < N) × T (every N (λ u. every N (λ t. fits delayLimit (g u k ⊕ g k t))))
 unfolding shrinkVerdict
@@ -69,7 +66,7 @@ module _ (e : ℤ) (r : T (fits delayLimit (at e))) where
 in-range : (d e : ℤ) → require (fits delayLimit (at d)) DelayOutOfRange (accepted d) ≡ accepted e → T (fits delayLimit (at e))
 in-range d e q =
     let range = require-accepted (fits delayLimit (at d)) DelayOutOfRange (accepted d) e q in
-    subst (λ (x : ℤ). T (fits delayLimit (at x))) (same d e (range .1)) (range .0)
+    subst (λ (x : ℤ). T (fits delayLimit (at x))) (same-accepted (range .1)) (range .0)
 
 pub share-inputs-ready : (m n N a b k : ℕ) (g : Graph) (e : ℤ) → m + n ≤ N → shareInputsVerdict m n N a b k g ≡ accepted e → (a < N) × (k < N) × T (fits delayLimit (at e))
 unfolding shareInputsVerdict

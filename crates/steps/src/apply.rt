@@ -1,11 +1,11 @@
 // Each step on a table that has passed its checks: its conditions, then its new table. No arc is counted here.
 use paths::Board;
+use paths::cells;
 use plans::merge_back;
 use plans::prune;
 use plans::share;
 use plans::shrink;
 use plans::star;
-use plans::sums;
 use plans::verdict::Difference;
 use plans::verdict::Driven;
 use plans::verdict::Fit;
@@ -82,7 +82,7 @@ pub fn apply_share_inputs(
     let difference = share::share_inputs_verdict(board, table, list, scratch, a, b, k);
     match difference {
         Difference::Common(e) => {
-            share::share_inputs_apply(board, table, a, b, k, sums::narrow(e));
+            share::share_inputs_apply(board, table, a, b, k, cells::narrow(e));
             Fit::Accepted
         }
         Difference::Refused(r) => Fit::Refused(r),
@@ -104,7 +104,7 @@ pub fn apply_share_outputs(
     let difference = share::share_outputs_verdict(board, table, list, scratch, a, b);
     match difference {
         Difference::Common(e) => {
-            share::share_outputs_apply(board, table, a, b, sums::narrow(e));
+            share::share_outputs_apply(board, table, a, b, cells::narrow(e));
             Fit::Accepted
         }
         Difference::Refused(r) => Fit::Refused(r),

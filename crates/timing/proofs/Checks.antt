@@ -1,5 +1,5 @@
 -- A graph that has passed the checks, as facts: `Sound`. The checks give it, and it gives the checks.
-use mathlib.Core.Path.{_≡_, _∙_}
+use mathlib.Core.Path.{_≡_, sym, _∙_}
 use mathlib.Core.Logic.{_⊎_, inl, inr}
 use mathlib.Core.Bool.{Bool, true, false, not, _&&_}
 use mathlib.Core.List.{List}
@@ -20,7 +20,7 @@ use Rattle.timing.specs.Limits.{maxVertices, delayLimit, fits}
 use Rattle.timing.specs.Refusal.{accepted}
 use Rattle.timing.specs.Table.{graphOf}
 use Rattle.timing.specs.Checks.{sizesFit, tableFits, scratchFits, cellsFit, noArcIntoInput, noCycle, checked, passes}
-use Rattle.timing.proofs.Verdict.{require-accepted, accepted-require}
+use Rattle.timing.proofs.Verdict.{require-accepted, accepted-require, same-accepted}
 use Rattle.timing.proofs.Limits.{fits-absent}
 use Rattle.timing.proofs.Table.{graphOf-within}
 
@@ -157,11 +157,8 @@ checked-accepted m n N s t g e =
     record {
       good = record { sizes = p1 .0; table = p2 .0; sound = sound-of m n N h (graphOf-within N t) (p1 .0) (p4 .0) (p5 .0) (p6 .0) };
       scratch = p3 .0;
-      graph = same h (p6 .1);
+      graph = sym (same-accepted (p6 .1));
     }
-  where
-    same : (h : Graph) → accepted h ≡ accepted g → g ≡ h
-    same h q = cc
 
 pub checked-passed : {m n N : ℕ} (s : ℕ) {t : List ℤ} → Passed m n N t → T (scratchFits N s) → checked m n N s t ≡ accepted (graphOf N t)
 unfolding checked

@@ -5,8 +5,8 @@ use mir.Facts.{toZ-ofZ}
 use Rattle.graph.specs.Delay.{present}
 use Rattle.timing.specs.Limits.{absentCell}
 use Rattle.timing.specs.Table.{readCell}
-use Rattle.plans.proofs.Somewhere.{and-true}
-use Rattle.plans.proofs.Truth.{no-second}
+use Rattle.laws.proofs.Somewhere.{and-true}
+use Rattle.laws.proofs.Truth.{no-second}
 use Rattle.plans.proofs.prune.goes.Statement.{statement}
 use Rattle.plans.proofs.prune.goes.Tie as tie
 

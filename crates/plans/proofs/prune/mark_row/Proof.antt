@@ -28,9 +28,9 @@ use Rattle.paths.specs.Arrivals.{Reached}
 use Rattle.paths.proofs.Chaining.{Along, along-start, along-turn, along-keep}
 use Rattle.plans.specs.TightArcs.{tight}
 use Rattle.plans.specs.PruneMarks.{tightTo}
-use Rattle.plans.proofs.Somewhere.{some-zero, some-more, some-skip, or-true, or-none}
+use Rattle.laws.proofs.Somewhere.{some-zero, some-more, some-skip, or-true, or-none}
 use Rattle.plans.proofs.TightCells.{no-arc-tight}
-use Rattle.plans.proofs.Truth.{no-first, both, no-second}
+use Rattle.laws.proofs.Truth.{no-first, both, no-second}
 
 abbrev Mark : List ℤ → ℤ → List ℤ → List Bool → List Bool → ℕ → Bool → Type 0
 Mark row a f alive marks₀ j b = b ≡ (getD marks₀ j false || tightTo row a f alive j)

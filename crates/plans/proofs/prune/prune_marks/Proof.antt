@@ -13,7 +13,7 @@ use Rattle.graph.specs.Graph.{longest}
 use Rattle.timing.specs.Table.{graphOf}
 use Rattle.paths.specs.declared.board.Board.{Board}
 use Rattle.plans.specs.TightArcs.{decidesFrom}
-use Rattle.plans.proofs.Somewhere.{some-zero, some-more}
+use Rattle.laws.proofs.Somewhere.{some-zero, some-more}
 use Rattle.plans.proofs.TightPaths.{critical-is}
 
 -- the arc u→v decides a delay from input k

@@ -13,7 +13,7 @@ use Rattle.graph.specs.Delay.{present}
 use Rattle.timing.specs.Limits.{absentCell}
 use Rattle.timing.specs.Table.{readCell}
 use Rattle.paths.specs.Cells.{cellAt}
-use Rattle.plans.proofs.Somewhere.{some-zero, some-next, some-here}
+use Rattle.laws.proofs.Somewhere.{some-zero, some-next, some-here}
 
 abbrev Inv-loop : tie.InvT-loop
 Inv-loop row marks n v₀ v = (v ≤ n) × (some v (λ k. present (cellAt row k) && not (getD marks k false)) ≡ false)

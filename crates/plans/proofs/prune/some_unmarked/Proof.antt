@@ -14,7 +14,7 @@ use Rattle.timing.specs.Table.{graphOf}
 use Rattle.paths.proofs.Rows.{lent-long}
 use Rattle.paths.proofs.Sizes.{board-area}
 use Rattle.plans.proofs.MarkedRows.{lent-marks, row-said}
-use Rattle.plans.proofs.Somewhere.{some-zero, some-next, some-here}
+use Rattle.laws.proofs.Somewhere.{some-zero, some-next, some-here}
 
 -- row u has an arc without a mark
 abbrev unmarkedIn : ℕ → List ℤ → List Bool → ℕ → Bool

@@ -17,7 +17,7 @@ use Rattle.plans.specs.declared.common.Seen.{Seen}
 use Rattle.plans.specs.Verdict.{differenceMeaning}
 use Rattle.plans.specs.Comparing.{compared, seen, settled}
 use Rattle.plans.proofs.Differences.{seen-none, seen-more, seen-clash, seen-common}
-use Rattle.plans.proofs.PathDelays.{held-length, held-past, held-near, held}
+use Rattle.paths.proofs.PathDelays.{held-length, held-past, held-near, held}
 use Rattle.plans.proofs.share.columns_difference.Statement.{statement}
 use Rattle.plans.proofs.share.columns_difference.Tie as tie
 

@@ -24,7 +24,7 @@ use Rattle.timing.specs.Delays.{arrivalIn}
 use Rattle.timing.proofs.Checks.{sound-within}
 use Rattle.timing.proofs.Table.{graphOf-at, read-absent, read-at}
 use Rattle.paths.proofs.Before.{no-path-back}
-use Rattle.plans.proofs.PathDelays.{held-length, held-past, held}
+use Rattle.paths.proofs.PathDelays.{held-length, held-past, held}
 use Rattle.plans.proofs.share.path_back.Statement.{statement}
 use Rattle.plans.proofs.share.path_back.Tie as tie
 

@@ -1,7 +1,7 @@
 use mathlib.Core.Path.{ap₂, _∙_}
 use lib.IntN.{_-ℤ_}
 use mir.Facts.{toZ-ofZ}
-use Rattle.plans.proofs.Truth.{difference-bits}
+use Rattle.laws.proofs.Truth.{difference-bits}
 use Rattle.plans.proofs.star.is_covered.Statement.{statement}
 use Rattle.plans.proofs.star.is_covered.Tie as tie
 

@@ -8,7 +8,7 @@ use Rattle.laws.proofs.Booleans.{is-false}
 use Rattle.reduction.specs.Star.{nonEmpty, distinct}
 use Rattle.plans.proofs.Members.{distinct-pass, distinct-stop, distinct-end, none, one}
 use Rattle.plans.proofs.Sets.{set-size}
-use Rattle.plans.proofs.Truth.{no-first, no-second, both}
+use Rattle.laws.proofs.Truth.{no-first, no-second, both}
 
 abbrev Inv-loop : tie.InvT-loop
 Inv-loop xs n i₀ i = (i ≤ length xs) × (distinct xs ≡ distinct (drop i xs))

@@ -7,7 +7,7 @@ use native.Mathlib.Omega.{arith}
 use lib.ListN.{length, getD, length-set, getD-replicate}
 use Rattle.laws.specs.Bounded.{member}
 use Rattle.plans.proofs.Members.{below-at, member-end}
-use Rattle.plans.proofs.Somewhere.{or-none}
+use Rattle.laws.proofs.Somewhere.{or-none}
 use Rattle.plans.proofs.Marking.{Marking, mark-turn}
 
 abbrev Inv-loop : tie.InvT-loop

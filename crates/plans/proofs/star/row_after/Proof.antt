@@ -3,11 +3,11 @@ use Rattle.plans.proofs.star.row_after.Statement.{statement}
 use Rattle.plans.proofs.star.row_after.Tie as tie
 use mathlib.Core.Path.{_≡_, refl, sym, _∙_}
 use mathlib.Core.Bool.{true}
+use lib.IntN.{pos}
 use lib.Dec.{eqb}
 use lib.ListN.{length}
 use Rattle.laws.proofs.Booleans.{is-true, eq→eqb, eqb-other}
-use Rattle.laws.proofs.Lists.{tabulate-same}
-use Rattle.plans.proofs.Rewriting.{tabulate-is}
+use Rattle.laws.proofs.Lists.{tabulate-same, is-tabulate}
 use Rattle.plans.proofs.RowCells.{of-centre, of-source, of-other}
 
 centre-row-requires : tie.Need-centre-row-requires
@@ -46,7 +46,7 @@ returns-3 : tie.Need-returns-3
 returns-3 c =
     let s = c .before .before .before in
     let row = s .args .row .now in
-    tabulate-is row (length row) _ refl (λ v _. sym (of-other row (s .args .first .now) (s .args .targets .now) (s .args .k) (s .args .u) (s .args .source) v (eqb-other _ _ (c .before .if1 .left)) (c .if2 .left)))
+    is-tabulate (pos 0) row (length row) _ refl (λ v _. sym (of-other row (s .args .first .now) (s .args .targets .now) (s .args .k) (s .args .u) (s .args .source) v (eqb-other _ _ (c .before .if1 .left)) (c .if2 .left)))
 
 pub row-after-spec : {M : Type 1} → statement M
 row-after-spec =

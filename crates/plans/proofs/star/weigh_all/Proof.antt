@@ -23,7 +23,7 @@ use Rattle.plans.specs.StarCells.{leastGap}
 use Rattle.plans.specs.StarReady.{Bundle}
 use Rattle.plans.proofs.Members.{sumOver-turn, sumOver-end, so-far-pass, so-far-stop, each-end, below-at, below-wider, member-at, some-member}
 use Rattle.plans.proofs.Sets.{set-size}
-use Rattle.plans.proofs.Truth.{and-end}
+use Rattle.laws.proofs.Truth.{and-end}
 use Rattle.plans.proofs.CentreCells.{first-row, meeting-few, all-sum, gap-is, row-sum}
 
 abbrev saved : ℕ → List ℤ → List ℕ → List ℕ → ℕ → ℕ

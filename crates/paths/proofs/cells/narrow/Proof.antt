@@ -4,8 +4,8 @@ use mir.Facts.{toZ-ofZ}
 use Rattle.laws.proofs.Linear.{zneeds}
 use Rattle.timing.specs.Limits.{delayLimit}
 use Rattle.timing.proofs.Limits.{fits-bounds}
-use Rattle.plans.proofs.sums.narrow.Statement.{statement}
-use Rattle.plans.proofs.sums.narrow.Tie as tie
+use Rattle.paths.proofs.cells.narrow.Statement.{statement}
+use Rattle.paths.proofs.cells.narrow.Tie as tie
 
 small : (c : tie.Start) → SFits w32 (c .args .x)
 small c =

@@ -6,8 +6,8 @@ use lib.ListN.{length, drop, length-set}
 use Rattle.laws.specs.Lists.{tabulate}
 use Rattle.laws.proofs.Filling.{fill-none, fill-turn, fill-all}
 use Rattle.timing.specs.Limits.{absentCell}
-use Rattle.plans.proofs.rows.clear.Statement.{statement}
-use Rattle.plans.proofs.rows.clear.Tie as tie
+use Rattle.paths.proofs.cells.clear.Statement.{statement}
+use Rattle.paths.proofs.cells.clear.Tie as tie
 
 abbrev Inv-loop : tie.InvT-loop
 Inv-loop row₀ v₀ row v = (v ≤ length row₀) × (length row ≡ length row₀) × (row ≡ tabulate v (λ _. absentCell) ++ drop v row₀)
