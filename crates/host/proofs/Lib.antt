@@ -1,0 +1,6 @@
+pub mod Filling
+pub mod Kept
+pub mod Shown
+pub mod Stepping
+pub mod Matrices
+pub mod Examples
