@@ -1,0 +1,234 @@
+//! The calls of a list: as `replay` reads them, and what it must print for each.
+
+use second::board::{Board, Sizes};
+use second::file::RefusedRead;
+use second::{delays, file, run, steps};
+use std::fmt::Write;
+
+#[derive(Clone, Debug)]
+pub enum Call {
+    Shrink { k: u64 },
+    ShareInputs { a: u64, b: u64, k: u64 },
+    ShareOutputs { a: u64, b: u64 },
+    Prune,
+    MergeBack { o: u64 },
+    Star { sources: Vec<u64>, targets: Vec<u64>, k: u64 },
+    Run,
+    Matrix { destination: usize },
+    Arrivals { arrivals: Vec<i64>, answers: usize },
+    Write { destination: usize },
+    Read { bytes: Vec<u8> },
+}
+
+/// What an accepted call answers.
+#[derive(Clone, Copy, Debug, PartialEq, Eq)]
+pub enum Accepted {
+    Left(u64),
+    Ran(run::Outcome),
+    Done,
+    Bytes(u64),
+    Board(Sizes),
+}
+
+#[derive(Clone, Copy, Debug, PartialEq, Eq)]
+pub enum Answer {
+    Accepted(Accepted),
+    Refused(u64),
+    RefusedRead(RefusedRead),
+}
+
+impl Answer {
+    /// The refusal's number, 0 if accepted.
+    pub fn number(self) -> u64 {
+        match self {
+            Answer::Accepted(_) => 0,
+            Answer::Refused(number) => number,
+            Answer::RefusedRead(refused) => refused.number,
+        }
+    }
+}
+
+fn answer<T>(result: Result<T, u64>, accepted: impl Fn(T) -> Accepted) -> Answer {
+    match result {
+        Ok(value) => Answer::Accepted(accepted(value)),
+        Err(number) => Answer::Refused(number),
+    }
+}
+
+/// What `replay` fills a destination with before the call.
+const DESTINATION_FILL: u8 = 9;
+
+/// An answer and what the call left in its destination.
+pub struct Performed {
+    pub answer: Answer,
+    pub destination: Option<Vec<i64>>,
+}
+
+impl Call {
+    /// The byte that `replay` knows the call by.
+    pub fn code(&self) -> u8 {
+        match self {
+            Call::Shrink { .. } => 1,
+            Call::ShareInputs { .. } => 2,
+            Call::ShareOutputs { .. } => 3,
+            Call::Prune => 4,
+            Call::MergeBack { .. } => 5,
+            Call::Star { .. } => 6,
+            Call::Run => 7,
+            Call::Matrix { .. } => 8,
+            Call::Arrivals { .. } => 9,
+            Call::Write { .. } => 10,
+            Call::Read { .. } => 11,
+        }
+    }
+
+    pub fn encode(&self, to: &mut Vec<u8>) {
+        to.push(self.code());
+        match self {
+            Call::Shrink { k } => number(to, *k),
+            Call::ShareInputs { a, b, k } => {
+                number(to, *a);
+                number(to, *b);
+                number(to, *k);
+            }
+            Call::ShareOutputs { a, b } => {
+                number(to, *a);
+                number(to, *b);
+            }
+            Call::Prune | Call::Run => {}
+            Call::MergeBack { o } => number(to, *o),
+            Call::Star { sources, targets, k } => {
+                for list in [sources, targets] {
+                    length(to, list.len());
+                    list.iter().for_each(|&v| number(to, v));
+                }
+                number(to, *k);
+            }
+            Call::Matrix { destination } | Call::Write { destination } => length(to, *destination),
+            Call::Arrivals { arrivals, answers } => {
+                length(to, arrivals.len());
+                arrivals.iter().for_each(|&a| number(to, a as u64));
+                length(to, *answers);
+            }
+            Call::Read { bytes } => {
+                length(to, bytes.len());
+                to.extend(bytes);
+            }
+        }
+    }
+
+    /// The call, by the second implementation.
+    pub fn perform(&self, sizes: Sizes, table: &mut [i32], scratch: usize) -> Performed {
+        let left = Accepted::Left;
+        let mut kept = None;
+        let answer = match self {
+            Call::Shrink { k } => answer(steps::shrink(sizes, table, scratch, *k), left),
+            Call::ShareInputs { a, b, k } => {
+                answer(steps::share_inputs(sizes, table, scratch, *a, *b, *k), left)
+            }
+            Call::ShareOutputs { a, b } => {
+                answer(steps::share_outputs(sizes, table, scratch, *a, *b), left)
+            }
+            Call::Prune => answer(steps::prune(sizes, table, scratch), left),
+            Call::MergeBack { o } => answer(steps::merge_back(sizes, table, scratch, *o), left),
+            Call::Star { sources, targets, k } => {
+                answer(steps::star(sizes, table, scratch, sources, targets, *k), left)
+            }
+            Call::Run => answer(run::run(sizes, table, scratch), Accepted::Ran),
+            Call::Matrix { destination } => {
+                let mut cells = vec![i64::from(DESTINATION_FILL); *destination];
+                let result = delays::matrix(sizes, table, scratch, &mut cells);
+                kept = Some(cells);
+                answer(result, |()| Accepted::Done)
+            }
+            Call::Arrivals { arrivals, answers } => {
+                let mut cells = vec![i64::from(DESTINATION_FILL); *answers];
+                let result = delays::arrivals(sizes, table, scratch, arrivals, &mut cells);
+                kept = Some(cells);
+                answer(result, |()| Accepted::Done)
+            }
+            Call::Write { destination } => {
+                let mut bytes = vec![DESTINATION_FILL; *destination];
+                let result = file::write(sizes, table, scratch, &mut bytes);
+                kept = Some(bytes.into_iter().map(i64::from).collect());
+                answer(result, Accepted::Bytes)
+            }
+            Call::Read { bytes } => match file::read(bytes, table, scratch) {
+                Ok(sizes) => Answer::Accepted(Accepted::Board(sizes)),
+                Err(refused) => Answer::RefusedRead(refused),
+            },
+        };
+        Performed { answer, destination: kept }
+    }
+
+    /// The scratch cells that the call may have changed, at most.
+    pub fn scratch_bound(&self, sizes: Sizes, answer: Answer) -> u64 {
+        let in_first_record =
+            matches!(answer, Answer::RefusedRead(RefusedRead { number: 15 | 16, offset: 0 }));
+        if (1..=3).contains(&answer.number()) || in_first_record {
+            return 0;
+        }
+        match self {
+            Call::Read { bytes } => u64::from(bytes[4]).pow(2),
+            _ => sizes.vertices.pow(2),
+        }
+    }
+}
+
+fn number(to: &mut Vec<u8>, number: u64) {
+    to.extend(number.to_le_bytes());
+}
+
+fn length(to: &mut Vec<u8>, length: usize) {
+    to.extend((length as u16).to_le_bytes());
+}
+
+/// What stands before the calls.
+pub fn encode_lent(sizes: Sizes, table: &[i32], scratch: usize) -> Vec<u8> {
+    let mut bytes = Vec::new();
+    for size in [sizes.inputs, sizes.outputs, sizes.vertices] {
+        number(&mut bytes, size);
+    }
+    length(&mut bytes, table.len());
+    length(&mut bytes, scratch);
+    for cell in table {
+        bytes.extend(cell.to_le_bytes());
+    }
+    bytes
+}
+
+/// The lines that `replay` prints for a call, but for the last, on the scratch.
+pub fn text(performed: &Performed, table: &[i32]) -> String {
+    let mut text = match performed.answer {
+        Answer::Refused(number) => format!("refused {number}\n"),
+        Answer::RefusedRead(RefusedRead { number, offset }) => {
+            format!("refused {number} at {offset}\n")
+        }
+        Answer::Accepted(Accepted::Left(arcs)) => format!("left {arcs}\n"),
+        Answer::Accepted(Accepted::Ran(ran)) => {
+            format!("accepted {} arcs {}\n", ran.steps, ran.arcs)
+        }
+        Answer::Accepted(Accepted::Done) => "ok\n".to_string(),
+        Answer::Accepted(Accepted::Bytes(bytes)) => format!("bytes {bytes}\n"),
+        Answer::Accepted(Accepted::Board(sizes)) => {
+            format!("board {} {} {}\n", sizes.inputs, sizes.outputs, sizes.vertices)
+        }
+    };
+    text.push_str("table");
+    for &cell in table {
+        if cell == Board::ABSENT {
+            text.push_str(" -");
+        } else {
+            let _ = write!(text, " {cell}");
+        }
+    }
+    text.push('\n');
+    if let Some(cells) = &performed.destination {
+        text.push_str("destination");
+        for cell in cells {
+            let _ = write!(text, " {cell}");
+        }
+        text.push('\n');
+    }
+    text
+}

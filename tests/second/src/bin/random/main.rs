@@ -1,0 +1,209 @@
+//! Random boards and lists of calls: the second implementation against the proved programs.
+//!
+//!     random [--seed S] [--lists L] [--only K]
+//!
+//! Run it at the repository's root. Each list is one process of `replay`, whose whole output is
+//! compared; some lists also give a file to `thin`; with the feature `host` the C exports get each
+//! list's first and last table. Demand 3 is checked on the second implementation's own side. `--only`
+//! repeats one list of a seed alone.
+
+mod boards;
+mod calls;
+mod demand3;
+mod files;
+#[cfg(feature = "host")]
+mod host;
+mod lists;
+mod programs;
+mod rng;
+mod tally;
+
+use calls::Call;
+use demand3::Claim;
+use lists::Maker;
+use programs::{Expected, Program};
+use rng::Rng;
+use std::panic::{catch_unwind, AssertUnwindSafe};
+use std::path::{Path, PathBuf};
+use std::process::ExitCode;
+use std::sync::atomic::{AtomicBool, AtomicU64, Ordering};
+use tally::Tally;
+
+const SEED: u64 = 20_261_116;
+const LISTS: u64 = 24_000;
+const THREADS: u64 = 2;
+
+/// Where a list that is repeated alone is kept.
+const SHOWN: &str = "target/second/list";
+
+/// The calls counted: those over the C exports only where they are linked.
+const KINDS: usize = if cfg!(feature = "host") { tally::KINDS.len() } else { tally::C_MATRIX };
+
+struct Options {
+    seed: u64,
+    lists: u64,
+    only: Option<u64>,
+}
+
+struct Programs {
+    replay: Program,
+    thin: Program,
+}
+
+fn main() -> ExitCode {
+    match options().and_then(|options| test(&options)) {
+        Ok(()) => ExitCode::SUCCESS,
+        Err(fault) => {
+            println!("{fault}");
+            ExitCode::FAILURE
+        }
+    }
+}
+
+fn options() -> Result<Options, String> {
+    let mut options = Options { seed: SEED, lists: LISTS, only: None };
+    let mut words = std::env::args().skip(1);
+    while let Some(word) = words.next() {
+        let number = words.next().and_then(|number| number.parse().ok());
+        match (word.as_str(), number) {
+            ("--seed", Some(seed)) => options.seed = seed,
+            ("--lists", Some(lists)) => options.lists = lists,
+            ("--only", Some(list)) => options.only = Some(list),
+            _ => return Err("usage: random [--seed S] [--lists L] [--only K]".into()),
+        }
+    }
+    Ok(options)
+}
+
+fn test(options: &Options) -> Result<(), String> {
+    let programs = Programs {
+        replay: Program::find("REPLAY", "target/bin/replay")?,
+        thin: Program::find("THIN", "target/bin/thin")?,
+    };
+    if let Some(list) = options.only {
+        one_list(options.seed, list, &programs, &spool(0), &mut Tally::default(), true)?;
+        println!("no difference");
+        return Ok(());
+    }
+
+    let next = AtomicU64::new(0);
+    let failed = AtomicBool::new(false);
+    let work = |thread: u64| -> Result<Tally, String> {
+        let spool = spool(thread);
+        let mut tally = Tally::default();
+        loop {
+            let list = next.fetch_add(1, Ordering::Relaxed);
+            if list >= options.lists || failed.load(Ordering::Relaxed) {
+                let _ = std::fs::remove_file(&spool);
+                return Ok(tally);
+            }
+            // a panic of the second implementation is a failure of the list too
+            let tested = catch_unwind(AssertUnwindSafe(|| {
+                one_list(options.seed, list, &programs, &spool, &mut tally, false)
+            }));
+            tested.unwrap_or_else(|_| Err("a panic".into())).map_err(|fault| {
+                failed.store(true, Ordering::Relaxed);
+                let seed = options.seed;
+                format!("--seed {seed} --only {list}: {fault}")
+            })?;
+        }
+    };
+    let outcomes: Vec<Result<Tally, String>> = std::thread::scope(|scope| {
+        let work = &work;
+        let threads: Vec<_> = (0..THREADS).map(|t| scope.spawn(move || work(t))).collect();
+        let died = || Err("a thread died".to_string());
+        threads.into_iter().map(|thread| thread.join().unwrap_or_else(|_| died())).collect()
+    });
+
+    let mut tally = Tally::default();
+    for outcome in outcomes {
+        tally.add(&outcome?);
+    }
+    println!("seed {}, {} lists", options.seed, options.lists);
+    tally.print(KINDS);
+    let faults = tally.faults(KINDS);
+    if faults.is_empty() {
+        println!("no difference");
+        Ok(())
+    } else {
+        Err(faults.join("\n"))
+    }
+}
+
+/// A file for inputs that a pipe doesn't hold.
+fn spool(thread: u64) -> PathBuf {
+    std::env::temp_dir().join(format!("random-{}-{thread}", std::process::id()))
+}
+
+/// One list: made, predicted, held to demand 3, and compared.
+fn one_list(
+    seed: u64,
+    list: u64,
+    programs: &Programs,
+    spool: &Path,
+    tally: &mut Tally,
+    show: bool,
+) -> Result<(), String> {
+    let mut rng = Rng::new(seed, list);
+    let lent = boards::lent(&mut rng);
+    let sizes = lent.sizes;
+    let mut table = lent.table.clone();
+    let mut claim = Claim::new(&mut rng, sizes, &table);
+    let mut input = calls::encode_lent(sizes, &table, lent.scratch);
+    let mut expected = Vec::new();
+    if show {
+        println!("{sizes:?}, scratch {}, table {table:?}", lent.scratch);
+    }
+    for place in 0..lists::calls(&mut rng, table.len()) {
+        let mut maker = Maker { rng: &mut rng, sizes, scratch: lent.scratch, stars: &lent.stars };
+        let call = maker.call(&table);
+        let performed = call.perform(sizes, &mut table, lent.scratch);
+        tally.count(call.code().into(), performed.answer.number());
+        if show {
+            println!("call {place}: {call:?}: {:?}", performed.answer);
+        }
+        if let Call::Read { .. } = call {
+            // another table, another claim
+            claim = Claim::new(&mut rng, sizes, &table);
+        } else if let Some(claim) = &mut claim {
+            claim
+                .check(&mut rng, &call, performed.answer, &table)
+                .map_err(|fault| format!("call {place}: {call:?}: {fault}"))?;
+        }
+        call.encode(&mut input);
+        expected.push(Expected {
+            text: calls::text(&performed, &table),
+            scratch: call.scratch_bound(sizes, performed.answer),
+        });
+    }
+    if show {
+        let _ = std::fs::write(SHOWN, &input);
+        println!("what replay reads is in {SHOWN}");
+    }
+    let output = programs.replay.output(&input, spool)?;
+    programs::compare(&output, &expected)?;
+
+    #[cfg(feature = "host")]
+    {
+        host::check(&mut rng, sizes, &lent.table, tally)?;
+        host::check(&mut rng, sizes, &table, tally)?;
+    }
+
+    if rng.chance(50) {
+        let bytes = lists::thin_input(&mut rng);
+        let expected = second::thin::thin(&bytes);
+        tally.count(tally::THIN, refusal_in(&expected));
+        let output = programs.thin.output(&bytes, spool)?;
+        if output != expected.as_bytes() {
+            let got = String::from_utf8_lossy(&output);
+            return Err(format!("thin on {bytes:?}\nexpected:\n{expected}got:\n{got}"));
+        }
+    }
+    Ok(())
+}
+
+/// The number in a text of `thin`, 0 if it isn't a refusal.
+fn refusal_in(text: &str) -> u64 {
+    let number = text.strip_prefix("refused ").and_then(|rest| rest.split(' ').next());
+    number.and_then(|number| number.parse().ok()).unwrap_or(0)
+}
