@@ -1,0 +1,134 @@
+//! The calls of both sides in one form, each a function of its own so that its instructions can be
+//! counted: `ours_*` are the proved ones, `rust_*` the second implementation's.
+
+use second::board::Sizes;
+use second::{delays, run, steps};
+
+#[link(name = "meter", kind = "static")]
+extern "C" {
+    fn meter_matrix(
+        inputs: u64,
+        outputs: u64,
+        vertices: u64,
+        table: *const i32,
+        table_length: u64,
+        scratch: *mut i64,
+        scratch_length: u64,
+        matrix: *mut i64,
+        matrix_length: u64,
+    ) -> u64;
+    fn meter_prune(
+        inputs: u64,
+        outputs: u64,
+        vertices: u64,
+        table: *mut i32,
+        table_length: u64,
+        scratch: *mut i64,
+        scratch_length: u64,
+    ) -> u64;
+    fn meter_run(
+        inputs: u64,
+        outputs: u64,
+        vertices: u64,
+        table: *mut i32,
+        table_length: u64,
+        scratch: *mut i64,
+        scratch_length: u64,
+    ) -> u64;
+}
+
+/// What a call gets and leaves.
+#[derive(Clone)]
+pub struct Lent {
+    pub sizes: Sizes,
+    pub table: Vec<i32>,
+    pub scratch: Vec<i64>,
+    pub matrix: Vec<i64>,
+}
+
+pub type Side = extern "C" fn(&mut Lent) -> u64;
+
+pub const CALLS: [(&str, Side, Side); 3] = [
+    ("matrix", ours_matrix, rust_matrix),
+    ("prune", ours_prune, rust_prune),
+    ("run", ours_run, rust_run),
+];
+
+#[no_mangle]
+#[inline(never)]
+pub extern "C" fn ours_matrix(lent: &mut Lent) -> u64 {
+    let Sizes { inputs, outputs, vertices } = lent.sizes;
+    // each pointer is to a run of the length given with it
+    unsafe {
+        meter_matrix(
+            inputs,
+            outputs,
+            vertices,
+            lent.table.as_ptr(),
+            lent.table.len() as u64,
+            lent.scratch.as_mut_ptr(),
+            lent.scratch.len() as u64,
+            lent.matrix.as_mut_ptr(),
+            lent.matrix.len() as u64,
+        )
+    }
+}
+
+#[no_mangle]
+#[inline(never)]
+pub extern "C" fn ours_prune(lent: &mut Lent) -> u64 {
+    let Sizes { inputs, outputs, vertices } = lent.sizes;
+    // as above
+    unsafe {
+        meter_prune(
+            inputs,
+            outputs,
+            vertices,
+            lent.table.as_mut_ptr(),
+            lent.table.len() as u64,
+            lent.scratch.as_mut_ptr(),
+            lent.scratch.len() as u64,
+        )
+    }
+}
+
+#[no_mangle]
+#[inline(never)]
+pub extern "C" fn ours_run(lent: &mut Lent) -> u64 {
+    let Sizes { inputs, outputs, vertices } = lent.sizes;
+    // as above
+    unsafe {
+        meter_run(
+            inputs,
+            outputs,
+            vertices,
+            lent.table.as_mut_ptr(),
+            lent.table.len() as u64,
+            lent.scratch.as_mut_ptr(),
+            lent.scratch.len() as u64,
+        )
+    }
+}
+
+#[no_mangle]
+#[inline(never)]
+pub extern "C" fn rust_matrix(lent: &mut Lent) -> u64 {
+    number(delays::matrix(lent.sizes, &lent.table, lent.scratch.len(), &mut lent.matrix))
+}
+
+#[no_mangle]
+#[inline(never)]
+pub extern "C" fn rust_prune(lent: &mut Lent) -> u64 {
+    number(steps::prune(lent.sizes, &mut lent.table, lent.scratch.len()))
+}
+
+#[no_mangle]
+#[inline(never)]
+pub extern "C" fn rust_run(lent: &mut Lent) -> u64 {
+    number(run::run(lent.sizes, &mut lent.table, lent.scratch.len()))
+}
+
+/// 0, or the refusal's number.
+fn number<A>(result: Result<A, u64>) -> u64 {
+    result.err().unwrap_or(0)
+}

@@ -1,0 +1,72 @@
+// The calls that the benchmark (bench/) measures, as exports over cells. Each answers 0, or the refusal's number.
+use paths::queries;
+use paths::queries::Answer;
+use run::answer::Ran;
+use steps::answer::Answer as Stepped;
+use timing::numbers;
+ghost use mathlib.Core.Path.{_≡_};
+ghost use lib.ListN.{length};
+ghost use Rattle.timing.specs.Queries.{matrixCall};
+ghost use Rattle.reduction.specs.Steps.{prune, stepCall};
+ghost use Rattle.reduction.specs.Run.{runCall};
+ghost use Rattle.paths.specs.Queries.{written, ScratchAfter};
+ghost use Rattle.steps.specs.Reduces.{tableAfter};
+ghost use Rattle.meter.specs.Answers.{numberOf};
+
+#[no_mangle]
+pub extern "C" fn meter_matrix(
+    inputs: usize,
+    outputs: usize,
+    vertices: usize,
+    table: &[i32],
+    scratch: &mut [i64],
+    matrix: &mut [i64],
+) -> usize
+    ensures { λ r. ⌜ r ≡ numberOf (matrixCall inputs outputs vertices (length (now (scratch .entry))) (now (table .entry)) (now (matrix .entry))) ⌝ }
+    ensures { λ _. ⌜ now (matrix .exit) ≡ written (matrixCall inputs outputs vertices (length (now (scratch .entry))) (now (table .entry)) (now (matrix .entry))) (now (matrix .entry)) ⌝ }
+    ensures { λ _. ⌜ ScratchAfter inputs outputs vertices (now (table .entry)) (now (scratch .entry)) (now (scratch .exit)) ⌝ }
+{
+    let answer = queries::delay_matrix(inputs, outputs, vertices, table, scratch, matrix);
+    match answer {
+        Answer::Done => 0,
+        Answer::Refused(r) => numbers::number(r),
+    }
+}
+
+#[no_mangle]
+pub extern "C" fn meter_prune(
+    inputs: usize,
+    outputs: usize,
+    vertices: usize,
+    table: &mut [i32],
+    scratch: &mut [i64],
+) -> usize
+    ensures { λ r. ⌜ r ≡ numberOf (stepCall inputs outputs vertices (length (now (scratch .entry))) prune (now (table .entry))) ⌝ }
+    ensures { λ _. ⌜ now (table .exit) ≡ tableAfter (stepCall inputs outputs vertices (length (now (scratch .entry))) prune (now (table .entry))) (now (table .entry)) ⌝ }
+    ensures { λ _. ⌜ ScratchAfter inputs outputs vertices (now (table .entry)) (now (scratch .entry)) (now (scratch .exit)) ⌝ }
+{
+    let answer = steps::calls::prune(inputs, outputs, vertices, table, scratch);
+    match answer {
+        Stepped::Left(_) => 0,
+        Stepped::Refused(r) => numbers::number(r),
+    }
+}
+
+#[no_mangle]
+pub extern "C" fn meter_run(
+    inputs: usize,
+    outputs: usize,
+    vertices: usize,
+    table: &mut [i32],
+    scratch: &mut [i64],
+) -> usize
+    ensures { λ r. ⌜ r ≡ numberOf (runCall inputs outputs vertices (length (now (scratch .entry))) (now (table .entry))) ⌝ }
+    ensures { λ _. ⌜ now (table .exit) ≡ tableAfter (runCall inputs outputs vertices (length (now (scratch .entry))) (now (table .entry))) (now (table .entry)) ⌝ }
+    ensures { λ _. ⌜ ScratchAfter inputs outputs vertices (now (table .entry)) (now (scratch .entry)) (now (scratch .exit)) ⌝ }
+{
+    let answer = run::calls::run(inputs, outputs, vertices, table, scratch);
+    match answer {
+        Ran::Accepted(_, _) => 0,
+        Ran::Refused(r) => numbers::number(r),
+    }
+}
