@@ -1,12 +1,10 @@
 -- A record that was accepted is legal.
-use mathlib.Core.Path.{_≡_, subst}
-use mathlib.Core.Bool.{_&&_}
+use mathlib.Core.Path.{_≡_, refl, sym, _∙_, subst}
 use mathlib.Core.List.{List}
-use Prim.Native.Nat.{ℕ, _+_, _<_}
+use Prim.Native.Nat.{ℕ, _+_}
 use native.Mathlib.Omega.{arith}
-use lib.Dec.{T, leb, ltb, leb→le, ltb→lt}
+use lib.Dec.{leb, leb→le}
 use lib.ListN.{length}
-use Rattle.laws.proofs.Booleans.{and-e}
 use Rattle.graph.specs.Delay.{at}
 use Rattle.timing.specs.declared.Refusal.the-variants.{FileEnds, WrongField}
 use Rattle.timing.specs.Limits.{delayLimit, fits}
@@ -16,31 +14,23 @@ use Rattle.codec.specs.Bytes.{signedAt}
 use Rattle.format.specs.declared.Mark.{Mark}
 use Rattle.format.specs.declared.Mark.the-variants as M
 use Rattle.format.specs.declared.Record.{Record}
-use Rattle.format.specs.Records.{byteAt, ticksOf, from, to, markAt, body, recordAt}
-use Rattle.files.specs.Records.{Legal}
+use Rattle.format.specs.Records.{byteAt, ticksOf, markAt, body, recordAt}
+use Rattle.files.specs.Records.{endsOf, Legal}
+use Rattle.files.proofs.Ends.{ends-legal, arcAfter, arc-is, cellAfter, cell-is}
 
 module _ (N : ℕ) (s : List ℕ) (p : ℕ) where
-  -- both ends are vertices
-  vertices : T (ltb (from N s p) N && ltb (to N s p) N) → (from N s p < N) × (to N s p < N)
-  vertices t = let b = and-e (ltb (from N s p) N) (ltb (to N s p) N) t in (ltb→lt (from N s p) N (b .0), ltb→lt (to N s p) N (b .1))
-
   legal-body : (k : Mark) (r : Record) → body N s p k ≡ accepted r → Legal N s p r
   legal-body M.Board r e = absurd (let z : _≡_ {A = ℕ} 0 1 = cc in omega arith)
   legal-body M.Arc r e =
-      let d = signedAt 4 s (p + 4) in
-      let ends = ltb (from N s p) N && ltb (to N s p) N in
-      let whole = require-accepted (leb (p + 8) (length s)) FileEnds _ r e in
-      let fields = require-accepted (ends && fits delayLimit (at d)) WrongField _ r (whole .1) in
-      let f = and-e ends (fits delayLimit (at d)) (fields .0) in
-      let v = vertices (f .0) in
-      subst (Legal N s p) (same-accepted (fields .1)) (leb→le (p + 8) (length s) (whole .0), v .0, v .1, f .1)
+      let ends = then-accepted (endsOf N s p 8) (arcAfter N s p) r (sym (arc-is N s p refl) ∙ e) in
+      let d = require-accepted (fits delayLimit (at (signedAt 4 s (p + 4)))) WrongField _ r (ends .2) in
+      let l = ends-legal N s p 8 _ _ (ends .1) in
+      subst (Legal N s p) (same-accepted (d .1)) (l .0, l .1, l .2, d .0)
   legal-body M.Cell r e =
-      let c = byteAt s (p + 4) in
-      let whole = require-accepted (leb (p + 5) (length s)) FileEnds _ r e in
-      let fields = require-accepted (ltb (from N s p) N && ltb (to N s p) N) WrongField _ r (whole .1) in
-      let ticks = then-accepted (ticksOf c) _ r (fields .1) in
-      let v = vertices (fields .0) in
-      subst (Legal N s p) (same-accepted (ticks .2)) (leb→le (p + 5) (length s) (whole .0), v .0, v .1, rw (ticks .1) tt)
+      let ends = then-accepted (endsOf N s p 5) (cellAfter N s p) r (sym (cell-is N s p refl) ∙ e) in
+      let ticks = then-accepted (ticksOf (byteAt s (p + 4))) _ r (ends .2) in
+      let l = ends-legal N s p 5 _ _ (ends .1) in
+      subst (Legal N s p) (same-accepted (ticks .2)) (l .0, l .1, l .2, rw (ticks .1) tt)
   legal-body M.End r e =
       let whole = require-accepted (leb (p + 4) (length s)) FileEnds _ r e in
       subst (Legal N s p) (same-accepted (whole .1)) (leb→le (p + 4) (length s) (whole .0))

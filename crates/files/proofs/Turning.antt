@@ -1,12 +1,10 @@
 -- What a turn of the pass over the records says.
 use mathlib.Core.Path.{_≡_, sym, subst}
 use mathlib.Core.List.{List}
-use Prim.Native.Nat.{ℕ, _+_, _*_, _≤_, _<_}
+use Prim.Native.Nat.{ℕ, _≤_, _<_}
 use native.Mathlib.Omega.{arith}
 use lib.ListN.{length}
-use Rattle.laws.proofs.Grid.{row-in, area}
 use Rattle.timing.specs.declared.Refusal.{Refusal}
-use Rattle.timing.specs.Limits.{maxVertices}
 use Rattle.timing.specs.Refusal.{number, Verdict}
 use Rattle.format.specs.declared.Record.{Record}
 use Rattle.format.specs.Reading.{Reading, stopped, got}
@@ -14,10 +12,6 @@ use Rattle.files.specs.declared.scan.Cursor.{Cursor}
 use Rattle.files.specs.declared.scan.Turned.{Turned}
 use Rattle.files.specs.declared.scan.Turned.the-variants as T
 use Rattle.files.specs.Scan.{Onward, recordSays, foundSays, Within, Turns}
-
--- a cell of the largest table
-pub cell-few : (n u v : ℕ) → n ≤ maxVertices → u < n → v < n → n * u + v < maxVertices * maxVertices
-cell-few n u v h i j = omega (arith, row-in n u i, area n maxVertices h)
 
 module _ {bytes : ℕ} {c : Cursor} {v : Onward → Reading (Unit {0})} where
   pub refuses : (x : Refusal) (p : ℕ) → ((onward : Onward) → stopped (number x) p ≡ v onward) → Turns bytes c v (T.Refused x p)

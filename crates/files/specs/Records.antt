@@ -1,23 +1,38 @@
 -- What is found at an offset: document 01's number, or what stands there.
+use mathlib.Core.Bool.{_&&_}
 use mathlib.Core.List.{List}
 use Prim.Native.Nat.{ℕ, _+_, _≤_, _<_}
-use lib.Dec.{T}
+use lib.Dec.{T, leb, ltb}
 use lib.IntN.{ℤ}
 use lib.ListN.{length}
 use Rattle.graph.specs.Delay.{at}
+use Rattle.timing.specs.declared.Refusal.the-variants.{FileEnds, WrongField}
 use Rattle.timing.specs.Limits.{delayLimit, fits}
-use Rattle.timing.specs.Refusal.{number, Verdict, refused, accepted, isAccepted}
+use Rattle.timing.specs.Refusal.{number, Verdict, refused, accepted, isAccepted, require}
 use Rattle.format.specs.declared.Record.{Record}
 use Rattle.format.specs.declared.Record.the-variants as R
-use Rattle.format.specs.Records.{ticksOf}
+use Rattle.format.specs.Records.{ticksOf, from, to}
 use Rattle.files.specs.declared.records.Ticks.{Ticks}
 use Rattle.files.specs.declared.records.Ticks.the-variants as K
+use Rattle.files.specs.declared.records.Ends.{Ends}
+use Rattle.files.specs.declared.records.Ends.the-variants as E
 use Rattle.files.specs.declared.records.Found.{Found}
 use Rattle.files.specs.declared.records.Found.the-variants as F
 
 abbrev pub ticksMeaning : Ticks → Verdict ℤ
 ticksMeaning (K.Of d) = accepted d
 ticksMeaning (K.Refused r) = refused (number r)
+
+abbrev pub endsMeaning : Ends → Verdict (ℕ × ℕ)
+endsMeaning (E.Of u v) = accepted (u, v)
+endsMeaning (E.Refused r) = refused (number r)
+
+-- the ends of a record of so many bytes: they are all there, then both ends are vertices
+unfoldable pub endsOf : ℕ → List ℕ → ℕ → ℕ → Verdict (ℕ × ℕ)
+endsOf N s p size =
+    require (leb (p + size) (length s)) FileEnds
+    (require (ltb (from N s p) N && ltb (to N s p) N) WrongField
+    (accepted (from N s p, to N s p)))
 
 abbrev pub foundMeaning : Found → Verdict Record
 foundMeaning (F.Record r) = accepted r

@@ -84,6 +84,19 @@ fn put_number(out: &mut [u8], at: usize, x: usize) -> usize
     put_decimal(out, next, x)
 }
 
+// A word, two numbers and a third that may be negative.
+fn triple_line(out: &mut [u8], at: usize, word: &[u8], x: usize, y: usize, z: i32) -> usize
+    requires { ⌜ (x < 10 ^ 10) × (y < 10 ^ 10) × Legal z × Fits (line (now word) (decimal x ∷ decimal y ∷ signedDecimal z ∷ [])) (now out) at ⌝ }
+    ensures { λ r. ⌜ Appends (line (now (word .entry)) (decimal x ∷ decimal y ∷ signedDecimal z ∷ [])) (now (out .entry)) at (now (out .exit)) r ⌝ }
+{
+    let a = put_text(out, at, word);
+    let b = put_number(out, a, x);
+    let c = put_number(out, b, y);
+    let d = put::put_byte(out, c, b' ');
+    let e = put_delay(out, d, z);
+    put::put_byte(out, e, b'\n')
+}
+
 pub fn board_line(
     out: &mut [u8],
     at: usize,
@@ -94,23 +107,21 @@ pub fn board_line(
     requires { ⌜ (inputs < 256) × (outputs < 256) × (vertices < 256) × Fits (boardLine (record { inputs = inputs; outputs = outputs; vertices = vertices })) (now out) at ⌝ }
     ensures { λ r. ⌜ Appends (boardLine (record { inputs = inputs; outputs = outputs; vertices = vertices })) (now (out .entry)) at (now (out .exit)) r ⌝ }
 {
-    let a = put_text(out, at, &[b'b', b'o', b'a', b'r', b'd']);
-    let b = put_number(out, a, inputs);
-    let c = put_number(out, b, outputs);
-    let d = put_number(out, c, vertices);
-    put::put_byte(out, d, b'\n')
+    triple_line(
+        out,
+        at,
+        &[b'b', b'o', b'a', b'r', b'd'],
+        inputs,
+        outputs,
+        vertices as i32,
+    )
 }
 
 pub fn arc_line(out: &mut [u8], at: usize, u: usize, v: usize, delay: i32) -> usize
     requires { ⌜ (u < 256) × (v < 256) × Legal delay × Fits (arcLine (record { from = u; to = v; delay = delay })) (now out) at ⌝ }
     ensures { λ r. ⌜ Appends (arcLine (record { from = u; to = v; delay = delay })) (now (out .entry)) at (now (out .exit)) r ⌝ }
 {
-    let a = put_text(out, at, &[b'a', b'r', b'c']);
-    let b = put_number(out, a, u);
-    let c = put_number(out, b, v);
-    let d = put::put_byte(out, c, b' ');
-    let e = put_delay(out, d, delay);
-    put::put_byte(out, e, b'\n')
+    triple_line(out, at, &[b'a', b'r', b'c'], u, v, delay)
 }
 
 // Two words, each with its number.

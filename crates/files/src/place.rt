@@ -77,7 +77,7 @@ pub fn place(bytes: &[u8], n: usize, table: &mut [i32])
         let Next::Arc(u, v, d, after) = found else {
             return;
         };
-        table[n * u + v] = d;
+        table[records::cell_of(n, u, v)] = d;
         at = after;
     }
 }

@@ -7,16 +7,23 @@ use paths::cells;
 use timing::Refusal;
 ghost use mathlib.Core.Bool.{_&&_};
 ghost use mathlib.Core.Path.{_≡_};
-ghost use Prim.Native.Nat.{ℕ, _+_, _<_, _≤_};
+ghost use Prim.Native.Nat.{ℕ, _+_, _*_, _<_, _≤_};
 ghost use lib.Dec.{ltb};
 ghost use lib.ListN.{length};
+ghost use Rattle.timing.specs.Limits.{maxVertices};
 ghost use Rattle.format.specs.declared.Mark.the-variants.{Arc, Cell, End};
 ghost use Rattle.format.specs.Records.{byteAt, letters, markAt, ticksOf, body, recordAt};
-ghost use Rattle.files.specs.Records.{ticksMeaning, foundMeaning};
+ghost use Rattle.files.specs.Records.{ticksMeaning, endsMeaning, foundMeaning, endsOf};
 
 // The ticks of a cell code.
 pub enum Ticks {
     Of(i32),
+    Refused(Refusal),
+}
+
+// The ends of an arc.
+pub enum Ends {
+    Of(usize, usize),
     Refused(Refusal),
 }
 
@@ -96,42 +103,54 @@ fn vertices(n: usize, u: usize, v: usize) -> bool
     false
 }
 
-fn arc_at(bytes: &[u8], n: usize, at: usize) -> Found
-    requires { ⌜ at + 2 ≤ length (now bytes) ⌝ }
-    ensures { λ r. ⌜ foundMeaning r ≡ body n (now (bytes .entry)) at Arc ⌝ }
+// Both ends of a record of `size` bytes, its mark included; 15 where they are not all there, 17 where an end is no vertex.
+fn ends_at(bytes: &[u8], n: usize, at: usize, size: usize) -> Ends
+    requires { ⌜ (at ≤ length (now bytes)) × (4 ≤ size) ⌝ }
+    ensures { λ r. ⌜ endsMeaning r ≡ endsOf n (now (bytes .entry)) at size ⌝ }
 {
-    if bytes.len() - at < 8 {
-        return Found::Refused(Refusal::FileEnds);
+    if bytes.len() - at < size {
+        return Ends::Refused(Refusal::FileEnds);
     }
     let u = byte(bytes, at + 2);
     let v = byte(bytes, at + 3);
     if !vertices(n, u, v) {
-        return Found::Refused(Refusal::WrongField);
+        return Ends::Refused(Refusal::WrongField);
     }
-    let d = signed::decode(bytes, at + 4, 4);
-    if !cells::in_range(d) {
-        return Found::Refused(Refusal::WrongField);
+    Ends::Of(u, v)
+}
+
+fn arc_at(bytes: &[u8], n: usize, at: usize) -> Found
+    requires { ⌜ at + 2 ≤ length (now bytes) ⌝ }
+    ensures { λ r. ⌜ foundMeaning r ≡ body n (now (bytes .entry)) at Arc ⌝ }
+{
+    let ends = ends_at(bytes, n, at, 8);
+    match ends {
+        Ends::Of(u, v) => {
+            let d = signed::decode(bytes, at + 4, 4);
+            if !cells::in_range(d) {
+                return Found::Refused(Refusal::WrongField);
+            }
+            Found::Record(Record::Arc(u, v, cells::narrow(d)))
+        }
+        Ends::Refused(r) => Found::Refused(r),
     }
-    Found::Record(Record::Arc(u, v, cells::narrow(d)))
 }
 
 fn cell_at(bytes: &[u8], n: usize, at: usize) -> Found
     requires { ⌜ at + 2 ≤ length (now bytes) ⌝ }
     ensures { λ r. ⌜ foundMeaning r ≡ body n (now (bytes .entry)) at Cell ⌝ }
 {
-    if bytes.len() - at < 5 {
-        return Found::Refused(Refusal::FileEnds);
-    }
-    let u = byte(bytes, at + 2);
-    let v = byte(bytes, at + 3);
-    if !vertices(n, u, v) {
-        return Found::Refused(Refusal::WrongField);
-    }
-    let code = bytes[at + 4];
-    let ticks = cell_ticks(code);
-    match ticks {
-        Ticks::Of(_) => Found::Record(Record::Cell(u, v, code)),
-        Ticks::Refused(r) => Found::Refused(r),
+    let ends = ends_at(bytes, n, at, 5);
+    match ends {
+        Ends::Of(u, v) => {
+            let code = bytes[at + 4];
+            let ticks = cell_ticks(code);
+            match ticks {
+                Ticks::Of(_) => Found::Record(Record::Cell(u, v, code)),
+                Ticks::Refused(r) => Found::Refused(r),
+            }
+        }
+        Ends::Refused(r) => Found::Refused(r),
     }
 }
 
@@ -161,4 +180,12 @@ pub fn record_at(bytes: &[u8], n: usize, at: usize) -> Found
         Mark::End => end_at(bytes, at),
         Mark::Other => Found::Refused(Refusal::WrongMark),
     }
+}
+
+// The table's cell of a record's arc.
+pub fn cell_of(n: usize, u: usize, v: usize) -> usize
+    requires { ⌜ (n ≤ maxVertices) × (u < n) × (v < n) ⌝ }
+    ensures { λ r. ⌜ (r ≡ n * u + v) × (r < n * n) ⌝ }
+{
+    n * u + v
 }

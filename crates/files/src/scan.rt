@@ -37,7 +37,7 @@ fn arc_turn(n: usize, cursor: Cursor, u: usize, v: usize, after: usize) -> Turne
     requires { ⌜ (n ≤ maxVertices) × (u < n) × (v < n) × (cursor .at < after) × (cursor .count ≤ cursor .at) ⌝ }
     ensures { λ r. ⌜ Turns after cursor (arcSays n cursor u v after) r ⌝ }
 {
-    let cell = n * u + v;
+    let cell = records::cell_of(n, u, v);
     if cell < cursor.low {
         return Turned::Refused(Refusal::NotRising, cursor.at);
     }

@@ -1,5 +1,6 @@
 pub mod SumCells
 pub mod ShrunkRows
+pub mod CopiedRow
 pub mod ShrunkTable
 pub mod Members
 pub mod Sets
@@ -17,6 +18,7 @@ pub mod MergedTable
 pub mod Differences
 pub mod DifferenceCells
 pub mod SharedRows
+pub mod RewrittenRows
 pub mod ShareConditions
 pub mod Vectors
 pub mod TightPaths

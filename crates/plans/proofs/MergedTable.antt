@@ -14,17 +14,13 @@ use Rattle.laws.proofs.Booleans.{eqb-same, eqb-other, and-e, true-is, is-true}
 use Rattle.laws.proofs.Bounded.{every-at, every-all}
 use Rattle.laws.proofs.Lists.{tabulate-same}
 use Rattle.graph.specs.Delay.{at, _⊕_}
-use Rattle.timing.specs.Limits.{delayLimit, absentCell, fits}
-use Rattle.timing.specs.Table.{writeCell, graphOf}
+use Rattle.timing.specs.Limits.{delayLimit, fits}
+use Rattle.timing.specs.Table.{graphOf}
 use Rattle.reduction.specs.MergeBack.{mergeFits, mergedBack}
 use Rattle.paths.specs.Cells.{cellAt}
 use Rattle.plans.specs.MergedRow.{mergedCell, Mergeable, Drives}
 use Rattle.plans.proofs.LoweredSums.{lowered-same}
-use Rattle.plans.proofs.ShrunkTable.{Copied, row-size, row-at}
-
--- the new cells
-abbrev pub mergedTable : ℕ → List ℤ → ℕ → ℕ → ℤ → ℕ → ℕ → ℤ
-mergedTable N t v o d u w = writeCell absentCell (mergedBack v o d (graphOf N t) u w)
+use Rattle.plans.proofs.CopiedRow.{newCell, Copied, row-size, row-at}
 
 -- x is row u
 module _ {N : ℕ} {t via : List ℤ} {v o : ℕ} {d : ℤ} (c : Copied N t via v) (a : Drives N t v o d) (u : ℕ) (l : u < N) (x : List ℤ) (e : x ≡ take N (drop (N * u) t)) where
@@ -50,12 +46,12 @@ module _ {N : ℕ} {t via : List ℤ} {v o : ℕ} {d : ℤ} (c : Copied N t via 
       lowered : T (every N (λ w. fits delayLimit (at (negℤ d) ⊕ cellAt via w)))
       lowered = every-all N _ (λ w b. rw (c .same w b) (every-at N (λ w. fits delayLimit (at (negℤ d) ⊕ graphOf N t v w)) differences w b))
 
-  pub row-merged : {ys : List ℤ} → ys ≡ tabulate (length x) (mergedCell x via v o d u) → ys ≡ tabulate N (mergedTable N t v o d u)
+  pub row-merged : {ys : List ℤ} → ys ≡ tabulate (length x) (mergedCell x via v o d u) → ys ≡ tabulate N (newCell (mergedBack v o d (graphOf N t)) u)
   unfolding mergedBack
   row-merged q =
-      q ∙ rw (row-size c u l x e) (tabulate-same N (mergedCell x via v o d u) (mergedTable N t v o d u) (λ w b. go w b (ℕ-discrete u o)))
+      q ∙ rw (row-size c u l x e) (tabulate-same N (mergedCell x via v o d u) (newCell (mergedBack v o d (graphOf N t)) u) (λ w b. go w b (ℕ-discrete u o)))
     where
-      go : (w : ℕ) → w < N → Dec (u ≡ o) → mergedCell x via v o d u w ≡ mergedTable N t v o d u w
+      go : (w : ℕ) → w < N → Dec (u ≡ o) → mergedCell x via v o d u w ≡ newCell (mergedBack v o d (graphOf N t)) u w
       go w b (yes z) = simp (
         ap (λ (y : ℕ). eqb y o) z ∙ eqb-same o,
         row-at c u l x e w b ∙ ap (λ (y : ℕ). graphOf N t y w) z,

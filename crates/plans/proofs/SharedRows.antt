@@ -3,25 +3,26 @@ use mathlib.Core.Path.{_≡_, refl, sym, ap, ap₂, _∙_}
 use mathlib.Core.Logic.{_≢_}
 use mathlib.Core.Bool.{Bool, true, false, cond}
 use mathlib.Core.List.{List}
-use Prim.Native.Nat.{ℕ, _*_, _≤_, _<_}
+use Prim.Native.Nat.{ℕ, _*_, _<_}
 use native.Mathlib.Decide.{ℕ-discrete}
 use native.Mathlib.Omega.{arith}
 use borrow.Author.Tests.{eq-eqb}
 use lib.Dec.{eqb}
 use lib.IntN.{ℤ, pos}
-use lib.ListN.{length, getD, set, take, drop, length-set, length-take, length-drop}
+use lib.ListN.{length, getD, set, take, drop, length-set}
 use lib.Seq.{getD-set-same, getD-set-other}
 use Rattle.laws.specs.Lists.{tabulate}
 use Rattle.laws.proofs.Booleans.{eqb-same, eqb-other}
-use Rattle.laws.proofs.Grid.{row-in, row-cell}
 use Rattle.laws.proofs.Lists.{tabulate-same, is-tabulate}
 use Rattle.graph.specs.Delay.{Delay, absent, at, immediate}
 use Rattle.timing.specs.Limits.{absentCell}
 use Rattle.timing.specs.Table.{writeCell, graphOf}
-use Rattle.timing.proofs.Table.{graphOf-at, written-read}
+use Rattle.timing.proofs.Table.{written-read}
 use Rattle.reduction.specs.ShareInputs.{inputsShared}
 use Rattle.reduction.specs.ShareOutputs.{outputsShared}
+use Rattle.paths.specs.Cells.{cellAt}
 use Rattle.plans.specs.SharedRow.{onlyArc, inputsCell, outputsCell}
+use Rattle.plans.proofs.CopiedRow.{newCell, Copied, row-size, row-at}
 
 -- a row known cell by cell, with one cell stored
 pub set-cell : (r : List ℤ) (n k : ℕ) (x : ℤ) (f : ℕ → ℤ) → length r ≡ n → k < n → ((t : ℕ) → t < n → getD r t (pos 0) ≡ f t) → set r k x ≡ tabulate n (λ t. cond (eqb t k) x (f t))
@@ -58,40 +59,29 @@ module _ (row via : List ℤ) (a b k : ℕ) (e : ℤ) (u : ℕ) where
 
 -- ---- in the table
 
--- a cell of row u
-pub reads : (N : ℕ) (t : List ℤ) (u k v : ℕ) → u < N → v < N → v < k → getD (take k (drop (N * u) t)) v (pos 0) ≡ writeCell absentCell (graphOf N t u v)
-reads N t u k v hu hv hk = row-cell t (N * u) k v (pos 0) hk ∙ sym (ap (writeCell absentCell) (graphOf-at N t u v hu hv) ∙ written-read absentCell _)
-
 write-cond : (b : Bool) (x y : Delay) → cond b (writeCell absentCell x) (writeCell absentCell y) ≡ writeCell absentCell (cond b x y)
 write-cond true x y = refl
 write-cond false x y = refl
 
--- the new cells
-abbrev pub inputsTable : ℕ → List ℤ → ℕ → ℕ → ℕ → ℤ → ℕ → ℕ → ℤ
-inputsTable N t a b k e u v = writeCell absentCell (inputsShared a b k e (graphOf N t) u v)
-
-abbrev pub outputsTable : ℕ → List ℤ → ℕ → ℕ → ℤ → ℕ → ℕ → ℤ
-outputsTable N t a b e u v = writeCell absentCell (outputsShared a b e (graphOf N t) u v)
-
--- x is row u
-module _ (N : ℕ) (t : List ℤ) (room : N * N ≤ length t) (u : ℕ) (l : u < N) (x : List ℤ) (e : x ≡ take N (drop (N * u) t)) where
-  pub row-size : length x ≡ N
-  row-size = ap length e ∙ simp (length-take, length-drop) (omega (arith, row-in N u l))
+-- x is row u, via the row of a or of any other
+module _ {N : ℕ} {t via : List ℤ} {a : ℕ} (c : Copied N t via a) (u : ℕ) (l : u < N) (x : List ℤ) (e : x ≡ take N (drop (N * u) t)) where
+  written : (r : List ℤ) (v w : ℕ) → cellAt r v ≡ graphOf N t w v → getD r v (pos 0) ≡ writeCell absentCell (graphOf N t w v)
+  written r v w q = sym (written-read absentCell (getD r v (pos 0))) ∙ ap (writeCell absentCell) q
 
   row-reads : (v : ℕ) → v < N → getD x v (pos 0) ≡ writeCell absentCell (graphOf N t u v)
-  row-reads v h = ap (λ (r : List ℤ). getD r v (pos 0)) e ∙ reads N t u N v l h h
+  row-reads v h = written x v u (row-at c u l x e v h)
 
-  pub inputs-row : (via : List ℤ) (a b k : ℕ) (d : ℤ) → ((v : ℕ) → v < N → getD via v (pos 0) ≡ writeCell absentCell (graphOf N t a v)) → {ys : List ℤ} → ys ≡ tabulate (length x) (inputsCell x via a b k d u) → ys ≡ tabulate N (inputsTable N t a b k d u)
+  pub inputs-row : (b k : ℕ) (d : ℤ) {ys : List ℤ} → ys ≡ tabulate (length x) (inputsCell x via a b k d u) → ys ≡ tabulate N (newCell (inputsShared a b k d (graphOf N t)) u)
   unfolding inputsShared
-  inputs-row via a b k d same q = q ∙ rw row-size (tabulate-same N (inputsCell x via a b k d u) (inputsTable N t a b k d u) (λ v h.
+  inputs-row b k d q = q ∙ rw (row-size c u l x e) (tabulate-same N (inputsCell x via a b k d u) (newCell (inputsShared a b k d (graphOf N t)) u) (λ v h.
       let g = graphOf N t in
       ap₂ (cond (eqb u a)) (write-cond (eqb v k) immediate absent)
       (ap₂ (cond (eqb u b)) (write-cond (eqb v k) (at d) absent)
-      (ap₂ (cond (eqb u k)) (same v h) (row-reads v h) ∙ write-cond (eqb u k) (g a v) (g u v))
+      (ap₂ (cond (eqb u k)) (written via v a (c .same v h)) (row-reads v h) ∙ write-cond (eqb u k) (g a v) (g u v))
       ∙ write-cond (eqb u b) (cond (eqb v k) (at d) absent) (cond (eqb u k) (g a v) (g u v)))
       ∙ write-cond (eqb u a) (cond (eqb v k) immediate absent) (cond (eqb u b) (cond (eqb v k) (at d) absent) (cond (eqb u k) (g a v) (g u v)))))
 
-  pub outputs-row : (a b : ℕ) (d : ℤ) {ys : List ℤ} → ys ≡ tabulate (length x) (outputsCell x a b d u) → ys ≡ tabulate N (outputsTable N t a b d u)
+  pub outputs-row : (p b : ℕ) (d : ℤ) {ys : List ℤ} → ys ≡ tabulate (length x) (outputsCell x p b d u) → ys ≡ tabulate N (newCell (outputsShared p b d (graphOf N t)) u)
   unfolding outputsShared
-  outputs-row a b d q = q ∙ rw row-size (tabulate-same N (outputsCell x a b d u) (outputsTable N t a b d u) (λ v h.
-      ap₂ (cond (eqb v b)) (write-cond (eqb u a) (at d) absent) (row-reads v h) ∙ write-cond (eqb v b) (cond (eqb u a) (at d) absent) (graphOf N t u v)))
+  outputs-row p b d q = q ∙ rw (row-size c u l x e) (tabulate-same N (outputsCell x p b d u) (newCell (outputsShared p b d (graphOf N t)) u) (λ v h.
+      ap₂ (cond (eqb v b)) (write-cond (eqb u p) (at d) absent) (row-reads v h) ∙ write-cond (eqb v b) (cond (eqb u p) (at d) absent) (graphOf N t u v)))

@@ -4,6 +4,7 @@ pub mod Comparing
 pub mod SharedRow
 pub mod Sharing
 pub mod MergedRow
+pub mod Rewritten
 pub mod Members
 pub mod StarCells
 pub mod StarReady

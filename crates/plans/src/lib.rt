@@ -2,6 +2,7 @@
 pub mod common;
 pub mod merge_back;
 pub mod prune;
+pub mod rewrite;
 pub mod rows;
 pub mod share;
 pub mod shrink;

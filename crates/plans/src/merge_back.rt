@@ -1,4 +1,6 @@
 // Merge back: the step's conditions, and the new table.
+use crate::rewrite;
+use crate::rewrite::Rewriting;
 use crate::rows;
 use crate::shrink;
 use crate::sums;
@@ -110,7 +112,7 @@ fn redirect(row: &mut [i32], into: i32, v: usize, o: usize, d: i32)
 }
 
 // o's row takes the arcs of v too, in `via`, with d taken off.
-fn merge_row(
+pub fn merge_row(
     row: &mut [i32],
     via: &[i32; Board::MAX_VERTICES],
     v: usize,
@@ -132,19 +134,10 @@ fn merge_row(
     redirect(row, into, v, o, d);
 }
 
-// The new table: row v is copied first, for two rows of one table cannot be lent together.
+// The new table.
 pub fn merge_back_apply(board: Board, table: &mut [i32], v: usize, o: usize, d: i32)
     requires { ⌜ Lent board (now table) × Drives (board .vertices) (now table) v o d × T (mergeFits (board .vertices) (graphOf (board .vertices) (now table)) v o d) ⌝ }
     ensures { λ _. ⌜ now (table .exit) ≡ withGraph (board .vertices) (mergedBack v o d (graphOf (board .vertices) (now (table .entry)))) (now (table .entry)) ⌝ }
 {
-    let n = board.vertices;
-    let from = n * v;
-    let via = rows::row_copy(&table[from..], n);
-    let mut u = 0;
-    while u < n {
-        let at = n * u;
-        let end = at + n;
-        merge_row(&mut table[at..end], &via, v, o, d, u);
-        u += 1;
-    }
+    rewrite::rewrite(board, table, Rewriting::MergeBack(v, o, d));
 }

@@ -1,6 +1,8 @@
 // Share inputs and share outputs: the steps' conditions, and the new tables.
 use crate::common;
 use crate::common::Seen;
+use crate::rewrite;
+use crate::rewrite::Rewriting;
 use crate::rows;
 use crate::verdict::Difference;
 use paths::Board;
@@ -53,7 +55,7 @@ fn take_over(row: &mut [i32], via: &[i32; Board::MAX_VERTICES])
 }
 
 // The row of u: k takes over a's arcs, in `via`, and a and b keep one to k.
-fn share_inputs_row(
+pub fn share_inputs_row(
     row: &mut [i32],
     via: &[i32; Board::MAX_VERTICES],
     a: usize,
@@ -78,25 +80,16 @@ fn share_inputs_row(
     }
 }
 
-// The new table of share inputs: row a is copied first, for two rows of one table cannot be lent together.
+// The new table of share inputs.
 pub fn share_inputs_apply(board: Board, table: &mut [i32], a: usize, b: usize, k: usize, e: i32)
     requires { ⌜ Lent board (now table) × (a < board .vertices) × (k < board .vertices) ⌝ }
     ensures { λ _. ⌜ now (table .exit) ≡ withGraph (board .vertices) (inputsShared a b k e (graphOf (board .vertices) (now (table .entry)))) (now (table .entry)) ⌝ }
 {
-    let n = board.vertices;
-    let from = n * a;
-    let via = rows::row_copy(&table[from..], n);
-    let mut u = 0;
-    while u < n {
-        let at = n * u;
-        let end = at + n;
-        share_inputs_row(&mut table[at..end], &via, a, b, k, e, u);
-        u += 1;
-    }
+    rewrite::rewrite(board, table, Rewriting::ShareInputs(a, b, k, e));
 }
 
 // The row of u: of the arcs into b, a's is left.
-fn share_outputs_row(row: &mut [i32], a: usize, b: usize, e: i32, u: usize)
+pub fn share_outputs_row(row: &mut [i32], a: usize, b: usize, e: i32, u: usize)
     requires { ⌜ b < length (now row) ⌝ }
     ensures { λ _. ⌜ now (row .exit) ≡ tabulate (length (now (row .entry))) (outputsCell (now (row .entry)) a b e u) ⌝ }
 {
@@ -112,14 +105,7 @@ pub fn share_outputs_apply(board: Board, table: &mut [i32], a: usize, b: usize, 
     requires { ⌜ Lent board (now table) × (b < board .vertices) ⌝ }
     ensures { λ _. ⌜ now (table .exit) ≡ withGraph (board .vertices) (outputsShared a b e (graphOf (board .vertices) (now (table .entry)))) (now (table .entry)) ⌝ }
 {
-    let n = board.vertices;
-    let mut u = 0;
-    while u < n {
-        let at = n * u;
-        let end = at + n;
-        share_outputs_row(&mut table[at..end], a, b, e, u);
-        u += 1;
-    }
+    rewrite::rewrite(board, table, Rewriting::ShareOutputs(a, b, e));
 }
 
 fn two_outputs(board: Board, a: usize, b: usize) -> bool

@@ -1,4 +1,6 @@
 // Shrink: the step's conditions, and the new table.
+use crate::rewrite;
+use crate::rewrite::Rewriting;
 use crate::rows;
 use crate::sums;
 use crate::verdict::Fit;
@@ -109,7 +111,7 @@ fn bypass(row: &mut [i32], via: &[i32; Board::MAX_VERTICES], k: usize)
     row[k] = Board::ABSENT;
 }
 
-fn shrink_row(row: &mut [i32], via: &[i32; Board::MAX_VERTICES], k: usize, u: usize)
+pub fn shrink_row(row: &mut [i32], via: &[i32; Board::MAX_VERTICES], k: usize, u: usize)
     requires { ⌜ Shrinkable (now row) (now via) k ⌝ }
     ensures { λ _. ⌜ now (row .exit) ≡ tabulate (length (now (row .entry))) (shrunkCell (now (row .entry)) (now (via .entry)) k u) ⌝ }
 {
@@ -120,19 +122,10 @@ fn shrink_row(row: &mut [i32], via: &[i32; Board::MAX_VERTICES], k: usize, u: us
     bypass(row, via, k);
 }
 
-// The new table: row k is copied first, for two rows of one table cannot be lent together.
+// The new table.
 pub fn shrink_apply(board: Board, table: &mut [i32], k: usize)
     requires { ⌜ Lent board (now table) × (k < board .vertices) × T (every (board .vertices) (λ u. every (board .vertices) (λ t. fits delayLimit (graphOf (board .vertices) (now table) u k ⊕ graphOf (board .vertices) (now table) k t)))) ⌝ }
     ensures { λ _. ⌜ now (table .exit) ≡ withGraph (board .vertices) (shrunk k (graphOf (board .vertices) (now (table .entry)))) (now (table .entry)) ⌝ }
 {
-    let n = board.vertices;
-    let from = n * k;
-    let via = rows::row_copy(&table[from..], n);
-    let mut u = 0;
-    while u < n {
-        let at = n * u;
-        let end = at + n;
-        shrink_row(&mut table[at..end], &via, k, u);
-        u += 1;
-    }
+    rewrite::rewrite(board, table, Rewriting::Shrink(k));
 }

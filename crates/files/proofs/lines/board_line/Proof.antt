@@ -1,86 +1,45 @@
 use borrow.Author.Needs.{needs}
-use mathlib.Core.List.{List, [], _∷_}
-use Prim.Native.Nat.{ℕ}
+use mathlib.Core.Path.{_≡_}
 use native.Mathlib.Omega.{arith}
-use Rattle.format.specs.Text.{decimal, boardLine}
-use Rattle.files.proofs.Wording.{WordsLeft, first-word, word-fits, next-word, end-fits, line-end}
+use lib.Dec.{le→leb}
+use lib.IntN.{pos}
+use mir.Syntax.{w32}
+use mir.Val.{toZ}
+use mir.Facts.{toZ-pos}
+use Rattle.timing.specs.Limits.{delayLimit}
 use Rattle.files.proofs.lines.board_line.Statement.{statement}
 use Rattle.files.proofs.lines.board_line.Tie as tie
 
-module _ (s : tie.Start) where
-  abbrev inputs : List ℕ
-  inputs = decimal (s .args .inputs)
+-- as the code holds it
+held : (s : tie.Start) → toZ w32 (s .args .vertices) ≡ pos (s .args .vertices)
+held s = toZ-pos w32 (omega (arith, s .pre .2))
 
-  abbrev outputs : List ℕ
-  outputs = decimal (s .args .outputs)
+slice-aggregate-triple-line : tie.Need-slice-aggregate-triple-line
+slice-aggregate-triple-line c = search needs
 
-  abbrev vertices : List ℕ
-  vertices = decimal (s .args .vertices)
+cast-triple-line : tie.Need-cast-triple-line
+cast-triple-line c = search needs
 
-  abbrev Left : List (List ℕ) → List ℕ → ℕ → Type 0
-  Left ws out p = WordsLeft (boardLine (record { inputs = s .args .inputs; outputs = s .args .outputs; vertices = s .args .vertices })) (s .args .out .now) (s .args .at) ws out p
-
-module _ (c : tie.After-put-text) where
-  abbrev s : tie.Start
-  s = c .before .before .before .before
-
-  left-inputs : Left s (inputs s ∷ outputs s ∷ vertices s ∷ []) (c .put-text .last .0) (c .put-text .result)
-  left-inputs = first-word (c .put-text .ensures)
-
-module _ (c : tie.After-put-number) where
-  abbrev a : tie.After-put-text
-  a = c .before .before .before .before
-
-  left-outputs : Left (s a) (outputs (s a) ∷ vertices (s a) ∷ []) (c .put-number .last .0) (c .put-number .result)
-  left-outputs = next-word (left-inputs a) (c .put-number .ensures)
-
-module _ (c : tie.After-put-number2) where
-  abbrev b : tie.After-put-number
-  b = c .before .before .before .before
-
-  left-vertices : Left (s (a b)) (vertices (s (a b)) ∷ []) (c .put-number2 .last .0) (c .put-number2 .result)
-  left-vertices = next-word (left-outputs b) (c .put-number2 .ensures)
-
-module _ (c : tie.After-put-number3) where
-  abbrev d : tie.After-put-number2
-  d = c .before .before .before .before
-
-  left-none : Left (s (a (b d))) [] (c .put-number3 .last .0) (c .put-number3 .result)
-  left-none = next-word (left-vertices d) (c .put-number3 .ensures)
-
-slice-aggregate-put-text : tie.Need-slice-aggregate-put-text
-slice-aggregate-put-text c = search needs
-
-put-text-requires : tie.Need-put-text-requires
-put-text-requires c κs = search needs
-
-put-number-requires : tie.Need-put-number-requires
-put-number-requires c κs = let t = c .before .before .before in (omega (arith, s t .pre .0), word-fits (left-inputs t) (s t .pre .3))
-
-put-number-requires-2 : tie.Need-put-number-requires-2
-put-number-requires-2 c κs = let t = c .before .before .before in (omega (arith, s (a t) .pre .1), word-fits (left-outputs t) (s (a t) .pre .3))
-
-put-number-requires-3 : tie.Need-put-number-requires-3
-put-number-requires-3 c κs = let t = c .before .before .before in (omega (arith, s (a (b t)) .pre .2), word-fits (left-vertices t) (s (a (b t)) .pre .3))
-
-put-byte-requires : tie.Need-put-byte-requires
-put-byte-requires c κs = let t = c .before .before .before in omega (arith, end-fits (left-none t) (s (a (b (d t))) .pre .3))
+triple-line-requires : tie.Need-triple-line-requires
+triple-line-requires c κs =
+    let s = c .before .before .before in
+    simp (held s) (omega (arith, s .pre .0), omega (arith, s .pre .1), le→leb (s .args .vertices) delayLimit (omega (arith, s .pre .2)), s .pre .3)
 
 same-length : tie.Need-same-length
 same-length c = search needs
 
 returns : tie.Need-returns
-returns c = let end = c .before .before in line-end (left-none (end .before .before .before .before)) (end .put-byte .ensures)
+returns c =
+    let l = c .before .before in
+    let s = l .before .before .before .before in
+    rw (held s) at (l .triple-line .ensures)
 
 pub board-line-spec : {M : Type 1} → statement M
 board-line-spec =
     tie.close
     (tie.spec
-    slice-aggregate-put-text
-    put-text-requires
-    put-number-requires
-    put-number-requires-2
-    put-number-requires-3
-    put-byte-requires
+    slice-aggregate-triple-line
+    cast-triple-line
+    triple-line-requires
     same-length
     returns)

@@ -1,12 +1,12 @@
 use borrow.Author.Needs.{needs}
-use mathlib.Core.Path.{_≡_, sym, subst}
-use Prim.Native.Nat.{ℕ, _+_, _-_, _*_, _≤_, _<_}
+use mathlib.Core.Path.{_≡_, subst}
+use Prim.Native.Nat.{ℕ, _-_, _*_, _≤_}
 use native.Mathlib.Omega.{arith}
 use lib.IntN.{ℤ}
-use lib.ListN.{length, set}
+use lib.ListN.{length}
 use mir.Syntax.{w32}
 use mir.Val.{toZ, ofZ}
-use Rattle.laws.proofs.Grid.{row-in, area}
+use Rattle.laws.proofs.Grid.{area}
 use Rattle.timing.specs.Limits.{maxVertices}
 use Rattle.files.specs.declared.place.Next.{Next}
 use Rattle.files.specs.declared.place.Next.the-variants as X
@@ -79,33 +79,23 @@ module _ (c : tie.After-known-told Inv-loop μ-loop) where
   room : n * n ≤ length (asked .before .loop .table)
   room = omega (arith, start asked .pre .2, asked .before .loop .inv .size)
 
-  cell : n * u + v < length (asked .before .loop .table)
-  cell = omega (arith, room, row-in n u (arc .1 .0), arc .1 .1)
-
-  small : n * u + v < 8100
-  small = omega (arith, area n maxVertices (start asked .pre .1), row-in n u (arc .1 .0), arc .1 .1)
+cell-of-requires : tie.Need-cell-of-requires Inv-loop μ-loop
+cell-of-requires c κs = (start (asked c) .pre .1, arc c .1 .0, arc c .1 .1)
 
 mul-d : tie.Need-mul-d Inv-loop μ-loop
-mul-d c = omega (arith, small c)
-
-add-d : tie.Need-add-d Inv-loop μ-loop
-add-d c = omega (arith, small c)
-
-mul-d-2 : tie.Need-mul-d-2 Inv-loop μ-loop
-mul-d-2 c = omega (arith, small c)
+mul-d o = let c = o .before in omega (arith, o .cell-of .ensures .1, area (n c) maxVertices (start (asked c) .pre .1))
 
 slice-set-from-d : tie.Need-slice-set-from-d Inv-loop μ-loop
-slice-set-from-d c = cell c
+slice-set-from-d o = omega (arith, o .cell-of .ensures .1, room (o .before))
 
 loop-less : tie.Need-loop-less Inv-loop μ-loop
-loop-less c = omega (arith, arc c .1 .2, arc c .1 .3)
+loop-less o = let a = arc (o .before) in omega (arith, a .1 .2, a .1 .3)
 
 loop-again : tie.Need-loop-again Inv-loop μ-loop
-loop-again c =
+loop-again o =
+    let c = o .before in
     let l = asked c .before in
-    let t = l .loop .table in
-    subst (λ (z : ℤ). Placing (n c) (start (asked c) .args .bytes .now) (start (asked c) .args .table .now) (set t (n c * u c + v c) z) (after c)) (sym (delay-is c))
-    (placing-turn _ _ _ t (l .loop .at) (l .loop .inv) (start (asked c) .pre .2) (u c) (v c) (after c) (d c) (arc c))
+    simp (o .cell-of .ensures .0, delay-is c) (placing-turn _ _ _ (l .loop .table) (l .loop .at) (l .loop .inv) (start (asked c) .pre .2) (u c) (v c) (after c) (d c) (arc c))
 
 pub place-spec : {M : Type 1} → statement M
 place-spec =
@@ -119,9 +109,8 @@ place-spec =
     enum-told
     same-length
     returns
+    cell-of-requires
     mul-d
-    add-d
-    mul-d-2
     slice-set-from-d
     loop-less
     loop-again)

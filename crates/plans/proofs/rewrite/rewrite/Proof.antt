@@ -1,0 +1,185 @@
+use mathlib.Core.Path.{_≡_, refl, sym, ap, _∙_, subst}
+use mathlib.Core.List.{List, _++_}
+use Prim.Native.Nat.{ℕ, _≤_, _<_, _+_, _-_, _*_}
+use native.Mathlib.Omega.{arith}
+use lib.IntN.{ℤ}
+use lib.ListN.{length, take, drop}
+use Rattle.laws.specs.Lists.{rows}
+use Rattle.laws.proofs.Filling.{rows-none, row-lent, row-back}
+use Rattle.laws.proofs.Grid.{row-in}
+use Rattle.timing.specs.Limits.{absentCell}
+use Rattle.timing.specs.Table.{readCell, graphOf, withGraph}
+use Rattle.paths.proofs.Rows.{lent-cell, lent-long}
+use Rattle.plans.specs.declared.rewrite.Rewriting.{Rewriting}
+use Rattle.plans.specs.Rewritten.{rewritten, origin}
+use Rattle.plans.proofs.CopiedRow.{newCell, Copied}
+use Rattle.plans.proofs.RewrittenRows.{origin-below, row-fit, row-rewritten}
+use Rattle.plans.proofs.rewrite.rewrite.Statement.{statement}
+use Rattle.plans.proofs.rewrite.rewrite.Tie as tie
+
+abbrev Inv-loop : tie.InvT-loop
+Inv-loop table₀ how n from via u₀ table u = (u ≤ n) × (length table ≡ length table₀) × (table ≡ rows n u (newCell (rewritten how (graphOf n table₀))) ++ drop (n * u) table₀)
+
+abbrev μ-loop : tie.MeasureT-loop
+μ-loop table₀ how n from via u₀ table u = n - u
+
+origin-requires : tie.Need-origin-requires Inv-loop μ-loop
+origin-requires c κs = tt
+
+-- the origin is known
+module _ (c : tie.After-origin Inv-loop μ-loop) where
+  abbrev start : tie.Start Inv-loop μ-loop
+  start = c .before
+
+  abbrev n : ℕ
+  n = start .args .board .vertices
+
+  abbrev t : List ℤ
+  t = start .args .table .now
+
+  abbrev how : Rewriting
+  how = start .args .how
+
+  abbrev k : ℕ
+  k = c .origin .result
+
+  abbrev new : ℕ → ℕ → ℤ
+  new = newCell (rewritten how (graphOf n t))
+
+  room : n * n ≤ length t
+  room = start .pre .0 .room
+
+  inside : k < n
+  inside = subst (λ (x : ℕ). x < n) (sym (c .origin .ensures)) (origin-below how n t (start .pre .1))
+
+  row-k : n * k + n ≤ n * n
+  row-k = row-in n k inside
+
+mul-from : tie.Need-mul-from Inv-loop μ-loop
+mul-from c = omega (arith, row-k c, room c)
+
+mul-row-copy : tie.Need-mul-row-copy Inv-loop μ-loop
+mul-row-copy c = omega (arith, row-k c, room c)
+
+sub-row-copy : tie.Need-sub-row-copy Inv-loop μ-loop
+sub-row-copy c = omega (arith, row-k c, room c)
+
+part-row-copy-start : tie.Need-part-row-copy-start Inv-loop μ-loop
+part-row-copy-start c = omega (arith, row-k (c .before), room (c .before))
+
+part-row-copy-end : tie.Need-part-row-copy-end Inv-loop μ-loop
+part-row-copy-end c = omega arith
+
+row-copy-requires : tie.Need-row-copy-requires Inv-loop μ-loop
+row-copy-requires c κs = let o = c .before .before in (start o .pre .0 .sized .few, lent-long (n o) (t o) (k o) (room o) (inside o))
+
+loop-holds : tie.Need-loop-holds Inv-loop μ-loop
+loop-holds c = (omega arith, refl, rows-none _ _ _)
+
+-- a turn
+module _ (c : tie.In-loop Inv-loop μ-loop) where
+  abbrev copy : tie.After-row-copy Inv-loop μ-loop
+  copy = c .before .before
+
+  abbrev o : tie.After-origin Inv-loop μ-loop
+  o = copy .before .before .before
+
+  abbrev via : List ℤ
+  via = copy .row-copy .result
+
+  copied : Copied (n o) (t o) via (origin (how o))
+  copied = subst (Copied (n o) (t o) via) (o .origin .ensures) (record {
+    few = start o .pre .0 .sized .few;
+    room = room o;
+    inside = inside o;
+    same = λ v h. ap (readCell absentCell) (copy .row-copy .ensures v h) ∙ lent-cell (n o) (t o) (k o) (room o) (inside o) v h;
+  })
+
+  abbrev u : ℕ
+  u = c .before .loop .u
+
+  row : n o * u + n o ≤ n o * n o
+  row = row-in (n o) u (c .loop-test .taken)
+
+  abbrev lent : List ℤ
+  lent = take (n o * u + n o - n o * u) (drop (n o * u) (c .before .loop .table))
+
+  lent-is : lent ≡ take (n o) (drop (n o * u) (t o))
+  lent-is = row-lent (n o) (new o) (t o) (c .before .loop .table) u (c .before .loop .inv .2)
+
+mul-at : tie.Need-mul-at Inv-loop μ-loop
+mul-at c = omega (arith, row c, room (o c))
+
+add-end : tie.Need-add-end Inv-loop μ-loop
+add-end c = omega (arith, row c, room (o c))
+
+mul-rewrite-row : tie.Need-mul-rewrite-row Inv-loop μ-loop
+mul-rewrite-row c = omega (arith, row c, room (o c))
+
+sub-rewrite-row : tie.Need-sub-rewrite-row Inv-loop μ-loop
+sub-rewrite-row c = omega (arith, row c, room (o c))
+
+part-rewrite-row-start : tie.Need-part-rewrite-row-start Inv-loop μ-loop
+part-rewrite-row-start c = omega (arith, row c, room (o c))
+
+part-rewrite-row-end : tie.Need-part-rewrite-row-end Inv-loop μ-loop
+part-rewrite-row-end c = omega (arith, row c, room (o c))
+
+rewrite-row-requires : tie.Need-rewrite-row-requires Inv-loop μ-loop
+rewrite-row-requires c κs =
+    let i = c .before .before in
+    let b = o i in
+    row-fit (n b) (t b) (via i) (u i) (i .loop-test .taken) (lent i) (lent-is i) (how b) (copied i) (start b .pre .1)
+
+add-u : tie.Need-add-u Inv-loop μ-loop
+add-u c = omega arith
+
+loop-less : tie.Need-loop-less Inv-loop μ-loop
+loop-less c = omega arith
+
+loop-again : tie.Need-loop-again Inv-loop μ-loop
+loop-again c =
+    let i = c .before .before .before .before in
+    let b = o i in
+    let l = i .before in (
+      omega (arith, i .loop-test .taken),
+      c .table2 .given .1 ∙ l .loop .inv .1,
+      row-back (n b) (new b) (t b) (l .loop .table) (u i) (l .loop .inv .2) (c .before .rewrite-row .last .0)
+          (row-rewritten (n b) (t b) (via i) (u i) (i .loop-test .taken) (lent i) (lent-is i) (how b) (copied i) (start b .pre .1) (c .before .rewrite-row .ensures)),
+    )
+
+same-length : tie.Need-same-length Inv-loop μ-loop
+same-length c = c .before .loop .inv .1
+
+returns : tie.Need-returns Inv-loop μ-loop
+unfolding withGraph
+returns c =
+    let e : c .before .loop .u ≡ n (c .before .before .before .before .before) = omega arith in
+    rw e at (c .before .loop .inv .2)
+
+pub rewrite-spec : {M : Type 1} → statement M
+rewrite-spec =
+    tie.close
+    (tie.spec
+    Inv-loop
+    μ-loop
+    origin-requires
+    mul-from
+    mul-row-copy
+    sub-row-copy
+    part-row-copy-start
+    part-row-copy-end
+    row-copy-requires
+    loop-holds
+    mul-at
+    add-end
+    mul-rewrite-row
+    sub-rewrite-row
+    part-rewrite-row-start
+    part-rewrite-row-end
+    rewrite-row-requires
+    add-u
+    loop-less
+    loop-again
+    same-length
+    returns)
