@@ -21,8 +21,3 @@ pub mod SharedRows
 pub mod RewrittenRows
 pub mod ShareConditions
 pub mod Vectors
-pub mod TightPaths
-pub mod TightCells
-pub mod AliveSweep
-pub mod MarkedRows
-pub mod PruneOutcome

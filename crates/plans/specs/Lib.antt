@@ -8,5 +8,3 @@ pub mod Rewritten
 pub mod Members
 pub mod StarCells
 pub mod StarReady
-pub mod TightArcs
-pub mod PruneMarks

@@ -1,7 +1,6 @@
 // Each step's plan on a table that has passed its checks: its conditions, and its new table.
 pub mod common;
 pub mod merge_back;
-pub mod prune;
 pub mod rewrite;
 pub mod rows;
 pub mod share;

@@ -25,7 +25,7 @@ use Rattle.paths.proofs.Answering.{call-is}
 use Rattle.plans.specs.declared.verdict.Fit.{Fit}
 use Rattle.plans.specs.declared.verdict.Fit.the-variants as F
 use Rattle.plans.specs.Verdict.{fitMeaning}
-use Rattle.plans.specs.PruneMarks.{ifAccepted}
+use Rattle.pruning.specs.PruneMarks.{ifAccepted}
 use Rattle.steps.specs.declared.answer.Answer.{Answer}
 use Rattle.steps.specs.declared.answer.Answer.the-variants as A
 use Rattle.steps.specs.declared.step.Step as S

@@ -2,13 +2,13 @@
 use paths::Board;
 use paths::cells;
 use plans::merge_back;
-use plans::prune;
 use plans::share;
 use plans::shrink;
 use plans::star;
 use plans::verdict::Difference;
 use plans::verdict::Driven;
 use plans::verdict::Fit;
+use pruning::prune;
 ghost use mathlib.Core.Path.{_≡_};
 ghost use Prim.Native.Nat.{_≤_};
 ghost use lib.ListN.{length, drop};

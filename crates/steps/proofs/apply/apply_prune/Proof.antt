@@ -2,7 +2,7 @@ use borrow.Author.Needs.{needs}
 use Rattle.timing.specs.Table.{graphOf}
 use Rattle.reduction.specs.Prune.{pruneVerdict, pruned}
 use Rattle.reduction.specs.Steps.{plan}
-use Rattle.plans.specs.PruneMarks.{tableAfterPrune}
+use Rattle.pruning.specs.PruneMarks.{tableAfterPrune}
 use Rattle.steps.proofs.Reducing.{step-wrote}
 use Rattle.steps.proofs.apply.apply_prune.Statement.{statement}
 use Rattle.steps.proofs.apply.apply_prune.Tie as tie

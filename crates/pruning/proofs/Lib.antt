@@ -1,0 +1,5 @@
+pub mod TightPaths
+pub mod TightCells
+pub mod AliveSweep
+pub mod MarkedRows
+pub mod PruneOutcome
