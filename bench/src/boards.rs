@@ -1,28 +1,37 @@
-//! The four boards, always the same.
+//! The boards, always the same.
 
 use second::board::Board;
 
-pub const NAMES: [&str; 4] = ["dense", "ones", "layered", "sparse"];
+/// Boards of 90 vertices.
+pub const NAMES: [&str; 6] = ["dense", "ones", "layered", "sparse", "ladder", "fans"];
 
+/// The board of a name; of the first four also smaller ones, as `dense30`.
 pub fn board(name: &str) -> Option<(Board, Vec<i32>)> {
+    let kind = name.trim_end_matches(|c: char| c.is_ascii_digit());
+    let vertices = match &name[kind.len()..] {
+        "" => Board::MOST_VERTICES,
+        digits => digits.parse().ok()?,
+    };
     let mut random = Random(20_261_116);
-    match name {
-        "dense" => Some(dense(&mut random)),
-        "ones" => Some(ones()),
-        "layered" => Some(layered(&mut random)),
-        "sparse" => Some(sparse(&mut random)),
+    match kind {
+        "dense" => Some(dense(&mut random, vertices)),
+        "ones" => Some(ones(vertices)),
+        "layered" => Some(layered(&mut random, vertices)),
+        "sparse" => Some(sparse(&mut random, vertices)),
+        "ladder" => Some(ladder(vertices)),
+        "fans" => Some(fans(vertices)),
         _ => None,
     }
 }
 
-fn sized(ends: usize) -> (Board, Vec<i32>) {
-    let board = Board { inputs: ends, outputs: ends, vertices: Board::MOST_VERTICES };
+fn sized(inputs: usize, outputs: usize, vertices: usize) -> (Board, Vec<i32>) {
+    let board = Board { inputs, outputs, vertices };
     (board, vec![Board::ABSENT; board.cells()])
 }
 
 /// Every arc that fits one random order of the vertices.
-fn dense(random: &mut Random) -> (Board, Vec<i32>) {
-    let (board, mut table) = sized(30);
+fn dense(random: &mut Random, vertices: usize) -> (Board, Vec<i32>) {
+    let (board, mut table) = sized(vertices / 3, vertices / 3, vertices);
     let order = random.order(board.vertices);
     for (place, &u) in order.iter().enumerate() {
         for &v in order[place + 1..].iter().filter(|&&v| v >= board.inputs) {
@@ -33,8 +42,8 @@ fn dense(random: &mut Random) -> (Board, Vec<i32>) {
 }
 
 /// Every arc to a higher number that isn't an input, all of delay 1.
-fn ones() -> (Board, Vec<i32>) {
-    let (board, mut table) = sized(30);
+fn ones(vertices: usize) -> (Board, Vec<i32>) {
+    let (board, mut table) = sized(vertices / 3, vertices / 3, vertices);
     for u in 0..board.vertices {
         let first = board.inputs.max(u + 1);
         board.row_mut(&mut table, u)[first..].fill(1);
@@ -42,14 +51,16 @@ fn ones() -> (Board, Vec<i32>) {
     (board, table)
 }
 
-/// The inputs, five layers of ten inner vertices, the outputs: each layer whole to the next.
-fn layered(random: &mut Random) -> (Board, Vec<i32>) {
-    let (board, mut table) = sized(20);
-    let inner = 2 * board.inputs;
+/// The inputs, five layers of inner vertices, the outputs: each layer whole to the next.
+fn layered(random: &mut Random, vertices: usize) -> (Board, Vec<i32>) {
+    let ends = vertices * 2 / 9;
+    let (board, mut table) = sized(ends, ends, vertices);
+    let inner = 2 * ends;
+    let wide = (vertices - inner) / 5;
     let mut layers = Vec::new();
-    layers.push(0..board.inputs);
-    layers.extend((0..5).map(|layer| inner + 10 * layer..inner + 10 * (layer + 1)));
-    layers.push(board.inputs..inner);
+    layers.push(0..ends);
+    layers.extend((0..5).map(|layer| inner + wide * layer..inner + wide * (layer + 1)));
+    layers.push(ends..inner);
     for pair in layers.windows(2) {
         for u in pair[0].clone() {
             for v in pair[1].clone() {
@@ -61,8 +72,9 @@ fn layered(random: &mut Random) -> (Board, Vec<i32>) {
 }
 
 /// Three arcs out of each vertex to random later ones of one random order, where there are three.
-fn sparse(random: &mut Random) -> (Board, Vec<i32>) {
-    let (board, mut table) = sized(20);
+fn sparse(random: &mut Random, vertices: usize) -> (Board, Vec<i32>) {
+    let ends = vertices * 2 / 9;
+    let (board, mut table) = sized(ends, ends, vertices);
     let order = random.order(board.vertices);
     for (place, &u) in order.iter().enumerate() {
         let mut later = order[place + 1..].to_vec();
@@ -71,6 +83,38 @@ fn sparse(random: &mut Random) -> (Board, Vec<i32>) {
             let v = later.swap_remove(random.below(later.len()));
             table[board.vertices * u + v] = random.delay();
         }
+    }
+    (board, table)
+}
+
+/// One input, and each output drives the two before it: every pair of outputs has a common
+/// difference, and nearly every one a path back.
+fn ladder(vertices: usize) -> (Board, Vec<i32>) {
+    let (board, mut table) = sized(1, vertices - 1, vertices);
+    for v in 1..vertices {
+        for u in [v + 1, v + 2] {
+            table[if u < vertices { vertices * u + v } else { v }] = 1;
+        }
+    }
+    (board, table)
+}
+
+/// One input, a chain of inner vertices to the first output, and every other output fed twice from
+/// its start: each share with the first output is accepted, and asks for a new order.
+fn fans(vertices: usize) -> (Board, Vec<i32>) {
+    let outputs = vertices * 2 / 3;
+    let (board, mut table) = sized(1, outputs, vertices);
+    let inner = 1 + outputs;
+    let mut arc = |u: usize, v: usize| table[vertices * u + v] = 1;
+    arc(0, inner);
+    for v in inner..vertices - 1 {
+        arc(v, v + 1);
+    }
+    arc(vertices - 2, 1);
+    arc(vertices - 1, 1);
+    for v in 2..inner {
+        arc(0, v);
+        arc(inner, v);
     }
     (board, table)
 }

@@ -2,6 +2,7 @@
 ghost use mathlib.Core.Path.{_≡_};
 ghost use Prim.Native.Nat.{_<_, _^_, _%_};
 ghost use Rattle.codec.specs.Bytes.{Room, unsignedAt, withNumber};
+ghost use Rattle.laws.specs.Lent.{was};
 
 fn wide(x: u8) -> u64
     ensures { λ r. ⌜ (r ≡ x) × (r < 256) ⌝ }
@@ -12,7 +13,7 @@ fn wide(x: u8) -> u64
 // The number in the bytes from `at` on.
 pub fn number(bytes: &[u8], at: usize, width: usize) -> u64
     requires { ⌜ Room (now bytes) at width ⌝ }
-    ensures { λ r. ⌜ r ≡ unsignedAt width (now (bytes .entry)) at ⌝ }
+    ensures { λ r. ⌜ r ≡ unsignedAt width (was bytes) at ⌝ }
 {
     let mut x: u64 = 0;
     let mut i = 0;
@@ -32,8 +33,9 @@ fn low(x: u64) -> u8
 
 // Writes the number into the bytes from `at` on.
 pub fn put_number(bytes: &mut [u8], at: usize, width: usize, x: u64)
-    requires { ⌜ Room (now bytes) at width × (x < 256 ^ width) ⌝ }
-    ensures { λ _. ⌜ now (bytes .exit) ≡ withNumber width (now (bytes .entry)) at x ⌝ }
+    requires { ⌜ Room (now bytes) at width ⌝ }
+    requires { ⌜ x < 256 ^ width ⌝ }
+    ensures { λ _. ⌜ now (bytes .exit) ≡ withNumber width (was bytes) at x ⌝ }
 {
     let mut rest = x;
     let mut i = 0;

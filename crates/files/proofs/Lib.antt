@@ -1,6 +1,3 @@
-pub mod CellCodes
-pub mod Ends
-pub mod AcceptedRecords
 pub mod Turning
 pub mod Scanning
 pub mod TableGraphs
@@ -10,17 +7,8 @@ pub mod Readings
 pub mod Opening
 pub mod Loading
 pub mod FirstMark
-pub mod Appending
-pub mod Remaining
 pub mod Turns
 pub mod ArcParts
 pub mod ArcForms
 pub mod ArcRecords
 pub mod FileAnswers
-pub mod Decimal
-pub mod Signs
-pub mod Wording
-pub mod TextLengths
-pub mod Offsets
-pub mod RunTexts
-pub mod ThinTexts

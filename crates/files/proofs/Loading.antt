@@ -1,6 +1,5 @@
 -- The records after the first: the answer and the table, from the answers of the parts.
 use mathlib.Core.Path.{_≡_, refl, sym, ap, _∙_}
-use mathlib.Core.Bool.{Bool, true, false}
 use mathlib.Core.List.{List, _++_}
 use Prim.Native.Nat.{ℕ}
 use native.Mathlib.Omega.{arith}
@@ -10,20 +9,24 @@ use Rattle.laws.specs.Lists.{rows}
 use Rattle.graph.specs.Delay.{absent, at}
 use Rattle.graph.specs.Graph.{Graph}
 use Rattle.timing.specs.declared.Refusal.{Refusal}
-use Rattle.timing.specs.declared.Refusal.the-variants.{ArcIntoInput, Cycle}
 use Rattle.timing.specs.Limits.{absentCell}
-use Rattle.timing.specs.Refusal.{number}
+use Rattle.timing.specs.Refusal.{number, Verdict, refused, accepted, _then_}
 use Rattle.timing.specs.Table.{writeCell, graphOf, withGraph}
-use Rattle.timing.specs.Checks.{noArcIntoInput, noCycle}
+use Rattle.timing.specs.Checks.{arcsChecked}
+use Rattle.timing.proofs.Checks.{arcs-accepted}
+use Rattle.timing.proofs.Verdict.{then-accepted}
 use Rattle.timing.proofs.Table.{graphOf-withGraph, length-withGraph, drop-withGraph}
-use Rattle.format.specs.Reading.{Reading, stopped, got, ask, BoardSizes, opened, recordsFrom, arcsFrom, noArcs, fileGraph, arcsRead, readCall, graphRead, tableRead}
+use Rattle.format.specs.Reading.{Reading, stopped, got, placed, BoardSizes, opened, recordsFrom, arcsFrom, noArcs, fileGraph, fileChecked, arcsRead, readCall, graphRead, tableRead}
 use Rattle.paths.specs.declared.board.Board.{Board}
-use Rattle.paths.specs.Board.{Lent}
+use Rattle.paths.specs.declared.board.Made.{Made}
+use Rattle.paths.specs.declared.board.Made.the-variants as M
+use Rattle.paths.specs.Board.{boardMeaning, Lent, graphIn}
+use Rattle.paths.specs.Checked.{ArcsChecking}
 use Rattle.files.specs.declared.scan.Scanned.{Scanned}
 use Rattle.files.specs.declared.scan.Scanned.the-variants as S
 use Rattle.files.specs.Scan.{scanMeaning}
-use Rattle.files.specs.Read.{graphChecked, passed, Loads}
-use Rattle.files.proofs.Readings.{next-on, next-off, next-stopped}
+use Rattle.files.specs.Read.{sizesOf, passed, Loads}
+use Rattle.files.proofs.Readings.{next-on, next-off}
 
 -- ---- tables
 
@@ -41,41 +44,44 @@ blank-graph N t = graphOf-withGraph N noArcs t (record { in-range = λ u v k. ab
 pub blank-lent : (b : Board) (t x : List ℤ) → Lent b t → x ≡ withGraph (b .vertices) noArcs t → Lent b x
 blank-lent b t x h e = record { sized = h .sized; room = omega (arith, h .room, ap length e, length-withGraph (b .vertices) noArcs t (h .room)) }
 
--- ---- 5 and 6
+-- ---- the arcs, in a table without arcs, then 5 and 6
 
-module _ (m N : ℕ) (g : Graph) where
-  pub graph-got : passed (graphChecked m N g) ≡ got tt → graphChecked m N g ≡ got g
-  graph-got e = go (noArcIntoInput m N g) (noCycle N g) e
-    where
-      go : (a b : Bool) → passed (ask a ArcIntoInput 0 (ask b Cycle 0 (got g))) ≡ got tt → ask a ArcIntoInput 0 (ask b Cycle 0 (got g)) ≡ got g
-      go true true z = refl
-      go true false z = absurd (let w : _≡_ {A = ℕ} 0 1 = cc in omega arith)
-      go false b z = absurd (let w : _≡_ {A = ℕ} 0 1 = cc in omega arith)
+module _ (b : Board) (s : List ℕ) (t t₁ : List ℤ) (o : List ℕ) (empty : graphIn b t ≡ noArcs)
+    (graph : graphIn b t₁ ≡ arcsFrom (length s) (b .vertices) s 5 (graphIn b t)) (table : t₁ ≡ withGraph (b .vertices) (arcsFrom (length s) (b .vertices) s 5 (graphIn b t)) t)
+    (r : Made) (said : ArcsChecking b t₁ o r) where
+  abbrev m : ℕ
+  m = b .inputs
 
--- ---- the arcs, in a table without arcs
+  abbrev n : ℕ
+  n = b .vertices
 
-module _ (m N : ℕ) (s : List ℕ) (t t₁ : List ℤ) (empty : graphOf N t ≡ noArcs)
-    (graph : graphOf N t₁ ≡ arcsFrom (length s) N s 5 (graphOf N t)) (table : t₁ ≡ withGraph N (arcsFrom (length s) N s 5 (graphOf N t)) t)
-    (r : Scanned) (said : scanMeaning r ≡ passed (graphChecked m N (graphOf N t₁))) where
-  file-graph : arcsFrom (length s) N s 5 (graphOf N t) ≡ fileGraph N s
+  file-graph : arcsFrom (length s) (b .vertices) s 5 (graphIn b t) ≡ fileGraph (b .vertices) s
   unfolding fileGraph
-  file-graph = ap (arcsFrom (length s) N s 5) empty
+  file-graph = ap (arcsFrom (length s) n s 5) empty
 
-  answer : scanMeaning r ≡ passed (graphChecked m N (fileGraph N s))
-  answer = said ∙ ap (λ (g : Graph). passed (graphChecked m N g)) (graph ∙ file-graph)
+  answer : (arcsChecked (b .inputs) (b .vertices) (fileGraph (b .vertices) s) then λ _. accepted b) ≡ boardMeaning r
+  answer = sym (said .answer ∙ ap (λ (g : Graph). arcsChecked m n g then λ _. accepted b) (graph ∙ file-graph))
 
-  pub filled : r ≡ S.Done → Loads N (graphChecked m N (fileGraph N s)) t t₁ r
-  filled e = record {
-    answer = answer;
-    table = table ∙ ap (λ (g : Graph). withGraph N g t) (file-graph ∙ sym (ap graphRead (graph-got m N (fileGraph N s) (sym answer ∙ ap scanMeaning e))));
+  pub filled : (x : Board) → r ≡ M.Board x → Loads (b .vertices) (fileChecked (sizesOf b) s) t t₁ S.Done
+  filled x e = record { answer = sym (ap passed found); table = table ∙ ap (λ (g : Graph). withGraph n g t) (file-graph ∙ sym (ap graphRead found)) }
+    where
+      found : fileChecked (sizesOf b) s ≡ got (fileGraph (b .vertices) s)
+      found =
+          let p = then-accepted (arcsChecked m n (fileGraph n s)) _ x (answer ∙ ap boardMeaning e) in
+          ap (placed 0) (p .1 ∙ ap accepted (sym (arcs-accepted m n (fileGraph n s) (p .0) (p .1) .same)))
+
+  pub emptied : (x : Refusal) → r ≡ M.Refused x → (t₂ : List ℤ) → t₂ ≡ withGraph (b .vertices) noArcs t₁ → Loads (b .vertices) (fileChecked (sizesOf b) s) t t₂ (S.Refused x 0)
+  emptied x e t₂ q = record {
+    answer = sym (ap passed found);
+    table = q ∙ ap (withGraph n noArcs) table ∙ written-over n noArcs (arcsFrom (length s) n s 5 (graphIn b t)) t ∙ ap (λ (y : Reading Graph). withGraph n (graphRead y) t) (sym found);
   }
+    where
+      go : (v : Verdict Graph) → (v then λ _. accepted b) ≡ refused (number x) → placed 0 v ≡ stopped (number x) 0
+      go (refused y) z = (cc)
+      go (accepted y) z = absurd (let w : _≡_ {A = ℕ} 0 1 = cc in omega arith)
 
-  pub emptied : (x : Refusal) (p : ℕ) → r ≡ S.Refused x p → (t₂ : List ℤ) → t₂ ≡ withGraph N noArcs t₁ → Loads N (graphChecked m N (fileGraph N s)) t t₂ r
-  emptied x p e t₂ q = record {
-    answer = answer;
-    table = q ∙ ap (withGraph N noArcs) table ∙ written-over N noArcs (arcsFrom (length s) N s 5 (graphOf N t)) t
-        ∙ ap (λ (y : Reading Graph). withGraph N (graphRead y) t) (sym (next-stopped (graphChecked m N (fileGraph N s)) tt (number x) p (sym answer ∙ ap scanMeaning e)));
-  }
+      found : fileChecked (sizesOf b) s ≡ stopped (number x) 0
+      found = go (arcsChecked m n (fileGraph n s)) (answer ∙ ap boardMeaning e)
 
 -- ---- the records, then the arcs
 
@@ -85,7 +91,7 @@ module _ (b : BoardSizes) (s : List ℕ) (t t₁ : List ℤ) (blank : t₁ ≡ w
   N = b .vertices
 
   abbrev found : Reading Graph
-  found = graphChecked (b .inputs) (b .vertices) (fileGraph (b .vertices) s)
+  found = fileChecked b s
 
   read-on : r ≡ S.Done → arcsRead b s ≡ found
   unfolding arcsRead
@@ -95,7 +101,7 @@ module _ (b : BoardSizes) (s : List ℕ) (t t₁ : List ℤ) (blank : t₁ ≡ w
   unfolding arcsRead
   read-off x p e = simp (sym said ∙ ap scanMeaning e)
 
-  pub loaded : r ≡ S.Done → (t₂ : List ℤ) (x : Scanned) → Loads (b .vertices) (graphChecked (b .inputs) (b .vertices) (fileGraph (b .vertices) s)) t₁ t₂ x → Loads (b .vertices) (arcsRead b s) t t₂ x
+  pub loaded : r ≡ S.Done → (t₂ : List ℤ) (x : Scanned) → Loads (b .vertices) (fileChecked b s) t₁ t₂ x → Loads (b .vertices) (arcsRead b s) t t₂ x
   loaded e t₂ x h = record {
     answer = h .answer ∙ ap passed (sym (read-on e));
     table = h .table ∙ ap (withGraph N (graphRead found)) blank ∙ written-over N (graphRead found) noArcs t ∙ ap (λ (y : Reading Graph). withGraph N (graphRead y) t) (sym (read-on e));

@@ -23,7 +23,7 @@ use Rattle.format.specs.Reading.{withArc, arcOf}
 use Rattle.files.specs.declared.place.Next.{Next}
 use Rattle.files.specs.declared.place.Next.the-variants as X
 use Rattle.files.specs.Place.{nextGraph, NextWithin}
-use Rattle.files.proofs.AcceptedRecords.{legal}
+use Rattle.records.proofs.AcceptedRecords.{legal}
 
 -- a cell's ticks are no absent mark
 ticks-held : (c : ℕ) (z : ℤ) → ticksOf c ≡ accepted z → z ≢ absentCell

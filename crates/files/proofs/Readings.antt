@@ -23,7 +23,3 @@ next-on (got a) b c e = refl
 pub next-off : {A B C : Type 0} (x : Reading A) (b : B) (f : A → Reading C) (r p : ℕ) → (x next λ _. got b) ≡ stopped r p → (x next f) ≡ stopped r p
 next-off (stopped r p) b f k q e = cc
 next-off (got a) b f k q e = absurd (let z : _≡_ {A = ℕ} 0 1 = cc in omega arith)
-
-pub next-stopped : {A B : Type 0} (x : Reading A) (b : B) (r p : ℕ) → (x next λ _. got b) ≡ stopped r p → x ≡ stopped r p
-next-stopped (stopped r p) b k q e = cc
-next-stopped (got a) b k q e = absurd (let z : _≡_ {A = ℕ} 0 1 = cc in omega arith)

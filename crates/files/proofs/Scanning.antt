@@ -10,7 +10,7 @@ use Rattle.format.specs.Reading.{recordsFrom}
 use Rattle.files.specs.declared.scan.Cursor.{Cursor}
 use Rattle.files.specs.declared.scan.Turned.{Turned}
 use Rattle.files.specs.declared.scan.Turned.the-variants as T
-use Rattle.files.specs.Scan.{turnMeaning, foundSays, Within, Turns}
+use Rattle.files.specs.Scan.{turnMeaning, foundSays, InFile, Turns}
 
 -- turns that are enough begin with the record at the cursor: where none is left, so is no byte
 one-turn : (turns N : ℕ) (s : List ℕ) (c : Cursor) → length s ≤ turns + c .at → recordsFrom turns N s (c .at) (c .low) (c .count) ≡ foundSays N s c (recordAt N s (c .at)) (recordsFrom (turns - 1) N s)
@@ -25,7 +25,7 @@ pub record Left (N : ℕ) (s : List ℕ) (c : Cursor) : Type 0 where
   pub turns : ℕ
   pub enough : length s ≤ turns + c .at
   pub whole : recordsFrom turns N s (c .at) (c .low) (c .count) ≡ recordsFrom (length s) N s 5 0 0
-  pub within : Within (length s) c
+  pub within : InFile (length s) c
 
 pub all-left : (N : ℕ) (s : List ℕ) → 5 ≤ length s → Left N s (record { at = 5; low = 0; count = 0 })
 all-left N s h = record { turns = length s; enough = omega arith; whole = refl; within = record { inside = h; few = omega arith } }

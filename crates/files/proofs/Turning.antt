@@ -11,7 +11,7 @@ use Rattle.format.specs.Reading.{Reading, stopped, got}
 use Rattle.files.specs.declared.scan.Cursor.{Cursor}
 use Rattle.files.specs.declared.scan.Turned.{Turned}
 use Rattle.files.specs.declared.scan.Turned.the-variants as T
-use Rattle.files.specs.Scan.{Onward, recordSays, foundSays, Within, Turns}
+use Rattle.files.specs.Scan.{Onward, recordSays, foundSays, InFile, Turns}
 
 module _ {bytes : ℕ} {c : Cursor} {v : Onward → Reading (Unit {0})} where
   pub refuses : (x : Refusal) (p : ℕ) → ((onward : Onward) → stopped (number x) p ≡ v onward) → Turns bytes c v (T.Refused x p)
@@ -20,8 +20,8 @@ module _ {bytes : ℕ} {c : Cursor} {v : Onward → Reading (Unit {0})} where
   pub ends : ((onward : Onward) → got tt ≡ v onward) → Turns bytes c v T.Done
   ends h = record { meaning = h; further = λ d e. absurd (let z : _≡_ {A = ℕ} 0 1 = cc in omega arith) }
 
-  pub goes-on : (d : Cursor) → ((onward : Onward) → onward (d .at) (d .low) (d .count) ≡ v onward) → c .at < d .at → Within bytes d → Turns bytes c v (T.On d)
-  goes-on d h l w = record { meaning = h; further = λ x e. subst (λ (y : Cursor). (c .at < y .at) × Within bytes y) (same d x e) (l, w) }
+  pub goes-on : (d : Cursor) → ((onward : Onward) → onward (d .at) (d .low) (d .count) ≡ v onward) → c .at < d .at → InFile bytes d → Turns bytes c v (T.On d)
+  goes-on d h l w = record { meaning = h; further = λ x e. subst (λ (y : Cursor). (c .at < y .at) × InFile bytes y) (same d x e) (l, w) }
     where
       same : (x y : Cursor) → T.On x ≡ T.On y → x ≡ y
       same x y e = cc

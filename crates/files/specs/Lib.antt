@@ -1,9 +1,5 @@
-pub mod Records
 pub mod Scan
 pub mod Place
 pub mod Read
-pub mod Appending
 pub mod Writing
-pub mod Lines
 pub mod Forms
-pub mod Text

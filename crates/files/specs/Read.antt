@@ -4,15 +4,13 @@ use mathlib.Core.List.{List}
 use Prim.Native.Nat.{ℕ}
 use lib.IntN.{ℤ}
 use Rattle.graph.specs.Graph.{Graph}
-use Rattle.timing.specs.declared.Refusal.the-variants.{Sizes, TableShort, ScratchShort, ArcIntoInput, Cycle}
 use Rattle.timing.specs.Refusal.{number}
 use Rattle.timing.specs.Table.{withGraph}
-use Rattle.timing.specs.Checks.{sizesFit, tableFits, scratchFits, noArcIntoInput, noCycle}
-use Rattle.format.specs.Reading.{Reading, stopped, got, ask, _next_, BoardSizes, graphRead}
+use Rattle.format.specs.Reading.{Reading, stopped, got, placed, _next_, BoardSizes, sizes, graphRead}
 use Rattle.paths.specs.declared.board.Board.{Board}
 use Rattle.paths.specs.declared.board.Made.{Made}
 use Rattle.paths.specs.declared.board.Made.the-variants as M
-use Rattle.paths.specs.Board.{Lent}
+use Rattle.paths.specs.Board.{boardMeaning, Lent}
 use Rattle.files.specs.declared.answer.Read.{Read}
 use Rattle.files.specs.declared.answer.Read.the-variants as R
 use Rattle.files.specs.declared.read.Header.{Header}
@@ -20,11 +18,11 @@ use Rattle.files.specs.declared.read.Header.the-variants as H
 use Rattle.files.specs.declared.scan.Scanned.{Scanned}
 use Rattle.files.specs.Scan.{scanMeaning}
 
-abbrev pub sizes : ℕ → ℕ → ℕ → BoardSizes
-sizes m n N = record { inputs = m; outputs = n; vertices = N }
+abbrev pub sizesOf : Board → BoardSizes
+sizesOf b = sizes (b .inputs) (b .outputs) (b .vertices)
 
 abbrev pub readMeaning : Read → Reading BoardSizes
-readMeaning (R.Board m n N) = got (sizes m n N)
+readMeaning (R.Board b) = got (sizesOf b)
 readMeaning (R.Refused r p) = stopped (number r) p
 
 -- refusals in the first record, and 1, 2, 3, are at offset 0
@@ -32,29 +30,13 @@ abbrev pub headerMeaning : Header → Reading BoardSizes
 headerMeaning (H.Sizes m n N) = got (sizes m n N)
 headerMeaning (H.Refused r) = stopped (number r) 0
 
-abbrev pub sizesOf : Board → BoardSizes
-sizesOf b = sizes (b .inputs) (b .outputs) (b .vertices)
-
 abbrev pub openMeaning : Made → Reading BoardSizes
-openMeaning (M.Board b) = got (sizesOf b)
-openMeaning (M.Refused r) = stopped (number r) 0
-
--- 1, 2 and 3
-abbrev pub fitted : List ℤ → ℕ → BoardSizes → Reading BoardSizes
-fitted t k b =
-    ask (sizesFit (b .inputs) (b .outputs) (b .vertices)) Sizes 0
-    (ask (tableFits (b .vertices) t) TableShort 0
-    (ask (scratchFits (b .vertices) k) ScratchShort 0
-    (got b)))
+openMeaning r = placed 0 (boardMeaning r) next λ b. got (sizesOf b)
 
 -- r says x, and its board is one that the table has room for
-pub record Fits (x : Reading BoardSizes) (t : List ℤ) (r : Made) : Type 0 where
+pub record Opens (x : Reading BoardSizes) (t : List ℤ) (r : Made) : Type 0 where
   pub answer : openMeaning r ≡ x
   pub lent : (b : Board) → r ≡ M.Board b → Lent b t
-
--- 5 and 6, at offset 0
-abbrev pub graphChecked : ℕ → ℕ → Graph → Reading Graph
-graphChecked m N g = ask (noArcIntoInput m N g) ArcIntoInput 0 (ask (noCycle N g) Cycle 0 (got g))
 
 abbrev pub passed : Reading Graph → Reading (Unit {0})
 passed x = x next λ _. got tt

@@ -39,11 +39,11 @@ module _ (N : ℕ) (s : List ℕ) (c : Cursor) where
   foundSays v onward = placed (c .at) v next rising N s (c .at) (c .low) (c .count) onward
 
 -- a cursor in a file of so many bytes; each arc so far had its bytes
-pub record Within (bytes : ℕ) (c : Cursor) : Type 0 where
+pub record InFile (bytes : ℕ) (c : Cursor) : Type 0 where
   pub inside : c .at ≤ bytes
   pub few : c .count ≤ c .at
 
 -- r is what v says, whatever follows; where it goes on, it is further on
 pub record Turns (bytes : ℕ) (c : Cursor) (v : Onward → Reading (Unit {0})) (r : Turned) : Type 0 where
   pub meaning : (onward : Onward) → turnMeaning r onward ≡ v onward
-  pub further : (d : Cursor) → r ≡ T.On d → (c .at < d .at) × Within bytes d
+  pub further : (d : Cursor) → r ≡ T.On d → (c .at < d .at) × InFile bytes d

@@ -1,13 +1,11 @@
 -- What the answer of `write` means, and what becomes of the destination.
-use mathlib.Core.Path.{_≡_}
-use mathlib.Core.List.{List, _++_}
+use mathlib.Core.List.{List}
 use Prim.Native.Nat.{ℕ}
-use lib.Dec.{leb}
-use lib.ListN.{length, drop}
-use Rattle.graph.specs.Graph.{Graph}
-use Rattle.timing.specs.declared.Refusal.the-variants.{DestinationShort}
-use Rattle.timing.specs.Refusal.{number, Verdict, refused, accepted, require}
-use Rattle.format.specs.Writing.{fileOf, Written}
+use lib.IntN.{ℤ}
+use Rattle.timing.specs.Refusal.{number, Verdict, refused, accepted, Answers}
+use Rattle.format.specs.Writing.{boardRecord, fileOf, Written, fileInto}
+use Rattle.paths.specs.declared.board.Board.{Board}
+use Rattle.paths.specs.Board.{graphIn}
 use Rattle.files.specs.declared.write.Written as W
 use Rattle.files.specs.declared.write.Written.the-variants as A
 
@@ -16,18 +14,17 @@ abbrev pub writtenMeaning : W.Written → List ℕ → Verdict Written
 writtenMeaning (A.Bytes count) destination = accepted (record { bytes = destination; count = count })
 writtenMeaning (A.Refused r) destination = refused (number r)
 
--- a refusal leaves the destination untouched
-abbrev pub bytesAfter : Verdict Written → List ℕ → List ℕ
-bytesAfter (refused r) destination = destination
-bytesAfter (accepted w) destination = w .bytes
+-- r and the destination afterwards are what v says
+abbrev pub Writes : Verdict Written → List ℕ → List ℕ → W.Written → Type 0
+Writes = Answers writtenMeaning (λ w. w .bytes)
 
--- r and the destination afterwards are what verdict v says
-pub record Writes (v : Verdict Written) (before after : List ℕ) (r : W.Written) : Type 0 where
-  pub answer : writtenMeaning r after ≡ v
-  pub destination : after ≡ bytesAfter v before
+-- a board's BD, and its file
+abbrev pub boardMark : Board → List ℕ
+boardMark b = boardRecord (b .inputs) (b .outputs) (b .vertices)
 
--- what `writeCall` does after the checks
-abbrev pub fileInto : List ℕ → ℕ → ℕ → ℕ → Graph → Verdict Written
-fileInto destination m n N g =
-    require (leb (length (fileOf m n N g)) (length destination)) DestinationShort
-    (accepted (record { bytes = fileOf m n N g ++ drop (length (fileOf m n N g)) destination; count = length (fileOf m n N g) }))
+abbrev pub boardFile : Board → List ℤ → List ℕ
+boardFile b t = fileOf (b .inputs) (b .outputs) (b .vertices) (graphIn b t)
+
+-- `writeCall` after its checks, at a board's table
+abbrev pub fileOn : Board → List ℤ → List ℕ → Verdict Written
+fileOn b t destination = fileInto (b .inputs) (b .outputs) (b .vertices) destination (graphIn b t)

@@ -1,9 +1,9 @@
 // What the calls on board files answer.
+use paths::Board;
 use timing::Refusal;
 
 pub enum Read {
-    // Inputs, outputs, vertices.
-    Board(usize, usize, usize),
+    Board(Board),
     // At an offset.
     Refused(Refusal, usize),
 }

@@ -1,13 +1,14 @@
 // Pass 2: the arcs of a file whose records have been checked are placed by value.
-use crate::records;
-use crate::records::Found;
-use crate::records::Ticks;
 use format::Record;
 use paths::Board;
 use paths::cells;
+use records::parse;
+use records::parse::Found;
+use records::parse::Ticks;
 ghost use mathlib.Core.Path.{_≡_};
 ghost use Prim.Native.Nat.{ℕ, _*_, _≤_};
 ghost use lib.ListN.{length};
+ghost use Rattle.laws.specs.Lent.{was};
 ghost use Rattle.graph.specs.Graph.{Graph};
 ghost use Rattle.timing.specs.Limits.{maxVertices, absentCell};
 ghost use Rattle.timing.specs.Table.{writeCell, graphOf, withGraph};
@@ -24,8 +25,9 @@ pub enum Next {
 
 // No arcs.
 pub fn blank(table: &mut [i32], n: usize)
-    requires { ⌜ (n ≤ maxVertices) × (n * n ≤ length (now table)) ⌝ }
-    ensures { λ _. ⌜ now (table .exit) ≡ withGraph n noArcs (now (table .entry)) ⌝ }
+    requires { ⌜ n ≤ maxVertices ⌝ }
+    requires { ⌜ n * n ≤ length (now table) ⌝ }
+    ensures { λ _. ⌜ now (table .exit) ≡ withGraph n noArcs (was table) ⌝ }
 {
     let end = n * n;
     cells::clear(&mut table[..end]);
@@ -38,7 +40,7 @@ fn delay_of(item: Record) -> i32
     match item {
         Record::Arc(_, _, d) => d,
         Record::Cell(_, _, code) => {
-            let ticks = records::cell_ticks(code);
+            let ticks = parse::cell_ticks(code);
             match ticks {
                 Ticks::Of(d) => d,
                 Ticks::Refused(_) => Board::ABSENT,
@@ -50,10 +52,10 @@ fn delay_of(item: Record) -> i32
 
 fn next_arc(bytes: &[u8], n: usize, at: usize) -> Next
     requires { ⌜ at ≤ length (now bytes) ⌝ }
-    ensures { λ r. ⌜ ((g : Graph) (onward : ℕ → Graph → Graph) → nextGraph r g onward ≡ arcOf at g onward (recordAt n (now (bytes .entry)) at)) ⌝ }
-    ensures { λ r. ⌜ NextWithin n (length (now (bytes .entry))) at r ⌝ }
+    ensures { λ r. ⌜ ((g : Graph) (onward : ℕ → Graph → Graph) → nextGraph r g onward ≡ arcOf at g onward (recordAt n (was bytes) at)) ⌝ }
+    ensures { λ r. ⌜ NextWithin n (length (was bytes)) at r ⌝ }
 {
-    let found = records::record_at(bytes, n, at);
+    let found = parse::record_at(bytes, n, at);
     if let Found::Record(item) = found {
         let d = delay_of(item);
         return match item {
@@ -67,9 +69,11 @@ fn next_arc(bytes: &[u8], n: usize, at: usize) -> Next
 
 // The arcs of the records, one after another.
 pub fn place(bytes: &[u8], n: usize, table: &mut [i32])
-    requires { ⌜ (5 ≤ length (now bytes)) × (n ≤ maxVertices) × (n * n ≤ length (now table)) ⌝ }
-    ensures { λ _. ⌜ graphOf n (now (table .exit)) ≡ arcsFrom (length (now (bytes .entry))) n (now (bytes .entry)) 5 (graphOf n (now (table .entry))) ⌝ }
-    ensures { λ _. ⌜ now (table .exit) ≡ withGraph n (arcsFrom (length (now (bytes .entry))) n (now (bytes .entry)) 5 (graphOf n (now (table .entry)))) (now (table .entry)) ⌝ }
+    requires { ⌜ 5 ≤ length (now bytes) ⌝ }
+    requires { ⌜ n ≤ maxVertices ⌝ }
+    requires { ⌜ n * n ≤ length (now table) ⌝ }
+    ensures { λ _. ⌜ graphOf n (now (table .exit)) ≡ arcsFrom (length (was bytes)) n (was bytes) 5 (graphOf n (was table)) ⌝ }
+    ensures { λ _. ⌜ now (table .exit) ≡ withGraph n (arcsFrom (length (was bytes)) n (was bytes) 5 (graphOf n (was table))) (was table) ⌝ }
 {
     let mut at = 5;
     loop {
@@ -77,7 +81,7 @@ pub fn place(bytes: &[u8], n: usize, table: &mut [i32])
         let Next::Arc(u, v, d, after) = found else {
             return;
         };
-        table[records::cell_of(n, u, v)] = d;
+        table[parse::cell_of(n, u, v)] = d;
         at = after;
     }
 }

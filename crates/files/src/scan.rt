@@ -1,17 +1,18 @@
 // Pass 1: every record is checked, nothing is written.
-use crate::records;
-use crate::records::Found;
 use format::Record;
+use records::parse;
+use records::parse::Found;
 use timing::Refusal;
 ghost use mathlib.Core.Path.{_≡_};
 ghost use Prim.Native.Nat.{ℕ, _+_, _<_, _≤_};
 ghost use lib.ListN.{length};
+ghost use Rattle.laws.specs.Lent.{was};
 ghost use Rattle.timing.specs.Limits.{maxVertices};
 ghost use Rattle.format.specs.declared.Record.the-variants.{End};
 ghost use Rattle.format.specs.Records.{recordAt};
 ghost use Rattle.format.specs.Reading.{recordsFrom};
-ghost use Rattle.files.specs.Records.{Legal};
-ghost use Rattle.files.specs.Scan.{Within, Turns, arcSays, recordSays, foundSays, scanMeaning};
+ghost use Rattle.records.specs.Records.{LegalRecord};
+ghost use Rattle.files.specs.Scan.{InFile, Turns, arcSays, recordSays, foundSays, scanMeaning};
 
 // Where the next record stands, the first cell that its arc may have, and the arcs so far.
 pub struct Cursor {
@@ -34,10 +35,14 @@ pub enum Scanned {
 
 // An arc's record; what follows it stands at `after`.
 fn arc_turn(n: usize, cursor: Cursor, u: usize, v: usize, after: usize) -> Turned
-    requires { ⌜ (n ≤ maxVertices) × (u < n) × (v < n) × (cursor .at < after) × (cursor .count ≤ cursor .at) ⌝ }
+    requires { ⌜ n ≤ maxVertices ⌝ }
+    requires { ⌜ u < n ⌝ }
+    requires { ⌜ v < n ⌝ }
+    requires { ⌜ cursor .at < after ⌝ }
+    requires { ⌜ cursor .count ≤ cursor .at ⌝ }
     ensures { λ r. ⌜ Turns after cursor (arcSays n cursor u v after) r ⌝ }
 {
-    let cell = records::cell_of(n, u, v);
+    let cell = parse::cell_of(n, u, v);
     if cell < cursor.low {
         return Turned::Refused(Refusal::NotRising, cursor.at);
     }
@@ -51,7 +56,7 @@ fn arc_turn(n: usize, cursor: Cursor, u: usize, v: usize, after: usize) -> Turne
 // The last record, with its count of arcs.
 fn end_turn(bytes: &[u8], cursor: Cursor, arcs: usize) -> Turned
     requires { ⌜ cursor .at + 4 ≤ length (now bytes) ⌝ }
-    ensures { λ r. ⌜ ((n : ℕ) → Turns (length (now (bytes .entry))) cursor (recordSays n (now (bytes .entry)) cursor (End arcs)) r) ⌝ }
+    ensures { λ r. ⌜ ((n : ℕ) → Turns (length (was bytes)) cursor (recordSays n (was bytes) cursor (End arcs)) r) ⌝ }
 {
     let end = cursor.at + 4;
     if arcs != cursor.count {
@@ -64,8 +69,10 @@ fn end_turn(bytes: &[u8], cursor: Cursor, arcs: usize) -> Turned
 }
 
 fn record_turn(bytes: &[u8], n: usize, cursor: Cursor, item: Record) -> Turned
-    requires { ⌜ (n ≤ maxVertices) × Within (length (now bytes)) cursor × Legal n (now bytes) (cursor .at) item ⌝ }
-    ensures { λ r. ⌜ Turns (length (now (bytes .entry))) cursor (recordSays n (now (bytes .entry)) cursor item) r ⌝ }
+    requires { ⌜ n ≤ maxVertices ⌝ }
+    requires { ⌜ InFile (length (now bytes)) cursor ⌝ }
+    requires { ⌜ LegalRecord n (now bytes) (cursor .at) item ⌝ }
+    ensures { λ r. ⌜ Turns (length (was bytes)) cursor (recordSays n (was bytes) cursor item) r ⌝ }
 {
     match item {
         Record::Arc(u, v, _) => arc_turn(n, cursor, u, v, cursor.at + 8),
@@ -75,11 +82,12 @@ fn record_turn(bytes: &[u8], n: usize, cursor: Cursor, item: Record) -> Turned
 }
 
 fn turn(bytes: &[u8], n: usize, cursor: Cursor) -> Turned
-    requires { ⌜ (n ≤ maxVertices) × Within (length (now bytes)) cursor ⌝ }
-    ensures { λ r. ⌜ Turns (length (now (bytes .entry))) cursor (foundSays n (now (bytes .entry)) cursor (recordAt n (now (bytes .entry)) (cursor .at))) r ⌝ }
+    requires { ⌜ n ≤ maxVertices ⌝ }
+    requires { ⌜ InFile (length (now bytes)) cursor ⌝ }
+    ensures { λ r. ⌜ Turns (length (was bytes)) cursor (foundSays n (was bytes) cursor (recordAt n (was bytes) (cursor .at))) r ⌝ }
 {
     let at = cursor.at;
-    let found = records::record_at(bytes, n, at);
+    let found = parse::record_at(bytes, n, at);
     match found {
         Found::Record(item) => record_turn(bytes, n, cursor, item),
         Found::Refused(r) => Turned::Refused(r, at),
@@ -88,8 +96,9 @@ fn turn(bytes: &[u8], n: usize, cursor: Cursor) -> Turned
 
 // The records of a file of n vertices, from the one after the header on.
 pub fn scan(bytes: &[u8], n: usize) -> Scanned
-    requires { ⌜ (5 ≤ length (now bytes)) × (n ≤ maxVertices) ⌝ }
-    ensures { λ r. ⌜ scanMeaning r ≡ recordsFrom (length (now (bytes .entry))) n (now (bytes .entry)) 5 0 0 ⌝ }
+    requires { ⌜ 5 ≤ length (now bytes) ⌝ }
+    requires { ⌜ n ≤ maxVertices ⌝ }
+    ensures { λ r. ⌜ scanMeaning r ≡ recordsFrom (length (was bytes)) n (was bytes) 5 0 0 ⌝ }
 {
     let mut cursor = Cursor {
         at: 5,

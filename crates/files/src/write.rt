@@ -1,26 +1,26 @@
 // Writing a board file: BD, an AR for each arc, rising, and EN. The arcs can be written as lines too.
-use crate::lines;
-use crate::put;
 use paths::Board;
 use paths::board::Made;
 use paths::cells;
 use paths::checks;
-use paths::order;
+use paths::room;
+use records::lines;
+use records::put;
 use timing::Refusal;
 ghost use mathlib.Core.Path.{_≡_};
 ghost use Prim.Native.Nat.{_<_};
 ghost use lib.Dec.{T};
 ghost use lib.ListN.{length};
+ghost use Rattle.laws.specs.Lent.{was};
 ghost use Rattle.graph.specs.Count.{arcs};
 ghost use Rattle.timing.specs.Limits.{absentCell, delayLimit, fits};
-ghost use Rattle.timing.specs.Table.{readCell, graphOf};
-ghost use Rattle.paths.specs.Board.{Sized};
-ghost use Rattle.steps.specs.Reduces.{Checked};
-ghost use Rattle.format.specs.Arcs.{arcIn, rowArcs, arcsOf};
-ghost use Rattle.format.specs.Writing.{boardRecord, arcRecord, endRecord, fileOf, writeCall};
-ghost use Rattle.files.specs.Appending.{Fits, Appends};
-ghost use Rattle.files.specs.Forms.{arcsAs};
-ghost use Rattle.files.specs.Writing.{Writes, fileInto};
+ghost use Rattle.timing.specs.Table.{readCell};
+ghost use Rattle.format.specs.Writing.{arcRecord, endRecord, writeCall};
+ghost use Rattle.paths.specs.Board.{Sized, graphIn};
+ghost use Rattle.paths.specs.Checked.{Checked};
+ghost use Rattle.records.specs.Appending.{RoomFor, Appends};
+ghost use Rattle.files.specs.Forms.{cellAs, rowAs, tableAs};
+ghost use Rattle.files.specs.Writing.{Writes, boardMark, boardFile, fileOn};
 
 pub enum Written {
     // How many were written.
@@ -40,8 +40,9 @@ const ARC_BYTES: usize = 8;
 const FRAME_BYTES: usize = 9;
 
 fn put_board(board: Board, out: &mut [u8], at: usize) -> usize
-    requires { ⌜ Sized board × Fits (boardRecord (board .inputs) (board .outputs) (board .vertices)) (now out) at ⌝ }
-    ensures { λ r. ⌜ Appends (boardRecord (board .inputs) (board .outputs) (board .vertices)) (now (out .entry)) at (now (out .exit)) r ⌝ }
+    requires { ⌜ Sized board ⌝ }
+    requires { ⌜ RoomFor (boardMark board) (now out) at ⌝ }
+    ensures { λ r. ⌜ Appends (boardMark board) (was out) at (now (out .exit)) r ⌝ }
 {
     let p = put::put_mark(out, at, b'B', b'D');
     let p = put::put_small(out, p, board.inputs);
@@ -50,8 +51,10 @@ fn put_board(board: Board, out: &mut [u8], at: usize) -> usize
 }
 
 fn put_arc(out: &mut [u8], at: usize, u: usize, v: usize, delay: i32) -> usize
-    requires { ⌜ (u < 256) × (v < 256) × Fits (arcRecord (record { from = u; to = v; delay = delay })) (now out) at ⌝ }
-    ensures { λ r. ⌜ Appends (arcRecord (record { from = u; to = v; delay = delay })) (now (out .entry)) at (now (out .exit)) r ⌝ }
+    requires { ⌜ u < 256 ⌝ }
+    requires { ⌜ v < 256 ⌝ }
+    requires { ⌜ RoomFor (arcRecord (record { from = u; to = v; delay = delay })) (now out) at ⌝ }
+    ensures { λ r. ⌜ Appends (arcRecord (record { from = u; to = v; delay = delay })) (was out) at (now (out .exit)) r ⌝ }
 {
     let p = put::put_mark(out, at, b'A', b'R');
     let p = put::put_small(out, p, u);
@@ -61,8 +64,11 @@ fn put_arc(out: &mut [u8], at: usize, u: usize, v: usize, delay: i32) -> usize
 
 // The arc of a cell, if it has one.
 fn put_cell(form: Form, out: &mut [u8], at: usize, u: usize, v: usize, cell: i32) -> usize
-    requires { ⌜ (u < 256) × (v < 256) × T (fits delayLimit (readCell absentCell cell)) × Fits (arcsAs form (arcIn u v (readCell absentCell cell))) (now out) at ⌝ }
-    ensures { λ r. ⌜ Appends (arcsAs form (arcIn u v (readCell absentCell cell))) (now (out .entry)) at (now (out .exit)) r ⌝ }
+    requires { ⌜ u < 256 ⌝ }
+    requires { ⌜ v < 256 ⌝ }
+    requires { ⌜ T (fits delayLimit (readCell absentCell cell)) ⌝ }
+    requires { ⌜ RoomFor (cellAs form u v cell) (now out) at ⌝ }
+    ensures { λ r. ⌜ Appends (cellAs form u v cell) (was out) at (now (out .exit)) r ⌝ }
 {
     if cells::is_arc(cell) {
         return match form {
@@ -74,8 +80,9 @@ fn put_cell(form: Form, out: &mut [u8], at: usize, u: usize, v: usize, cell: i32
 }
 
 fn put_end(out: &mut [u8], at: usize, count: usize) -> usize
-    requires { ⌜ (count < 65536) × Fits (endRecord count) (now out) at ⌝ }
-    ensures { λ r. ⌜ Appends (endRecord count) (now (out .entry)) at (now (out .exit)) r ⌝ }
+    requires { ⌜ count < 65536 ⌝ }
+    requires { ⌜ RoomFor (endRecord count) (now out) at ⌝ }
+    ensures { λ r. ⌜ Appends (endRecord count) (was out) at (now (out .exit)) r ⌝ }
 {
     let p = put::put_mark(out, at, b'E', b'N');
     put::put_unsigned(out, p, 2, count as u64)
@@ -83,8 +90,10 @@ fn put_end(out: &mut [u8], at: usize, count: usize) -> usize
 
 // The arcs out of u.
 fn put_row(form: Form, board: Board, table: &[i32], u: usize, out: &mut [u8], at: usize) -> usize
-    requires { ⌜ Checked board (now table) × (u < board .vertices) × Fits (arcsAs form (rowArcs (graphOf (board .vertices) (now table)) u 0 (board .vertices))) (now out) at ⌝ }
-    ensures { λ r. ⌜ Appends (arcsAs form (rowArcs (graphOf (board .vertices) (now (table .entry))) u 0 (board .vertices))) (now (out .entry)) at (now (out .exit)) r ⌝ }
+    requires { ⌜ Checked board (now table) ⌝ }
+    requires { ⌜ u < board .vertices ⌝ }
+    requires { ⌜ RoomFor (rowAs form board (now table) u) (now out) at ⌝ }
+    ensures { λ r. ⌜ Appends (rowAs form board (was table) u) (was out) at (now (out .exit)) r ⌝ }
 {
     let n = board.vertices;
     let mut next = at;
@@ -99,8 +108,9 @@ fn put_row(form: Form, board: Board, table: &[i32], u: usize, out: &mut [u8], at
 
 // All arcs.
 pub fn put_arcs(form: Form, board: Board, table: &[i32], out: &mut [u8], at: usize) -> usize
-    requires { ⌜ Checked board (now table) × Fits (arcsAs form (arcsOf (board .vertices) (graphOf (board .vertices) (now table)))) (now out) at ⌝ }
-    ensures { λ r. ⌜ Appends (arcsAs form (arcsOf (board .vertices) (graphOf (board .vertices) (now (table .entry))))) (now (out .entry)) at (now (out .exit)) r ⌝ }
+    requires { ⌜ Checked board (now table) ⌝ }
+    requires { ⌜ RoomFor (tableAs form board (now table)) (now out) at ⌝ }
+    ensures { λ r. ⌜ Appends (tableAs form board (was table)) (was out) at (now (out .exit)) r ⌝ }
 {
     let rows = board.vertices;
     let mut next = at;
@@ -114,8 +124,10 @@ pub fn put_arcs(form: Form, board: Board, table: &[i32], out: &mut [u8], at: usi
 
 // The whole file, of so many arcs.
 fn put_file(board: Board, table: &[i32], count: usize, out: &mut [u8]) -> usize
-    requires { ⌜ Checked board (now table) × (count ≡ arcs (board .vertices) (graphOf (board .vertices) (now table))) × Fits (fileOf (board .inputs) (board .outputs) (board .vertices) (graphOf (board .vertices) (now table))) (now out) 0 ⌝ }
-    ensures { λ r. ⌜ Appends (fileOf (board .inputs) (board .outputs) (board .vertices) (graphOf (board .vertices) (now (table .entry)))) (now (out .entry)) 0 (now (out .exit)) r ⌝ }
+    requires { ⌜ Checked board (now table) ⌝ }
+    requires { ⌜ count ≡ arcs (board .vertices) (graphIn board (now table)) ⌝ }
+    requires { ⌜ RoomFor (boardFile board (now table)) (now out) 0 ⌝ }
+    ensures { λ r. ⌜ Appends (boardFile board (was table)) (was out) 0 (now (out .exit)) r ⌝ }
 {
     let first = put_board(board, out, 0);
     let end = put_arcs(Form::Record, board, table, out, first);
@@ -125,7 +137,7 @@ fn put_file(board: Board, table: &[i32], count: usize, out: &mut [u8]) -> usize
 // The file of a board that has passed its checks; 21 where it does not fit.
 fn file_answer(board: Board, table: &[i32], destination: &mut [u8]) -> Written
     requires { ⌜ Checked board (now table) ⌝ }
-    ensures { λ r. ⌜ Writes (fileInto (now (destination .entry)) (board .inputs) (board .outputs) (board .vertices) (graphOf (board .vertices) (now (table .entry)))) (now (destination .entry)) (now (destination .exit)) r ⌝ }
+    ensures { λ r. ⌜ Writes (fileOn board (was table) (was destination)) (was destination) (now (destination .exit)) r ⌝ }
 {
     let count = cells::arcs(board, table);
     if destination.len() < FRAME_BYTES + ARC_BYTES * count {
@@ -134,21 +146,21 @@ fn file_answer(board: Board, table: &[i32], destination: &mut [u8]) -> Written
     Written::Bytes(put_file(board, table, count, destination))
 }
 
-// Writes the board file of a table into the first bytes of `destination`.
+// Writes the board file of a table into the first bytes of `out`.
 pub fn write(
     inputs: usize,
     outputs: usize,
     vertices: usize,
     table: &[i32],
     scratch: &[i64],
-    destination: &mut [u8],
+    out: &mut [u8],
 ) -> Written
-    ensures { λ r. ⌜ Writes (writeCall inputs outputs vertices (length (now (scratch .entry))) (now (table .entry)) (now (destination .entry))) (now (destination .entry)) (now (destination .exit)) r ⌝ }
+    ensures { λ r. ⌜ Writes (writeCall inputs outputs vertices (length (was scratch)) (was table) (was out)) (was out) (now (out .exit)) r ⌝ }
 {
-    let mut list = order::bytes();
-    let lent = checks::checked(inputs, outputs, vertices, table, scratch.len(), &mut list);
+    let mut order = room::vertex_bytes();
+    let lent = checks::checked(inputs, outputs, vertices, table, scratch.len(), &mut order);
     match lent {
-        Made::Board(board) => file_answer(board, table, destination),
+        Made::Board(board) => file_answer(board, table, out),
         Made::Refused(r) => Written::Refused(r),
     }
 }

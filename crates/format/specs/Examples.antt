@@ -3,7 +3,7 @@ use mathlib.Core.List.{List, [], _∷_, _++_}
 use Prim.Native.Nat.{ℕ}
 use lib.IntN.{pos}
 use Rattle.laws.specs.Lists.{tabulate}
-use Rattle.format.specs.Reading.{Reading, stopped, got, BoardSizes, readCall}
+use Rattle.format.specs.Reading.{Reading, stopped, got, BoardSizes, sizes, readCall}
 
 -- read into 25 cells, with as many of scratch
 abbrev pub reads : List ℕ → Reading BoardSizes
@@ -28,7 +28,7 @@ example = BD 2 1 5 ++ AR 0 3 2 0 0 0 ++ AR 1 3 1 0 0 0 ++ AR 3 2 1 0 0 0 ++ AR 3
 
 unfoldable pub files : List (Reading BoardSizes × Reading BoardSizes)
 files =
-    (reads example, got (record { inputs = 2; outputs = 1; vertices = 5 }))
+    (reads example, got (sizes 2 1 5))
     -- an empty file, a lone byte, an unknown mark, a misplaced one, a header that ends
     ∷ (reads [], stopped 15 0)
     ∷ (reads (66 ∷ []), stopped 15 0)

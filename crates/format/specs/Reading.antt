@@ -8,10 +8,10 @@ use lib.ListN.{length}
 use Rattle.graph.specs.Delay.{Delay, absent}
 use Rattle.graph.specs.Graph.{Graph}
 use Rattle.timing.specs.declared.Refusal.{Refusal}
-use Rattle.timing.specs.declared.Refusal.the-variants.{Sizes, TableShort, ScratchShort, ArcIntoInput, Cycle, FileEnds, WrongMark, NotRising, WrongCount, FileGoesOn}
+use Rattle.timing.specs.declared.Refusal.the-variants.{FileEnds, WrongMark, NotRising, WrongCount, FileGoesOn}
 use Rattle.timing.specs.Refusal.{number, Verdict, refused, accepted}
 use Rattle.timing.specs.Table.{withGraph}
-use Rattle.timing.specs.Checks.{sizesFit, tableFits, scratchFits, noArcIntoInput, noCycle}
+use Rattle.timing.specs.Checks.{memoryChecked, arcsChecked}
 use Rattle.format.specs.declared.Mark.{Mark}
 use Rattle.format.specs.declared.Mark.the-variants as M
 use Rattle.format.specs.declared.Record.{Record}
@@ -42,6 +42,9 @@ pub record BoardSizes : Type 0 where
   pub outputs : ℕ
   pub vertices : ℕ
 
+abbrev pub sizes : ℕ → ℕ → ℕ → BoardSizes
+sizes m n N = record { inputs = m; outputs = n; vertices = N }
+
 -- ---- the first record, and 1, 2, 3 right after its bytes
 
 abbrev pub isBoard : Mark → Bool
@@ -56,15 +59,11 @@ header s =
     ask (leb 2 (length s)) FileEnds 0
     (ask (isBoard (markAt s 0)) WrongMark 0
     (ask (leb 5 (length s)) FileEnds 0
-    (got (record { inputs = byteAt s 2; outputs = byteAt s 3; vertices = byteAt s 4 }))))
+    (got (sizes (byteAt s 2) (byteAt s 3) (byteAt s 4)))))
 
 -- k is the length of the scratch
 unfoldable pub opened : List ℕ → List ℤ → ℕ → Reading BoardSizes
-opened s t k = header s next λ b.
-    ask (sizesFit (b .inputs) (b .outputs) (b .vertices)) Sizes 0
-    (ask (tableFits (b .vertices) t) TableShort 0
-    (ask (scratchFits (b .vertices) k) ScratchShort 0
-    (got b)))
+opened s t k = header s next λ b. placed 0 (memoryChecked (b .inputs) (b .outputs) (b .vertices) k t) next λ _. got b
 
 -- ---- the records after it
 
@@ -100,12 +99,13 @@ noArcs u v = absent
 unfoldable pub fileGraph : ℕ → List ℕ → Graph
 fileGraph N s = arcsFrom (length s) N s 5 noArcs
 
--- the records, then 5 and 6, at offset 0
+-- 5 and 6 of its arcs, at offset 0
+abbrev pub fileChecked : BoardSizes → List ℕ → Reading Graph
+fileChecked b s = placed 0 (arcsChecked (b .inputs) (b .vertices) (fileGraph (b .vertices) s))
+
+-- the records, then 5 and 6
 unfoldable pub arcsRead : BoardSizes → List ℕ → Reading Graph
-arcsRead b s = recordsFrom (length s) (b .vertices) s 5 0 0 next λ _.
-    ask (noArcIntoInput (b .inputs) (b .vertices) (fileGraph (b .vertices) s)) ArcIntoInput 0
-    (ask (noCycle (b .vertices) (fileGraph (b .vertices) s)) Cycle 0
-    (got (fileGraph (b .vertices) s)))
+arcsRead b s = recordsFrom (length s) (b .vertices) s 5 0 0 next λ _. fileChecked b s
 
 -- ---- the call
 

@@ -1,16 +1,23 @@
 -- A written file reads back as the same table. Proved in proofs/RoundTrip.antt.
 use mathlib.Core.Path.{_≡_}
 use mathlib.Core.List.{List}
-use Prim.Native.Nat.{ℕ}
-use lib.Dec.{T}
-use lib.IntN.{ℤ}
-use Rattle.timing.specs.Table.{graphOf, withGraph}
-use Rattle.timing.specs.Checks.{tableFits, scratchFits, passes}
-use Rattle.format.specs.Reading.{got, readCall, tableRead}
-use Rattle.format.specs.Writing.{fileOf}
+use Prim.Native.Nat.{ℕ, _*_, _≤_, _<_}
+use lib.IntN.{ℤ, pos}
+use lib.ListN.{length, getD, take}
+use Rattle.timing.specs.Limits.{scratchCells}
+use Rattle.timing.specs.Refusal.{accepted}
+use Rattle.format.specs.Reading.{got, sizes, readCall, tableRead}
+use Rattle.format.specs.Writing.{Written, writeCall}
 
--- t passes its checks; its file is read into any table t′ and scratch of k cells that are long enough
+-- a file is read into table t′, with k cells of scratch: accepted, with these sizes; the first N × N cells are those of t, each later one is as it was
+pub record ReadsBack (m n N : ℕ) (t : List ℤ) (file : List ℕ) (t′ : List ℤ) (k : ℕ) : Type 0 where
+  pub answer : readCall file t′ k ≡ got (sizes m n N)
+  pub length-kept : length (tableRead file t′ k) ≡ length t′
+  pub same : (x : ℕ) → x < N * N → getD (tableRead file t′ k) x (pos 0) ≡ getD t x (pos 0)
+  pub kept : (x : ℕ) → N * N ≤ x → getD (tableRead file t′ k) x (pos 0) ≡ getD t′ x (pos 0)
+
+-- the bytes that an accepted write of t counts, read into any table and scratch that are long enough
 abbrev pub RoundTrip : Type 0
-RoundTrip = (m n N : ℕ) (t : List ℤ) → T (passes m n N t) → (t′ : List ℤ) (k : ℕ) → T (tableFits N t′) → T (scratchFits N k)
-    → (readCall (fileOf m n N (graphOf N t)) t′ k ≡ got (record { inputs = m; outputs = n; vertices = N }))
-    × (tableRead (fileOf m n N (graphOf N t)) t′ k ≡ withGraph N (graphOf N t) t′)
+RoundTrip = (m n N s : ℕ) (t : List ℤ) (destination : List ℕ) (w : Written) → writeCall m n N s t destination ≡ accepted w
+    → (t′ : List ℤ) (k : ℕ) → N * N ≤ length t′ → scratchCells N ≤ k
+    → ReadsBack m n N t (take (w .count) (w .bytes)) t′ k

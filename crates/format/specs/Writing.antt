@@ -34,8 +34,12 @@ pub record Written : Type 0 where
   pub bytes : List ℕ
   pub count : ℕ
 
--- s is the length of the scratch
-unfoldable pub writeCall : ℕ → ℕ → ℕ → ℕ → List ℤ → List ℕ → Verdict Written
-writeCall m n N s t destination = checked m n N s t then λ g.
+-- 21 where the destination is shorter
+abbrev pub fileInto : ℕ → ℕ → ℕ → List ℕ → Graph → Verdict Written
+fileInto m n N destination g =
     require (leb (length (fileOf m n N g)) (length destination)) DestinationShort
     (accepted (record { bytes = fileOf m n N g ++ drop (length (fileOf m n N g)) destination; count = length (fileOf m n N g) }))
+
+-- s is the length of the scratch
+unfoldable pub writeCall : ℕ → ℕ → ℕ → ℕ → List ℤ → List ℕ → Verdict Written
+writeCall m n N s t destination = checked m n N s t then fileInto m n N destination

@@ -1,17 +1,18 @@
 -- Whether a delay is present: as a fact, and as a bit to be counted.
 use mathlib.Core.Path.{_≡_, refl, sym, ap, subst}
 use mathlib.Core.Logic.{_⊎_, inl, inr}
-use mathlib.Core.Bool.{not}
+use mathlib.Core.Bool.{not, _&&_}
 use Prim.Native.Nat.{ℕ, _+_, _*_, _≤_, _<_}
 use native.Mathlib.Omega.{arith}
 use lib.Dec.{T}
 use lib.IntN.{ℤ}
 use Rattle.laws.specs.Bounded.{sum}
+use Rattle.laws.proofs.Booleans.{and-i, and-e}
 use Rattle.laws.proofs.Sums.{sum-most, sum-bound}
-use Rattle.graph.specs.Delay.{Delay, absent, at, present, ticks, _⋓_, _⊕_, _⊑_}
+use Rattle.graph.specs.Delay.{Delay, absent, at, present, ticks, _⋓_, _⊕_, _⊑_, eqD}
 use Rattle.graph.specs.Graph.{Graph}
 use Rattle.graph.specs.Count.{bit, fanOut, arcs}
-use Rattle.graph.proofs.Delay.{⋓-elim}
+use Rattle.graph.proofs.Delay.{⋓-elim, eqD→eq, eq→eqD}
 
 pub bit-le : (x : Delay) → bit x ≤ 1
 unfolding bit
@@ -36,6 +37,13 @@ pub present-⊕ : (x y : Delay) → T (present x) → T (present y) → T (prese
 present-⊕ absent y s t = s
 present-⊕ (at a) absent s t = t
 present-⊕ (at a) (at b) s t = tt
+
+-- present and equal, as a test
+pub same-i : (x y : Delay) → T (present x) → x ≡ y → T (present x && eqD x y)
+same-i x y t e = and-i (present x) (eqD x y) t (eq→eqD x y e)
+
+pub same-e : (x y : Delay) → T (present x && eqD x y) → T (present x) × (x ≡ y)
+same-e x y t = let p = and-e (present x) (eqD x y) t in (p .0, eqD→eq x y (p .1))
 
 present-⊑′ : (x y : Delay) → x ⊑ y → T (present x) → T (present y)
 present-⊑′ absent y h t = absurd t

@@ -13,7 +13,7 @@ use Rattle.codec.specs.Bytes.{byteOf, pattern, unsignedAt}
 use Rattle.codec.proofs.Bytes.{bytes-of-number}
 use Rattle.codec.proofs.Patterns.{pattern-twos}
 use Rattle.codec.proofs.Places.{AreBytes, read-below}
-use Rattle.host.specs.Runs.{wholeCells, cellAt, cellsOf, cellByte, withCells}
+use Rattle.host.specs.Runs.{wholeCells, runCell, cellsOf, cellByte, withCells}
 use Rattle.host.proofs.Filling.{filled}
 
 -- the first w elements, one by one
@@ -26,30 +26,30 @@ elements (suc w) l h =
 
 pub length-cells : (w : ℕ) (s : List ℕ) → length (cellsOf w s) ≡ wholeCells w s
 unfolding cellsOf
-length-cells w s = length-tabulate (cellAt w s) (wholeCells w s)
+length-cells w s = length-tabulate (runCell w s) (wholeCells w s)
 
-pub cell-of : (w : ℕ) (s : List ℕ) (x : ℕ) → x < wholeCells w s → getD (cellsOf w s) x (pos 0) ≡ cellAt w s x
+pub cell-of : (w : ℕ) (s : List ℕ) (x : ℕ) → x < wholeCells w s → getD (cellsOf w s) x (pos 0) ≡ runCell w s x
 unfolding cellsOf
-cell-of w s x h = getD-tabulate (cellAt w s) (wholeCells w s) x (pos 0) h
+cell-of w s x h = getD-tabulate (runCell w s) (wholeCells w s) x (pos 0) h
 
 module _ (w : ℕ) (s : List ℕ) (bytes : AreBytes s) (a : List ℤ) where
   -- the cells a, and then the run's own
   abbrev whole : List ℤ
   whole = a ++ drop (length a) (cellsOf w s)
 
-  own-cell : (d : ℕ) → length a + d < wholeCells w s → getD whole (length a + d) (pos 0) ≡ cellAt w s (length a + d)
+  own-cell : (d : ℕ) → length a + d < wholeCells w s → getD whole (length a + d) (pos 0) ≡ runCell w s (length a + d)
   own-cell d h =
       getD-append-add a (drop (length a) (cellsOf w s)) d (pos 0)
       ∙ getD-drop (length a) (cellsOf w s) d (pos 0) ∙ cell-of w s (length a + d) h
 
   -- a cell's own bytes
-  own-byte : (x i : ℕ) → i < w → byteOf (pattern w (cellAt w s x)) i ≡ getD s (w * x + i) 0
+  own-byte : (x i : ℕ) → i < w → byteOf (pattern w (runCell w s x)) i ≡ getD s (w * x + i) 0
   own-byte x i h =
       ap (λ (y : ℕ). byteOf y i) (pattern-twos w (unsignedAt w s (w * x)) (read-below s (w * x) w bytes))
       ∙ bytes-of-number w (λ j. getD s (w * x + j) 0) (λ j k. bytes (w * x + j) .fits) i h
 
   -- one cell of its own more
-  own-more : (x : ℕ) → w * x + w ≤ length s → getD whole x (pos 0) ≡ cellAt w s x → filled w whole s (suc x) ≡ filled w whole s x
+  own-more : (x : ℕ) → w * x + w ≤ length s → getD whole x (pos 0) ≡ runCell w s x → filled w whole s (suc x) ≡ filled w whole s x
   unfolding rows
   own-more x h e =
       let f = cellByte w whole in

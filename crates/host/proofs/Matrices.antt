@@ -19,7 +19,7 @@ use Rattle.timing.specs.Queries.{matrixInto, matrixCall}
 use Rattle.timing.proofs.Checks.{checked-accepted}
 use Rattle.paths.specs.declared.queries.Answer.{Answer}
 use Rattle.paths.specs.declared.queries.Answer.the-variants as A
-use Rattle.paths.specs.Queries.{answerMeaning, Answers}
+use Rattle.paths.specs.Queries.{queryMeaning, Fills}
 use Rattle.codec.proofs.Places.{AreBytes}
 use Rattle.host.specs.Runs.{wholeCells, cellsOf, withCells}
 use Rattle.host.specs.Shown.{shown}
@@ -27,7 +27,7 @@ use Rattle.host.specs.Answers.{matrixAnswer, matrixBytes}
 use Rattle.host.proofs.Kept.{length-cells, new-cells}
 use Rattle.host.proofs.Shown.{shown-is, shown-enough, Small, small, checked-same, checked-room, Copy}
 
-length-matrix : (m n N : ℕ) (g : Graph) → length (matrixCells m n N g) ≡ m * n
+pub length-matrix : (m n N : ℕ) (g : Graph) → length (matrixCells m n N g) ≡ m * n
 unfolding matrixCells
 length-matrix m n N g = length-rows n _ m ∙ mul-comm n m
 
@@ -73,15 +73,15 @@ pub record Over (m n N s : ℕ) (table bytes : List ℕ) (t′ d′ after : List
   pub are : AreBytes bytes
   pub copy : Copy N table t′
   pub long : length d′ ≡ shown m n (wholeCells 8 bytes)
-  pub call : Answers (matrixCall m n N s t′ d′) d′ after r
+  pub call : Fills (matrixCall m n N s t′ d′) d′ after r
 
 module _ {m n N s : ℕ} {table bytes : List ℕ} {t′ d′ after : List ℤ} {r : Answer} (o : Over m n N s table bytes t′ d′ after r) where
   abbrev verdict : Verdict (List ℤ)
   verdict = matrixCall m n N s (cellsOf 4 table) (cellsOf 8 bytes)
 
   -- what the call said, once its answer is known to be x
-  said : (x : Answer) → r ≡ x → Seen bytes (answerMeaning x after) verdict
-  said x e = rw (ap (λ (y : Answer). answerMeaning y after) (sym e) ∙ o .call .answer) (seen m n N s table t′ (o .copy) bytes (o .are) d′ (o .long))
+  said : (x : Answer) → r ≡ x → Seen bytes (queryMeaning x after) verdict
+  said x e = rw (ap (λ (y : Answer). queryMeaning y after) (sym e) ∙ o .call .answer) (seen m n N s table t′ (o .copy) bytes (o .are) d′ (o .long))
 
   pub done : r ≡ A.Done → (put : List ℕ) → put ≡ withCells 8 after bytes → (pos 0 ≡ matrixAnswer verdict) × (put ≡ matrixBytes verdict bytes)
   done e put p = let h = said A.Done e in (h .answer, p ∙ h .after)

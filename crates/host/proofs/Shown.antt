@@ -17,12 +17,13 @@ use Rattle.laws.proofs.Grid.{row-in}
 use Rattle.graph.specs.Delay.{absent}
 use Rattle.graph.specs.Graph.{Graph}
 use Rattle.timing.specs.declared.Refusal.{Refusal}
-use Rattle.timing.specs.declared.Refusal.the-variants.{Sizes, TableShort, ScratchShort, OddCell, ArcIntoInput, Cycle}
+use Rattle.timing.specs.declared.Refusal.the-variants.{Sizes, TableShort, ScratchShort, OddCell}
 use Rattle.timing.specs.Limits.{maxVertices, absentCell}
-use Rattle.timing.specs.Refusal.{Verdict, accepted, require}
+use Rattle.timing.specs.Refusal.{Verdict, refused, accepted, require, _then_}
 use Rattle.timing.specs.Table.{readCell, graphOf}
-use Rattle.timing.specs.Checks.{sizesFit, tableFits, scratchFits, cellsFit, noArcIntoInput, noCycle, checked}
-use Rattle.host.specs.Runs.{wholeCells, cellAt, cellsOf}
+use Rattle.timing.specs.Checks.{sizesFit, tableFits, scratchFits, cellsFit, memoryChecked, arcsChecked, checked}
+use Rattle.timing.proofs.Checks.{memory-accepted}
+use Rattle.host.specs.Runs.{wholeCells, runCell, cellsOf}
 use Rattle.host.specs.Shown.{shown}
 use Rattle.host.proofs.Kept.{length-cells, cell-of}
 
@@ -83,38 +84,44 @@ graph-same N t′ t f h = fun-ext (λ u. fun-ext (λ v. cases (ltb u N && ltb v 
 
 -- checks 4, 5 and 6
 abbrev graphChecks : ℕ → ℕ → Graph → Verdict Graph
-graphChecks m N g = require (cellsFit N g) OddCell (require (noArcIntoInput m N g) ArcIntoInput (require (noCycle N g) Cycle (accepted g)))
+graphChecks m N g = require (cellsFit N g) OddCell (arcsChecked m N g)
 
 pub checked-same : (m n N s : ℕ) (t′ t : List ℤ) → Front t′ t → length t′ ≡ shown N N (length t) → checked m n N s t′ ≡ checked m n N s t
 unfolding checked
-checked-same m n N s t′ t f e = require-same (sizesFit m n N) _ Sizes _ _ refl table
+checked-same m n N s t′ t f e = ap (λ (v : Verdict (Unit {0})). v then λ _. graphChecks m N (graphOf N t′)) memory ∙ of (memoryChecked m n N s t) refl
   where
-    table : T (sizesFit m n N) → require (tableFits N t′) TableShort (require (scratchFits N s) ScratchShort (graphChecks m N (graphOf N t′))) ≡ require (tableFits N t) TableShort (require (scratchFits N s) ScratchShort (graphChecks m N (graphOf N t)))
-    table p =
+    memory : memoryChecked m n N s t′ ≡ memoryChecked m n N s t
+    memory = require-same (sizesFit m n N) _ Sizes _ _ refl (λ p.
         let q = small m n N p .vertices in
-        require-same (tableFits N t) _ TableShort _ _ (ap (leb (N * N)) e ∙ shown-enough N N (length t) q q)
-        (λ k. ap (λ (g : Graph). require (scratchFits N s) ScratchShort (graphChecks m N g)) (graph-same N t′ t f (omega (arith, e, shown-is N N (length t) q q, leb→le (N * N) (length t) k))))
+        ap (λ (b : Bool). require b TableShort (require (scratchFits N s) ScratchShort (accepted tt))) (ap (leb (N * N)) e ∙ shown-enough N N (length t) q q))
+
+    of : (v : Verdict (Unit {0})) → memoryChecked m n N s t ≡ v → (v then λ _. graphChecks m N (graphOf N t′)) ≡ (v then λ _. graphChecks m N (graphOf N t))
+    of (refused r) k = refl
+    of (accepted x) k =
+        let p = memory-accepted m n N s t x k in
+        let q = small m n N (p .sizes) .vertices in
+        ap (graphChecks m N) (graph-same N t′ t f (omega (arith, e, shown-is N N (length t) q q, leb→le (N * N) (length t) (p .table))))
 
 -- check 3 sees of the scratch that it is long enough
 pub checked-room : (m n N s : ℕ) (t : List ℤ) → checked m n N (shown N N s) t ≡ checked m n N s t
 unfolding checked
-checked-room m n N s t =
-    require-same (sizesFit m n N) _ Sizes _ _ refl
-    (λ p. let q = small m n N p .vertices in ap (λ (b : Bool). require (tableFits N t) TableShort (require b ScratchShort (graphChecks m N (graphOf N t)))) (shown-enough N N s q q))
+checked-room m n N s t = ap (λ (v : Verdict (Unit {0})). v then λ _. graphChecks m N (graphOf N t)) (require-same (sizesFit m n N) _ Sizes _ _ refl (λ p.
+    let q = small m n N p .vertices in
+    ap (λ (b : Bool). require (tableFits N t) TableShort (require b ScratchShort (accepted tt))) (shown-enough N N s q q)))
 
 -- t′ is the copy of a table's cells that the calls below get
 pub record Copy (N : ℕ) (s : List ℕ) (t′ : List ℤ) : Type 0 where
   pub front : Front t′ (cellsOf 4 s)
   pub long : length t′ ≡ shown N N (length (cellsOf 4 s))
 
-pub copied : (N : ℕ) (s : List ℕ) (t′ : List ℤ) (k : ℕ) → t′ ≡ tabulate k (cellAt 4 s) → k ≡ shown N N (wholeCells 4 s) → Copy N s t′
+pub copied : (N : ℕ) (s : List ℕ) (t′ : List ℤ) (k : ℕ) → t′ ≡ tabulate k (runCell 4 s) → k ≡ shown N N (wholeCells 4 s) → Copy N s t′
 copied N s t′ k e h = record {
-  front = record { same = λ i l. ap (λ (x : List ℤ). getD x i (pos 0)) e ∙ getD-tabulate (cellAt 4 s) k i (pos 0) (omega (arith, len)) ∙ sym (cell-of 4 s i (omega (arith, len, shown-le N N (wholeCells 4 s)))) };
+  front = record { same = λ i l. ap (λ (x : List ℤ). getD x i (pos 0)) e ∙ getD-tabulate (runCell 4 s) k i (pos 0) (omega (arith, len)) ∙ sym (cell-of 4 s i (omega (arith, len, shown-le N N (wholeCells 4 s)))) };
   long = len ∙ h ∙ ap (shown N N) (sym (length-cells 4 s));
 }
   where
     len : length t′ ≡ k
-    len = ap length e ∙ length-tabulate (cellAt 4 s) k
+    len = ap length e ∙ length-tabulate (runCell 4 s) k
 
 -- ---- local room of which k cells are lent on
 module _ {A : Type 0} (l : List A) (k : ℕ) (all : length l ≡ maxVertices * maxVertices) where

@@ -20,10 +20,10 @@ use Rattle.timing.specs.Checks.{checked}
 use Rattle.timing.proofs.Verdict.{then-accepted}
 use Rattle.timing.proofs.Checks.{Passed, checked-accepted}
 use Rattle.reduction.specs.Outcome.{Reduced, oneStep}
-use Rattle.reduction.specs.Steps.{Step, plan, stepCall}
+use Rattle.reduction.specs.Steps.{Step, plan, stepOn, stepCall}
 use Rattle.steps.specs.declared.answer.Answer.{Answer}
 use Rattle.steps.specs.declared.answer.Answer.the-variants as A
-use Rattle.steps.specs.Reduces.{answerMeaning, Reduces}
+use Rattle.steps.specs.Reduces.{reducedMeaning, Reduces}
 use Rattle.codec.proofs.Places.{AreBytes}
 use Rattle.host.specs.Runs.{wholeCells, cellsOf, withCells}
 use Rattle.host.specs.Shown.{shown}
@@ -98,13 +98,13 @@ module _ {m n N s : ℕ} {q : Step} {bytes : List ℕ} {t′ after : List ℤ} {
   verdict = stepCall m n N s q (cellsOf 4 bytes)
 
   -- what the call said, once its answer is known to be x
-  said : (x : Answer) → r ≡ x → answerMeaning x after ≡ stepCall m n N s q t′
-  said x e = ap (λ (y : Answer). answerMeaning y after) (sym e) ∙ o .call .answer
+  said : (x : Answer) → r ≡ x → reducedMeaning x after ≡ stepCall m n N s q t′
+  said x e = ap (λ (y : Answer). reducedMeaning y after) (sym e) ∙ o .call .answer
 
-  said-answer : (x : Answer) → r ≡ x → stepAnswer (answerMeaning x after) ≡ stepAnswer verdict
+  said-answer : (x : Answer) → r ≡ x → stepAnswer (reducedMeaning x after) ≡ stepAnswer verdict
   said-answer x e = ap stepAnswer (said x e) ∙ copy-answer m n N s q bytes (o .are) t′ (o .copy)
 
-  said-bytes : (x : Answer) → r ≡ x → tableBytes (answerMeaning x after) bytes ≡ tableBytes verdict bytes
+  said-bytes : (x : Answer) → r ≡ x → tableBytes (reducedMeaning x after) bytes ≡ tableBytes verdict bytes
   said-bytes x e = ap (λ (v : Verdict Reduced). tableBytes v bytes) (said x e) ∙ copy-bytes m n N s q bytes (o .are) t′ (o .copy)
 
   pub arcs-small : (a : ℕ) → r ≡ A.Left a → a ≤ maxVertices * maxVertices
@@ -119,4 +119,4 @@ module _ {m n N s : ℕ} {q : Step} {bytes : List ℕ} {t′ after : List ℤ} {
 -- the scratch that is lent on
 pub step-room : (m n N s : ℕ) (q : Step) (t : List ℤ) → stepCall m n N (shown N N s) q t ≡ stepCall m n N s q t
 unfolding stepCall
-step-room m n N s q t = ap (λ (v : Verdict Graph). v then λ g. plan m n N q g then λ g′. accepted (oneStep N t g′)) (checked-room m n N s t)
+step-room m n N s q t = ap (λ (v : Verdict Graph). v then stepOn m n N q t) (checked-room m n N s t)

@@ -26,9 +26,16 @@ abbrev pub tableBytes : Verdict Reduced → List ℕ → List ℕ
 tableBytes (refused r) bytes = bytes
 tableBytes (accepted x) bytes = withCells 4 (x .table) bytes
 
--- document 01's calls over the whole cells of byte runs
+-- document 01's calls over the whole cells of byte runs, with a scratch of s cells
+abbrev pub matrixWith : ℕ → ℕ → ℕ → ℕ → List ℕ → List ℕ → Verdict (List ℤ)
+matrixWith m n N s table matrix = matrixCall m n N s (cellsOf 4 table) (cellsOf 8 matrix)
+
+abbrev pub stepWith : ℕ → ℕ → ℕ → ℕ → Step → List ℕ → Verdict Reduced
+stepWith m n N s q table = stepCall m n N s q (cellsOf 4 table)
+
+-- and with the cells of a scratch of bytes
 abbrev pub matrixOver : ℕ → ℕ → ℕ → List ℕ → List ℕ → List ℕ → Verdict (List ℤ)
-matrixOver m n N table scratch matrix = matrixCall m n N (wholeCells 8 scratch) (cellsOf 4 table) (cellsOf 8 matrix)
+matrixOver m n N table scratch matrix = matrixWith m n N (wholeCells 8 scratch) table matrix
 
 abbrev pub stepOver : ℕ → ℕ → ℕ → Step → List ℕ → List ℕ → Verdict Reduced
-stepOver m n N q table scratch = stepCall m n N (wholeCells 8 scratch) q (cellsOf 4 table)
+stepOver m n N q table scratch = stepWith m n N (wholeCells 8 scratch) q table

@@ -1,3 +1,4 @@
 pub mod Runs
 pub mod Shown
 pub mod Answers
+pub mod Beyond

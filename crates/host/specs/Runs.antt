@@ -10,12 +10,12 @@ abbrev pub wholeCells : ℕ → List ℕ → ℕ
 wholeCells w s = length s / w
 
 -- cell x stands in the w bytes from w × x on
-abbrev pub cellAt : ℕ → List ℕ → ℕ → ℤ
-cellAt w s x = signedAt w s (w * x)
+abbrev pub runCell : ℕ → List ℕ → ℕ → ℤ
+runCell w s x = signedAt w s (w * x)
 
 -- the whole cells of a run
 unfoldable pub cellsOf : ℕ → List ℕ → List ℤ
-cellsOf w s = tabulate (wholeCells w s) (cellAt w s)
+cellsOf w s = tabulate (wholeCells w s) (runCell w s)
 
 -- byte i of cell x
 abbrev pub cellByte : ℕ → List ℤ → ℕ → ℕ → ℕ

@@ -6,6 +6,7 @@ mod runs;
 
 use steps::step::Step;
 ghost use mathlib.Core.Path.{_≡_};
+ghost use Rattle.laws.specs.Lent.{was};
 ghost use Rattle.reduction.specs.Steps.{shrink, prune};
 ghost use Rattle.host.specs.Answers.{matrixAnswer, matrixBytes, matrixOver, stepAnswer, tableBytes, stepOver};
 
@@ -19,9 +20,9 @@ pub extern "C" fn board_matrix(
     scratch: &mut [u8],
     matrix: &mut [u8],
 ) -> i64
-    ensures { λ r. ⌜ r ≡ matrixAnswer (matrixOver inputs outputs vertices (now (table .entry)) (now (scratch .entry)) (now (matrix .entry))) ⌝ }
-    ensures { λ _. ⌜ now (matrix .exit) ≡ matrixBytes (matrixOver inputs outputs vertices (now (table .entry)) (now (scratch .entry)) (now (matrix .entry))) (now (matrix .entry)) ⌝ }
-    ensures { λ _. ⌜ now (scratch .exit) ≡ now (scratch .entry) ⌝ }
+    ensures { λ r. ⌜ r ≡ matrixAnswer (matrixOver inputs outputs vertices (was table) (was scratch) (was matrix)) ⌝ }
+    ensures { λ _. ⌜ now (matrix .exit) ≡ matrixBytes (matrixOver inputs outputs vertices (was table) (was scratch) (was matrix)) (was matrix) ⌝ }
+    ensures { λ _. ⌜ now (scratch .exit) ≡ was scratch ⌝ }
 {
     matrix::matrix(inputs, outputs, vertices, table, scratch, matrix)
 }
@@ -36,9 +37,9 @@ pub extern "C" fn board_shrink(
     scratch: &mut [u8],
     k: usize,
 ) -> i64
-    ensures { λ r. ⌜ r ≡ stepAnswer (stepOver inputs outputs vertices (shrink k) (now (table .entry)) (now (scratch .entry))) ⌝ }
-    ensures { λ _. ⌜ now (table .exit) ≡ tableBytes (stepOver inputs outputs vertices (shrink k) (now (table .entry)) (now (scratch .entry))) (now (table .entry)) ⌝ }
-    ensures { λ _. ⌜ now (scratch .exit) ≡ now (scratch .entry) ⌝ }
+    ensures { λ r. ⌜ r ≡ stepAnswer (stepOver inputs outputs vertices (shrink k) (was table) (was scratch)) ⌝ }
+    ensures { λ _. ⌜ now (table .exit) ≡ tableBytes (stepOver inputs outputs vertices (shrink k) (was table) (was scratch)) (was table) ⌝ }
+    ensures { λ _. ⌜ now (scratch .exit) ≡ was scratch ⌝ }
 {
     reduce::reduce(inputs, outputs, vertices, table, scratch, Step::Shrink(k))
 }
@@ -52,9 +53,9 @@ pub extern "C" fn board_prune(
     table: &mut [u8],
     scratch: &mut [u8],
 ) -> i64
-    ensures { λ r. ⌜ r ≡ stepAnswer (stepOver inputs outputs vertices prune (now (table .entry)) (now (scratch .entry))) ⌝ }
-    ensures { λ _. ⌜ now (table .exit) ≡ tableBytes (stepOver inputs outputs vertices prune (now (table .entry)) (now (scratch .entry))) (now (table .entry)) ⌝ }
-    ensures { λ _. ⌜ now (scratch .exit) ≡ now (scratch .entry) ⌝ }
+    ensures { λ r. ⌜ r ≡ stepAnswer (stepOver inputs outputs vertices prune (was table) (was scratch)) ⌝ }
+    ensures { λ _. ⌜ now (table .exit) ≡ tableBytes (stepOver inputs outputs vertices prune (was table) (was scratch)) (was table) ⌝ }
+    ensures { λ _. ⌜ now (scratch .exit) ≡ was scratch ⌝ }
 {
     reduce::reduce(inputs, outputs, vertices, table, scratch, Step::Prune)
 }

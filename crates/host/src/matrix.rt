@@ -3,12 +3,13 @@ use crate::answers;
 use crate::runs;
 use paths::queries;
 use paths::queries::Answer;
+use paths::room;
 ghost use mathlib.Core.Path.{_≡_};
 ghost use lib.ListN.{length};
-ghost use Rattle.timing.specs.Queries.{matrixCall};
-ghost use Rattle.host.specs.Runs.{wholeCells, cellsOf};
+ghost use Rattle.laws.specs.Lent.{was};
+ghost use Rattle.host.specs.Runs.{wholeCells};
 ghost use Rattle.host.specs.Shown.{shown};
-ghost use Rattle.host.specs.Answers.{matrixAnswer, matrixBytes, matrixOver};
+ghost use Rattle.host.specs.Answers.{matrixAnswer, matrixBytes, matrixWith, matrixOver};
 
 // What an accepted call answers.
 const DONE: i64 = 0;
@@ -24,9 +25,10 @@ fn matrix_in(
     matrix: &mut [u8],
     delays: &mut [i64],
 ) -> i64
-    requires { ⌜ (length (now cells) ≡ shown vertices vertices (wholeCells 4 (now table))) × (length (now delays) ≡ shown inputs outputs (wholeCells 8 (now matrix))) ⌝ }
-    ensures { λ r. ⌜ r ≡ matrixAnswer (matrixCall inputs outputs vertices (length (now (scratch .entry))) (cellsOf 4 (now (table .entry))) (cellsOf 8 (now (matrix .entry)))) ⌝ }
-    ensures { λ _. ⌜ now (matrix .exit) ≡ matrixBytes (matrixCall inputs outputs vertices (length (now (scratch .entry))) (cellsOf 4 (now (table .entry))) (cellsOf 8 (now (matrix .entry)))) (now (matrix .entry)) ⌝ }
+    requires { ⌜ length (now cells) ≡ shown vertices vertices (wholeCells 4 (now table)) ⌝ }
+    requires { ⌜ length (now delays) ≡ shown inputs outputs (wholeCells 8 (now matrix)) ⌝ }
+    ensures { λ r. ⌜ r ≡ matrixAnswer (matrixWith inputs outputs vertices (length (was scratch)) (was table) (was matrix)) ⌝ }
+    ensures { λ _. ⌜ now (matrix .exit) ≡ matrixBytes (matrixWith inputs outputs vertices (length (was scratch)) (was table) (was matrix)) (was matrix) ⌝ }
 {
     runs::take_table(table, cells);
     let answer = queries::delay_matrix(inputs, outputs, vertices, cells, scratch, delays);
@@ -48,15 +50,15 @@ pub fn matrix(
     scratch: &[u8],
     matrix: &mut [u8],
 ) -> i64
-    ensures { λ r. ⌜ r ≡ matrixAnswer (matrixOver inputs outputs vertices (now (table .entry)) (now (scratch .entry)) (now (matrix .entry))) ⌝ }
-    ensures { λ _. ⌜ now (matrix .exit) ≡ matrixBytes (matrixOver inputs outputs vertices (now (table .entry)) (now (scratch .entry)) (now (matrix .entry))) (now (matrix .entry)) ⌝ }
+    ensures { λ r. ⌜ r ≡ matrixAnswer (matrixOver inputs outputs vertices (was table) (was scratch) (was matrix)) ⌝ }
+    ensures { λ _. ⌜ now (matrix .exit) ≡ matrixBytes (matrixOver inputs outputs vertices (was table) (was scratch) (was matrix)) (was matrix) ⌝ }
 {
     let count = runs::shown(vertices, vertices, table.len() / 4);
     let room = runs::shown(vertices, vertices, scratch.len() / 8);
     let pairs = runs::shown(inputs, outputs, matrix.len() / 8);
-    let mut cells = runs::table_cells();
-    let mut wide = runs::wide_cells();
-    let mut delays = runs::wide_cells();
+    let mut cells = room::cells();
+    let mut wide = room::wide_cells();
+    let mut delays = room::wide_cells();
     matrix_in(
         inputs,
         outputs,

@@ -1,16 +1,17 @@
 // A step over a table of bytes.
 use crate::answers;
 use crate::runs;
+use paths::room;
 use steps::answer::Answer;
 use steps::calls;
 use steps::step::Step;
 ghost use mathlib.Core.Path.{_≡_};
 ghost use lib.ListN.{length};
-ghost use Rattle.reduction.specs.Steps.{stepCall};
+ghost use Rattle.laws.specs.Lent.{was};
 ghost use Rattle.steps.specs.Reduces.{stepMeaning};
-ghost use Rattle.host.specs.Runs.{wholeCells, cellsOf};
+ghost use Rattle.host.specs.Runs.{wholeCells};
 ghost use Rattle.host.specs.Shown.{shown};
-ghost use Rattle.host.specs.Answers.{stepAnswer, tableBytes, stepOver};
+ghost use Rattle.host.specs.Answers.{stepAnswer, tableBytes, stepWith, stepOver};
 
 // The step, with lent room for the table's cells and a scratch.
 fn reduce_in(
@@ -23,8 +24,8 @@ fn reduce_in(
     step: Step,
 ) -> i64
     requires { ⌜ length (now cells) ≡ shown vertices vertices (wholeCells 4 (now table)) ⌝ }
-    ensures { λ r. ⌜ r ≡ stepAnswer (stepCall inputs outputs vertices (length (now (scratch .entry))) (stepMeaning step) (cellsOf 4 (now (table .entry)))) ⌝ }
-    ensures { λ _. ⌜ now (table .exit) ≡ tableBytes (stepCall inputs outputs vertices (length (now (scratch .entry))) (stepMeaning step) (cellsOf 4 (now (table .entry)))) (now (table .entry)) ⌝ }
+    ensures { λ r. ⌜ r ≡ stepAnswer (stepWith inputs outputs vertices (length (was scratch)) (stepMeaning step) (was table)) ⌝ }
+    ensures { λ _. ⌜ now (table .exit) ≡ tableBytes (stepWith inputs outputs vertices (length (was scratch)) (stepMeaning step) (was table)) (was table) ⌝ }
 {
     runs::take_table(table, cells);
     let answer = calls::reduce(inputs, outputs, vertices, cells, scratch, step);
@@ -46,13 +47,13 @@ pub fn reduce(
     scratch: &[u8],
     step: Step,
 ) -> i64
-    ensures { λ r. ⌜ r ≡ stepAnswer (stepOver inputs outputs vertices (stepMeaning step) (now (table .entry)) (now (scratch .entry))) ⌝ }
-    ensures { λ _. ⌜ now (table .exit) ≡ tableBytes (stepOver inputs outputs vertices (stepMeaning step) (now (table .entry)) (now (scratch .entry))) (now (table .entry)) ⌝ }
+    ensures { λ r. ⌜ r ≡ stepAnswer (stepOver inputs outputs vertices (stepMeaning step) (was table) (was scratch)) ⌝ }
+    ensures { λ _. ⌜ now (table .exit) ≡ tableBytes (stepOver inputs outputs vertices (stepMeaning step) (was table) (was scratch)) (was table) ⌝ }
 {
     let count = runs::shown(vertices, vertices, table.len() / 4);
     let room = runs::shown(vertices, vertices, scratch.len() / 8);
-    let mut cells = runs::table_cells();
-    let mut wide = runs::wide_cells();
+    let mut cells = room::cells();
+    let mut wide = room::wide_cells();
     reduce_in(
         inputs,
         outputs,

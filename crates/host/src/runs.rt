@@ -6,23 +6,10 @@ ghost use mathlib.Core.Path.{_≡_};
 ghost use Prim.Native.Nat.{_+_, _*_, _≤_};
 ghost use lib.ListN.{length};
 ghost use Rattle.laws.specs.Lists.{tabulate};
+ghost use Rattle.laws.specs.Lent.{was};
 ghost use Rattle.timing.specs.Limits.{maxVertices};
-ghost use Rattle.host.specs.Runs.{cellAt, withCells};
+ghost use Rattle.host.specs.Runs.{runCell, withCells};
 ghost use Rattle.host.specs.Shown.{shown};
-
-// Room for the cells of any table.
-pub fn table_cells() -> [i32; Board::MAX_CELLS]
-    ensures { λ r. ⌜ length r ≡ maxVertices * maxVertices ⌝ }
-{
-    [0i32; Board::MAX_CELLS]
-}
-
-// Room for any scratch and any matrix.
-pub fn wide_cells() -> [i64; Board::MAX_CELLS]
-    ensures { λ r. ⌜ length r ≡ maxVertices * maxVertices ⌝ }
-{
-    [0i64; Board::MAX_CELLS]
-}
 
 // How many of a run's cells a call can use.
 pub fn shown(rows: usize, columns: usize, cells: usize) -> usize
@@ -44,7 +31,7 @@ pub fn shown(rows: usize, columns: usize, cells: usize) -> usize
 // Cell x of a table.
 fn cell_at(bytes: &[u8], x: usize) -> i32
     requires { ⌜ 4 * x + 4 ≤ length (now bytes) ⌝ }
-    ensures { λ r. ⌜ r ≡ cellAt 4 (now (bytes .entry)) x ⌝ }
+    ensures { λ r. ⌜ r ≡ runCell 4 (was bytes) x ⌝ }
 {
     signed::decode(bytes, 4 * x, 4) as i32
 }
@@ -52,7 +39,7 @@ fn cell_at(bytes: &[u8], x: usize) -> i32
 // The first cells of a table.
 pub fn take_table(bytes: &[u8], cells: &mut [i32])
     requires { ⌜ 4 * length (now cells) ≤ length (now bytes) ⌝ }
-    ensures { λ _. ⌜ now (cells .exit) ≡ tabulate (length (now (cells .entry))) (cellAt 4 (now (bytes .entry))) ⌝ }
+    ensures { λ _. ⌜ now (cells .exit) ≡ tabulate (length (was cells)) (runCell 4 (was bytes)) ⌝ }
 {
     let mut x = 0;
     while x < cells.len() {
@@ -64,7 +51,7 @@ pub fn take_table(bytes: &[u8], cells: &mut [i32])
 // The first cells of a table, put back.
 pub fn put_table(bytes: &mut [u8], cells: &[i32])
     requires { ⌜ 4 * length (now cells) ≤ length (now bytes) ⌝ }
-    ensures { λ _. ⌜ now (bytes .exit) ≡ withCells 4 (now (cells .entry)) (now (bytes .entry)) ⌝ }
+    ensures { λ _. ⌜ now (bytes .exit) ≡ withCells 4 (was cells) (was bytes) ⌝ }
 {
     let mut x = 0;
     while x < cells.len() {
@@ -76,7 +63,7 @@ pub fn put_table(bytes: &mut [u8], cells: &[i32])
 // The first cells of a matrix.
 pub fn put_matrix(bytes: &mut [u8], cells: &[i64])
     requires { ⌜ 8 * length (now cells) ≤ length (now bytes) ⌝ }
-    ensures { λ _. ⌜ now (bytes .exit) ≡ withCells 8 (now (cells .entry)) (now (bytes .entry)) ⌝ }
+    ensures { λ _. ⌜ now (bytes .exit) ≡ withCells 8 (was cells) (was bytes) ⌝ }
 {
     let mut x = 0;
     while x < cells.len() {

@@ -3,7 +3,7 @@ use mathlib.Core.Path.{_≡_, refl, sym, subst}
 use mathlib.Core.Logic.{_≢_, _⊎_, inl, inr}
 use mathlib.Core.Bool.{Bool, true, false, not, cond, _&&_, _||_}
 use Prim.Native.Nat.{ℕ}
-use lib.Dec.{T, T-not, eqb, eqb→eq, eqb-refl}
+use lib.Dec.{T, T-not, not-T, eqb, eqb→eq, eqb-refl}
 
 pub T-true : {b : Bool} → T b → b ≡ true
 T-true {b = true} t = refl
@@ -58,6 +58,9 @@ eq→eqb m n e = subst (λ (x : ℕ). T (eqb m x)) e (eqb-refl m)
 
 pub neqb→ne : (m n : ℕ) → T (not (eqb m n)) → m ≢ n
 neqb→ne m n t e = T-not (eqb m n) t (eq→eqb m n e)
+
+pub ne→neqb : (m n : ℕ) → m ≢ n → T (not (eqb m n))
+ne→neqb m n h = not-T (eqb m n) (λ t. h (eqb→eq m n t))
 
 -- ---- by cases, with the scrutinee first so that the cases' types are known
 

@@ -1,3 +1,4 @@
 pub mod Integers
 pub mod Bounded
 pub mod Lists
+pub mod Lent

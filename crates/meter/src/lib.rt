@@ -4,14 +4,13 @@ use paths::queries::Answer;
 use run::answer::Ran;
 use steps::answer::Answer as Stepped;
 use timing::numbers;
-ghost use mathlib.Core.Path.{_≡_};
 ghost use lib.ListN.{length};
+ghost use Rattle.laws.specs.Lent.{was};
 ghost use Rattle.timing.specs.Queries.{matrixCall};
 ghost use Rattle.reduction.specs.Steps.{prune, stepCall};
 ghost use Rattle.reduction.specs.Run.{runCall};
-ghost use Rattle.paths.specs.Queries.{written, ScratchAfter};
-ghost use Rattle.steps.specs.Reduces.{tableAfter};
-ghost use Rattle.meter.specs.Answers.{numberOf};
+ghost use Rattle.paths.specs.Queries.{ScratchAfter};
+ghost use Rattle.meter.specs.Answers.{Measures};
 
 #[no_mangle]
 pub extern "C" fn meter_matrix(
@@ -22,9 +21,8 @@ pub extern "C" fn meter_matrix(
     scratch: &mut [i64],
     matrix: &mut [i64],
 ) -> usize
-    ensures { λ r. ⌜ r ≡ numberOf (matrixCall inputs outputs vertices (length (now (scratch .entry))) (now (table .entry)) (now (matrix .entry))) ⌝ }
-    ensures { λ _. ⌜ now (matrix .exit) ≡ written (matrixCall inputs outputs vertices (length (now (scratch .entry))) (now (table .entry)) (now (matrix .entry))) (now (matrix .entry)) ⌝ }
-    ensures { λ _. ⌜ ScratchAfter inputs outputs vertices (now (table .entry)) (now (scratch .entry)) (now (scratch .exit)) ⌝ }
+    ensures { λ r. ⌜ Measures (λ x. x) (matrixCall inputs outputs vertices (length (was scratch)) (was table) (was matrix)) (was matrix) (now (matrix .exit)) r ⌝ }
+    ensures { λ _. ⌜ ScratchAfter inputs outputs vertices (was table) (was scratch) (now (scratch .exit)) ⌝ }
 {
     let answer = queries::delay_matrix(inputs, outputs, vertices, table, scratch, matrix);
     match answer {
@@ -41,9 +39,8 @@ pub extern "C" fn meter_prune(
     table: &mut [i32],
     scratch: &mut [i64],
 ) -> usize
-    ensures { λ r. ⌜ r ≡ numberOf (stepCall inputs outputs vertices (length (now (scratch .entry))) prune (now (table .entry))) ⌝ }
-    ensures { λ _. ⌜ now (table .exit) ≡ tableAfter (stepCall inputs outputs vertices (length (now (scratch .entry))) prune (now (table .entry))) (now (table .entry)) ⌝ }
-    ensures { λ _. ⌜ ScratchAfter inputs outputs vertices (now (table .entry)) (now (scratch .entry)) (now (scratch .exit)) ⌝ }
+    ensures { λ r. ⌜ Measures (λ x. x .table) (stepCall inputs outputs vertices (length (was scratch)) prune (was table)) (was table) (now (table .exit)) r ⌝ }
+    ensures { λ _. ⌜ ScratchAfter inputs outputs vertices (was table) (was scratch) (now (scratch .exit)) ⌝ }
 {
     let answer = steps::calls::prune(inputs, outputs, vertices, table, scratch);
     match answer {
@@ -60,9 +57,8 @@ pub extern "C" fn meter_run(
     table: &mut [i32],
     scratch: &mut [i64],
 ) -> usize
-    ensures { λ r. ⌜ r ≡ numberOf (runCall inputs outputs vertices (length (now (scratch .entry))) (now (table .entry))) ⌝ }
-    ensures { λ _. ⌜ now (table .exit) ≡ tableAfter (runCall inputs outputs vertices (length (now (scratch .entry))) (now (table .entry))) (now (table .entry)) ⌝ }
-    ensures { λ _. ⌜ ScratchAfter inputs outputs vertices (now (table .entry)) (now (scratch .entry)) (now (scratch .exit)) ⌝ }
+    ensures { λ r. ⌜ Measures (λ x. x .table) (runCall inputs outputs vertices (length (was scratch)) (was table)) (was table) (now (table .exit)) r ⌝ }
+    ensures { λ _. ⌜ ScratchAfter inputs outputs vertices (was table) (was scratch) (now (scratch .exit)) ⌝ }
 {
     let answer = run::calls::run(inputs, outputs, vertices, table, scratch);
     match answer {

@@ -12,7 +12,7 @@ use Rattle.laws.proofs.Booleans.{and-i}
 use Rattle.graph.specs.Graph.{Graph}
 use Rattle.timing.specs.declared.Refusal.{Refusal}
 use Rattle.timing.specs.Limits.{scratchCells}
-use Rattle.timing.specs.Refusal.{Verdict, accepted, _then_}
+use Rattle.timing.specs.Refusal.{number, Verdict, refused, accepted, _then_, leftBy, Answers}
 use Rattle.timing.specs.Table.{graphOf}
 use Rattle.timing.specs.Checks.{sizesFit, tableFits, scratchFits, checked}
 use Rattle.paths.specs.declared.board.Board.{Board}
@@ -20,9 +20,8 @@ use Rattle.paths.specs.declared.board.Made.{Made}
 use Rattle.paths.specs.declared.board.Made.the-variants as M
 use Rattle.paths.specs.declared.queries.Answer.{Answer}
 use Rattle.paths.specs.declared.queries.Answer.the-variants as A
-use Rattle.paths.specs.Arrivals.{Passable}
-use Rattle.paths.specs.Checked.{Checking}
-use Rattle.paths.specs.Queries.{written, Answers, lentFits, ScratchAfter}
+use Rattle.paths.specs.Checked.{Checking, Passable}
+use Rattle.paths.specs.Queries.{lentFits, ScratchAfter}
 use Rattle.paths.proofs.Sizes.{sizes-fit}
 use Rattle.paths.proofs.Checking.{call-on, call-refused}
 
@@ -37,14 +36,17 @@ module _ {m n N s : ℕ} {t : List ℤ} {o : List ℕ} {made : Made} (c : Checki
       let e = call-on m n N s t b made (c .answer) q (f m n N) in
       subst P (sym (e .0)) (subst (λ (x : Board). P (f (x .inputs) (x .outputs) (x .vertices) (graphOf (x .vertices) t))) (sym (e .1)) h)
 
-  pub answers-on : (b : Board) → made ≡ M.Board b → (f : Part (List ℤ)) (before after : List ℤ) (r : Answer) → Answers (f (b .inputs) (b .outputs) (b .vertices) (graphOf (b .vertices) t)) before after r
-      → Answers (checked m n N s t then f m n N) before after r
-  answers-on b q f before after r h = call-is (λ (v : Verdict (List ℤ)). Answers v before after r) f b q h
+  -- and so does a promise
+  module _ {R A L : Type 0} {meaning : R → L → Verdict A} {part : A → L} where
+    pub answers-on : (b : Board) → made ≡ M.Board b → (f : Part A) (before after : L) (r : R) → Answers meaning part (f (b .inputs) (b .outputs) (b .vertices) (graphOf (b .vertices) t)) before after r
+        → Answers meaning part (checked m n N s t then f m n N) before after r
+    answers-on b q f before after r h = call-is (λ (v : Verdict A). Answers meaning part v before after r) f b q h
 
-  pub answers-refused : (x : Refusal) → made ≡ M.Refused x → (f : Graph → Verdict (List ℤ)) (before : List ℤ) → Answers (checked m n N s t then f) before before (A.Refused x)
-  answers-refused x q f before =
-      let e = call-refused m n N s t x made (c .answer) q f in
-      record { answer = sym e; destination = sym (ap (λ (v : Verdict (List ℤ)). written v before) e) }
+    -- the checks refused, and answer r says their number
+    pub answers-refused : (x : Refusal) → made ≡ M.Refused x → (f : Graph → Verdict A) (before : L) (r : R) → meaning r before ≡ refused (number x) → Answers meaning part (checked m n N s t then f) before before r
+    answers-refused x q f before r said =
+        let e = call-refused m n N s t x made (c .answer) q f in
+        record { answer = said ∙ sym e; left = sym (ap (λ (v : Verdict A). leftBy part v before) e) }
 
   -- the checks passed, so that only the cells past those that the call may use are promised
   pub scratch-on : (b : Board) → made ≡ M.Board b → (before after : List ℤ) → s ≡ length before → drop (scratchCells (b .vertices)) after ≡ drop (scratchCells (b .vertices)) before → ScratchAfter m n N t before after
@@ -58,7 +60,7 @@ module _ {m n N s : ℕ} {t : List ℤ} {o : List ℕ} {made : Made} (c : Checki
 
       all-fit : Passable b t o × (scratchCells (b .vertices) ≤ s) → T (lentFits (b .inputs) (b .outputs) (b .vertices) t (length before))
       all-fit p = and-i (sizesFit (b .inputs) (b .outputs) (b .vertices) && tableFits (b .vertices) t) (scratchFits (b .vertices) (length before))
-          (and-i (sizesFit (b .inputs) (b .outputs) (b .vertices)) (tableFits (b .vertices) t) (sizes-fit b (p .0 .lent .sized)) (le→leb (b .vertices * b .vertices) (length t) (p .0 .lent .room))) (le→leb (scratchCells (b .vertices)) (length before) (omega (arith, p .1)))
+          (and-i (sizesFit (b .inputs) (b .outputs) (b .vertices)) (tableFits (b .vertices) t) (sizes-fit b (p .0 .checked .lent .sized)) (le→leb (b .vertices * b .vertices) (length t) (p .0 .checked .lent .room))) (le→leb (scratchCells (b .vertices)) (length before) (omega (arith, p .1)))
 
 pub scratch-same : {m n N : ℕ} {t before : List ℤ} → ScratchAfter m n N t before before
 scratch-same = record { past = refl; untouched = λ _. refl }

@@ -25,7 +25,7 @@ use Rattle.timing.proofs.Limits.{fits-span, span-fits}
 use Rattle.paths.specs.declared.board.Board.{Board}
 use Rattle.paths.specs.declared.queries.Answer.the-variants as A
 use Rattle.paths.specs.Arrivals.{insideLimit, filled, Given}
-use Rattle.paths.specs.Queries.{Answers}
+use Rattle.paths.specs.Queries.{Fills}
 use Rattle.paths.proofs.Starting.{stored-cell}
 
 pub given-of : (b : Board) (a : List ℤ) → arrivalsFit (b .inputs) a ≡ true → Given b a
@@ -39,19 +39,19 @@ given-of b a e =
     }
 
 module _ (m n N : ℕ) (a before : List ℤ) (g : Graph) where
-  pub lists-refused : (arrivalsFit m a ≡ false) ⊎ (length before ≢ n) → Answers (arrivalsInto m n N a before g) before before (A.Refused ArrivalLists)
+  pub lists-refused : (arrivalsFit m a ≡ false) ⊎ (length before ≢ n) → Fills (arrivalsInto m n N a before g) before before (A.Refused ArrivalLists)
   unfolding arrivalsInto
-  lists-refused h = let e = fails h in record { answer = simp e; destination = simp e }
+  lists-refused h = let e = fails h in record { answer = simp e; left = simp e }
     where
       fails : (arrivalsFit m a ≡ false) ⊎ (length before ≢ n) → (arrivalsFit m a && eqb (length before) n) ≡ false
       fails (inl z) = simp z
       fails (inr ne) = is-false (arrivalsFit m a && eqb (length before) n) (λ t. ne (eqb→eq (length before) n (and-e (arrivalsFit m a) (eqb (length before) n) t .1)))
 
-  pub lists-done : arrivalsFit m a ≡ true → length before ≡ n → (after : List ℤ) → after ≡ outputArrivals m n N g a → Answers (arrivalsInto m n N a before g) before after A.Done
+  pub lists-done : arrivalsFit m a ≡ true → length before ≡ n → (after : List ℤ) → after ≡ outputArrivals m n N g a → Fills (arrivalsInto m n N a before g) before after A.Done
   unfolding arrivalsInto
   lists-done e l after q =
       let k = T-true {b = eqb (length before) n} (eq→eqb (length before) n l) in
-      record { answer = simp (e, k) (ap accepted q); destination = simp (e, k) q }
+      record { answer = simp (e, k) (ap accepted q); left = simp (e, k) q }
 
 -- the outputs' cells, copied out of the arrivals
 pub copied : (b : Board) (a s s′ : List ℤ) (g : Graph) (k : ℕ) → b .inputs + b .outputs ≤ b .vertices → k ≡ b .outputs → s′ ≡ filled (b .vertices) (arrivalAt (b .inputs) (b .vertices) g (arrivalIn a)) s

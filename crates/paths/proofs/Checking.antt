@@ -1,4 +1,4 @@
--- Each answer of the checks is what `boardChecked` says under the tests that led there.
+-- Each answer of the checks is what its verdict says under the tests that led there.
 use mathlib.Core.Path.{_≡_, sym, ap, _∙_, subst}
 use mathlib.Core.Bool.{Bool, true, false}
 use mathlib.Core.List.{List}
@@ -9,92 +9,24 @@ use lib.IntN.{ℤ}
 use lib.ListN.{length}
 use Rattle.laws.proofs.Booleans.{T-true, true-is}
 use Rattle.graph.specs.Graph.{Graph}
-use Rattle.timing.specs.Limits.{maxVertices, scratchCells}
+use Rattle.timing.specs.Limits.{scratchCells}
 use Rattle.timing.specs.declared.Refusal.{Refusal}
-use Rattle.timing.specs.declared.Refusal.the-variants.{Sizes, TableShort, ScratchShort, OddCell, ArcIntoInput, Cycle}
+use Rattle.timing.specs.declared.Refusal.the-variants.{Sizes, OddCell}
 use Rattle.timing.specs.Refusal.{number, Verdict, refused, accepted, require, _then_}
 use Rattle.timing.specs.Table.{graphOf}
-use Rattle.timing.specs.Checks.{sizesFit, tableFits, scratchFits, cellsFit, noArcIntoInput, noCycle, checked}
+use Rattle.timing.specs.Checks.{sizesFit, cellsFit, memoryChecked, arcsChecked, checked}
 use Rattle.timing.proofs.Table.{graphOf-within}
 use Rattle.timing.proofs.Verdict.{require-accepted, then-accepted, same-accepted}
-use Rattle.timing.proofs.Checks.{sound-of, checked-accepted}
+use Rattle.timing.proofs.Checks.{sound-of, arcs-accepted, checked-accepted}
 use Rattle.paths.specs.declared.board.Board.{Board}
 use Rattle.paths.specs.declared.board.Made.{Made}
 use Rattle.paths.specs.declared.board.Made.the-variants as M
-use Rattle.paths.specs.Board.{boardMeaning, boardOf, Sized}
-use Rattle.paths.specs.Order.{TopologicalOrder}
-use Rattle.paths.specs.Arrivals.{Passable}
-use Rattle.paths.specs.Checked.{boardChecked, Checking}
+use Rattle.paths.specs.Board.{boardMeaning, boardOf, Sized, Lent, graphIn}
+use Rattle.paths.specs.Checked.{Passable, memoryBoard, MemoryChecking, arcsBoard, ArcsChecking, boardChecked, Checking}
 use Rattle.paths.proofs.Sizes.{sizes, sized, sizes-fit}
 
--- a refusal with its equation
-pub refusal : {m n N s : ℕ} {t : List ℤ} {o : List ℕ} (r : Refusal) → boardChecked m n N s t ≡ refused (number r) → Checking m n N s t o (M.Refused r)
-refusal r e = record { answer = sym e; passable = λ b z. absurd (never b z); long = λ b z. absurd (never b z) }
-  where
-    never : (b : Board) → M.Refused r ≡ M.Board b → ⊥
-    never b z = let q : _≡_ {A = ℕ} 0 1 = cc in omega arith
-
--- check 1 fails
-pub sizes-refused : (m n N s : ℕ) (t : List ℤ) (r : ℕ) → boardOf m n N ≡ refused r → boardChecked m n N s t ≡ refused r
-unfolding boardOf boardChecked checked
-sizes-refused m n N s t r e = go (sizesFit m n N) e
-  where
-    go : (b : Bool) → require b Sizes (accepted (sizes m n N)) ≡ refused r
-        → (require b Sizes (require (tableFits N t) TableShort (require (scratchFits N s) ScratchShort (require (cellsFit N (graphOf N t)) OddCell (require (noArcIntoInput m N (graphOf N t)) ArcIntoInput (require (noCycle N (graphOf N t)) Cycle (accepted (graphOf N t)))))))
-        then λ _. accepted (sizes m n N)) ≡ refused r
-    go true z = absurd (let q : _≡_ {A = ℕ} 0 1 = cc in omega arith)
-    go false z = (cc)
-
-module _ (b : Board) (z : Sized b) (s : ℕ) (t : List ℤ) where
-  abbrev N : ℕ
-  N = b .vertices
-
-  abbrev m : ℕ
-  m = b .inputs
-
-  abbrev Found : Verdict Board → Type 0
-  Found v = boardChecked (b .inputs) (b .outputs) (b .vertices) s t ≡ v
-
-  one : sizesFit m (b .outputs) N ≡ true
-  one = T-true (sizes-fit b z)
-
-  pub table-short : length t < N * N → Found (refused 2)
-  unfolding boardChecked checked
-  table-short h = simp (one, lt-leb (N * N) (length t) h)
-
-  module _ (two : b .vertices * b .vertices ≤ length t) where
-    pub scratch-short : s < scratchCells N → Found (refused 3)
-    unfolding boardChecked checked
-    scratch-short h = simp (one, le-leb (N * N) (length t) two, lt-leb (N * N) s h)
-
-    module _ (three : scratchCells (b .vertices) ≤ s) where
-      pub odd-cell : cellsFit N (graphOf N t) ≡ false → Found (refused 4)
-      unfolding boardChecked checked
-      odd-cell e = simp (one, le-leb (N * N) (length t) two, le-leb (N * N) s three, e)
-
-      module _ (four : cellsFit (b .vertices) (graphOf (b .vertices) t) ≡ true) where
-        pub arc-into-input : noArcIntoInput m N (graphOf N t) ≡ false → Found (refused 5)
-        unfolding boardChecked checked
-        arc-into-input e = simp (one, le-leb (N * N) (length t) two, le-leb (N * N) s three, four, e)
-
-        module _ (five : noArcIntoInput (b .inputs) (b .vertices) (graphOf (b .vertices) t) ≡ true) where
-          pub cycle : noCycle N (graphOf N t) ≡ false → Found (refused 6)
-          unfolding boardChecked checked
-          cycle e = simp (one, le-leb (N * N) (length t) two, le-leb (N * N) s three, four, five, e)
-
-          pub all-passed : {o : List ℕ} → noCycle N (graphOf N t) ≡ true → TopologicalOrder N (graphOf N t) o → length o ≡ maxVertices → Checking (b .inputs) (b .outputs) (b .vertices) s t o (M.Board b)
-          unfolding boardChecked checked
-          all-passed {o} six order long = record {
-            answer = simp (one, le-leb (N * N) (length t) two, le-leb (N * N) s three, four, five, six);
-            passable = λ x e. subst (λ (y : Board). Passable y t o × (scratchCells (y .vertices) ≤ s)) (same x e) (
-              record { lent = record { sized = z; room = two }; order = order; sound = sound-of m (b .outputs) N (graphOf N t) (graphOf-within N t) (sizes-fit b z) (true-is four) (true-is five) (true-is six) },
-              three,
-            );
-            long = λ _ _. long;
-          }
-            where
-              same : (x : Board) → M.Board b ≡ M.Board x → b ≡ x
-              same x e = cc
+never : (r : Refusal) (b : Board) → M.Refused r ≡ M.Board b → ⊥
+never r b z = let q : _≡_ {A = ℕ} 0 1 = cc in omega arith
 
 -- what the constructor's answer says
 pub made-board : (m n N : ℕ) (b : Board) (r : Made) → boardMeaning r ≡ boardOf m n N → r ≡ M.Board b → (sizes m n N ≡ b) × Sized b
@@ -104,8 +36,97 @@ made-board m n N b r e q =
     let s : sizes m n N ≡ b = same-accepted (p .1) in
     (s, subst Sized s (sized m n N (p .0)))
 
-pub made-refused : (m n N s : ℕ) (t : List ℤ) (o : List ℕ) (x : Refusal) (r : Made) → boardMeaning r ≡ boardOf m n N → r ≡ M.Refused x → Checking m n N s t o r
-made-refused m n N s t o x r e q = subst (Checking m n N s t o) (sym q) (refusal x (sizes-refused m n N s t (number x) (sym e ∙ ap boardMeaning q)))
+one : (b : Board) → Sized b → sizesFit (b .inputs) (b .outputs) (b .vertices) ≡ true
+one b z = T-true (sizes-fit b z)
+
+-- ---- 1, 2 and 3
+
+pub memory-refusal : {m n N s : ℕ} {t : List ℤ} (r : Refusal) → memoryBoard m n N s t ≡ refused (number r) → MemoryChecking m n N s t (M.Refused r)
+memory-refusal r e = record { answer = sym e; lent = λ b z. absurd (never r b z) }
+
+module _ (m n N s : ℕ) (t : List ℤ) (r : Made) (e : boardMeaning r ≡ boardOf m n N) where
+  pub sizes-refused : (x : Refusal) → r ≡ M.Refused x → MemoryChecking m n N s t r
+  unfolding boardOf
+  sizes-refused x q = subst (MemoryChecking m n N s t) (sym q) (memory-refusal x (go (sizesFit m n N) _ (sym e ∙ ap boardMeaning q)))
+    where
+      go : (b : Bool) (y : Verdict (Unit {0})) → require b Sizes (accepted (sizes m n N)) ≡ refused (number x) → (require b Sizes y then λ _. accepted (sizes m n N)) ≡ refused (number x)
+      go true y z = absurd (let q : _≡_ {A = ℕ} 0 1 = cc in omega arith)
+      go false y z = (cc)
+
+  module _ (b : Board) (q : r ≡ M.Board b) where
+    pub board-sized : Sized b
+    board-sized = made-board m n N b r e q .1
+
+    same : memoryBoard m n N s t ≡ memoryBoard (b .inputs) (b .outputs) (b .vertices) s t
+    same = ap (λ (x : Board). memoryBoard (x .inputs) (x .outputs) (x .vertices) s t) (made-board m n N b r e q .0)
+
+    pub table-short : length t < b .vertices * b .vertices → memoryBoard m n N s t ≡ refused 2
+    table-short h = same ∙ simp (one b board-sized, lt-leb (b .vertices * b .vertices) (length t) h)
+
+    module _ (two : b .vertices * b .vertices ≤ length t) where
+      pub scratch-short : s < scratchCells (b .vertices) → memoryBoard m n N s t ≡ refused 3
+      scratch-short h = same ∙ simp (one b board-sized, le-leb (b .vertices * b .vertices) (length t) two, lt-leb (b .vertices * b .vertices) s h)
+
+      pub memory-fits : scratchCells (b .vertices) ≤ s → MemoryChecking m n N s t (M.Board b)
+      memory-fits h = record {
+        answer = sym (same ∙ simp (one b board-sized, le-leb (b .vertices * b .vertices) (length t) two, le-leb (b .vertices * b .vertices) s h));
+        lent = λ x z. subst (λ (y : Board). Lent y t × (scratchCells (y .vertices) ≤ s)) (board-is x z) (record { sized = board-sized; room = two }, h);
+      }
+        where
+          board-is : (x : Board) → M.Board b ≡ M.Board x → b ≡ x
+          board-is x z = cc
+
+-- ---- 5 and 6
+
+pub arcs-refusal : {b : Board} {t : List ℤ} {o : List ℕ} (r : Refusal) → arcsBoard b t ≡ refused (number r) → ArcsChecking b t o (M.Refused r)
+arcs-refusal r e = record { answer = sym e; order = λ b z. absurd (never r b z); long = λ b z. absurd (never r b z) }
+
+-- ---- all six
+
+refusal : {m n N s : ℕ} {t : List ℤ} {o : List ℕ} (r : Refusal) → boardChecked m n N s t ≡ refused (number r) → Checking m n N s t o (M.Refused r)
+refusal r e = record { answer = sym e; passable = λ b z. absurd (never r b z); long = λ b z. absurd (never r b z) }
+
+module _ (m n N s : ℕ) (t : List ℤ) (o : List ℕ) (r : Made) (c : MemoryChecking m n N s t r) where
+  -- 1, 2 or 3 refused
+  pub memory-refused : (x : Refusal) → r ≡ M.Refused x → Checking m n N s t o r
+  unfolding boardChecked checked
+  memory-refused x q = subst (Checking m n N s t o) (sym q) (refusal x (go (memoryChecked m n N s t) _ (sym (c .answer) ∙ ap boardMeaning q)))
+    where
+      go : (v : Verdict (Unit {0})) (f : Unit {0} → Verdict Graph) → (v then λ _. accepted (sizes m n N)) ≡ refused (number x) → (v then f then λ _. accepted (sizes m n N)) ≡ refused (number x)
+      go (refused y) f z = (cc)
+      go (accepted y) f z = absurd (let w : _≡_ {A = ℕ} 0 1 = cc in omega arith)
+
+  module _ (b : Board) (q : r ≡ M.Board b) where
+    abbrev g : Graph
+    g = graphIn b t
+
+    made : sizes m n N ≡ b
+    made = same-accepted (then-accepted (memoryChecked m n N s t) _ b (sym (c .answer) ∙ ap boardMeaning q) .2)
+
+    lent : Lent b t
+    lent = c .lent b q .0
+
+    of : {x : Made} → Checking (b .inputs) (b .outputs) (b .vertices) s t o x → Checking m n N s t o x
+    of {x} h = subst (λ (y : Board). Checking (y .inputs) (y .outputs) (y .vertices) s t o x) (sym made) h
+
+    pub odd-cell : cellsFit (b .vertices) (graphIn b t) ≡ false → Checking m n N s t o (M.Refused OddCell)
+    unfolding boardChecked checked
+    odd-cell e = of (refusal OddCell (simp (one b (lent .sized), le-leb (b .vertices * b .vertices) (length t) (lent .room), le-leb (b .vertices * b .vertices) s (c .lent b q .1), e)))
+
+    module _ (four : cellsFit (b .vertices) (graphIn b t) ≡ true) (x : Made) (h : ArcsChecking b t o x) where
+      rest : boardChecked (b .inputs) (b .outputs) (b .vertices) s t ≡ arcsBoard b t
+      unfolding boardChecked checked
+      rest = simp (one b (lent .sized), le-leb (b .vertices * b .vertices) (length t) (lent .room), le-leb (b .vertices * b .vertices) s (c .lent b q .1), four)
+
+      pub arcs-next : Checking m n N s t o x
+      arcs-next = of (record { answer = h .answer ∙ sym rest; passable = passable; long = h .long })
+        where
+          passable : (y : Board) → x ≡ M.Board y → Passable y t o × (scratchCells (y .vertices) ≤ s)
+          passable y e =
+              let p = then-accepted (arcsChecked (b .inputs) (b .vertices) g) _ y (sym (h .answer) ∙ ap boardMeaning e) in
+              let a = arcs-accepted (b .inputs) (b .vertices) g (p .0) (p .1) in
+              let sound = sound-of (b .inputs) (b .outputs) (b .vertices) g (graphOf-within (b .vertices) t) (sizes-fit b (lent .sized)) (true-is four) (a .inputs) (a .cycle) in
+              subst (λ (z : Board). Passable z t o × (scratchCells (z .vertices) ≤ s)) (same-accepted (p .2)) (record { checked = record { lent = lent; sound = sound }; order = h .order y e }, c .lent b q .1)
 
 -- ---- calls: what follows the checks
 

@@ -3,6 +3,7 @@ pub mod Rows
 pub mod Chaining
 pub mod ReadCells
 pub mod Inputs
+pub mod Columns
 pub mod Sorting
 pub mod Before
 pub mod Pushing

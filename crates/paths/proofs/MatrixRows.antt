@@ -19,9 +19,10 @@ use Rattle.timing.specs.Refusal.{accepted}
 use Rattle.timing.specs.Delays.{matrix, matrixCells}
 use Rattle.timing.specs.Queries.{matrixInto}
 use Rattle.paths.specs.declared.queries.Answer.the-variants as A
-use Rattle.paths.specs.Queries.{Answers}
+use Rattle.paths.specs.Queries.{Fills}
 use Rattle.paths.specs.declared.board.Board.{Board}
-use Rattle.paths.specs.Arrivals.{filled, Passable}
+use Rattle.paths.specs.Arrivals.{filled}
+use Rattle.paths.specs.Checked.{Passable}
 use Rattle.paths.proofs.Starting.{stored-cell}
 
 -- a cell of the matrix
@@ -49,18 +50,18 @@ module _ {b : Board} {t : List ℤ} {o : List ℕ} (p : Passable b t o) (d₀ d 
       q ∙ ap (λ (k : ℕ). tabulate k (λ j. getD s′ (b .inputs + j) (pos 0))) row-length
       ∙ tabulate-same n (λ j. getD s′ (b .inputs + j) (pos 0)) (entry b t i)
       (λ j l. ap (λ (x : List ℤ). getD x (b .inputs + j) (pos 0)) f
-      ∙ stored-cell (b .vertices) (λ v. writeCell absentWide (walk (longest (graphOf (b .vertices) t) (b .vertices)) i v)) s (b .inputs + j) (omega (arith, p .sound .room))
+      ∙ stored-cell (b .vertices) (λ v. writeCell absentWide (walk (longest (graphOf (b .vertices) t) (b .vertices)) i v)) s (b .inputs + j) (omega (arith, p .checked .sound .room))
       ∙ ap (writeCell absentWide) (walk-other (longest (graphOf (b .vertices) t) (b .vertices)) i (b .inputs + j) (λ z. omega arith)))
 
 -- the answers
 module _ (m n N : ℕ) (before : List ℤ) (g : Graph) where
-  pub matrix-short : length before < n * m → Answers (matrixInto m n N before g) before before (A.Refused DestinationShort)
+  pub matrix-short : length before < n * m → Fills (matrixInto m n N before g) before before (A.Refused DestinationShort)
   unfolding matrixInto
-  matrix-short h = let e = lt-leb (m * n) (length before) (omega (arith, h, mul-comm m n)) in record { answer = simp e; destination = simp e }
+  matrix-short h = let e = lt-leb (m * n) (length before) (omega (arith, h, mul-comm m n)) in record { answer = simp e; left = simp e }
 
-  pub matrix-done : n * m ≤ length before → (after : List ℤ) → after ≡ matrixCells m n N g ++ drop (n * m) before → Answers (matrixInto m n N before g) before after A.Done
+  pub matrix-done : n * m ≤ length before → (after : List ℤ) → after ≡ matrixCells m n N g ++ drop (n * m) before → Fills (matrixInto m n N before g) before after A.Done
   unfolding matrixInto
   matrix-done h after q =
       let e = le-leb (m * n) (length before) (omega (arith, h, mul-comm m n)) in
       let k : after ≡ matrixCells m n N g ++ drop (m * n) before = q ∙ ap (λ (x : ℕ). matrixCells m n N g ++ drop x before) (mul-comm n m) in
-      record { answer = simp e (ap accepted k); destination = simp e k }
+      record { answer = simp e (ap accepted k); left = simp e k }

@@ -23,7 +23,8 @@ use Rattle.timing.proofs.Checks.{sound-within, sound-fits}
 use Rattle.timing.proofs.Limits.{fits-bounds, fits-span, span-fits}
 use Rattle.timing.proofs.Table.{graphOf-within, read-absent, read-at}
 use Rattle.paths.specs.declared.board.Board.{Board}
-use Rattle.paths.specs.Arrivals.{filled, Passable}
+use Rattle.paths.specs.Arrivals.{filled}
+use Rattle.paths.specs.Checked.{Passable}
 use Rattle.paths.proofs.Pushing.{pushed, pushed-span, pushed-all}
 use Rattle.paths.proofs.Starting.{stored-length, stored-cell, stored-drop}
 
@@ -52,9 +53,9 @@ module _ {b : Board} {t : List ℤ} {o : List ℕ} (p : Passable b t o) (i : ℕ
   walk-near v hv =
       subst (λ (d : Delay). T (fits arrivalLimit d))
       (pushed-all (graphOf-within n t) (p .order) (alone i) v
-      ∙ propagated-one n (p .sound .acyclic) (longest-is n g (sound-within (p .sound)) (p .sound .acyclic)) (alone i) i hi (rw (eqb-same i)) (λ u _ ne. rw (eqb-other u i ne)) v hv)
-      (span-fits arrivalLimit (pushed g o (alone i) n v) (span-le (0 + n * delayLimit) arrivalLimit (pushed g o (alone i) n v) (omega (arith, p .lent .sized .few))
-      (pushed-span (graphOf-within n t) (p .order) (alone i) 0 delayLimit (λ v _. alone-span (eqb v i)) (λ u v. fits-span delayLimit (g u v) (sound-fits (p .sound) u v)) n v (omega arith) hv)))
+      ∙ propagated-one n (p .checked .sound .acyclic) (longest-is n g (sound-within (p .checked .sound)) (p .checked .sound .acyclic)) (alone i) i hi (rw (eqb-same i)) (λ u _ ne. rw (eqb-other u i ne)) v hv)
+      (span-fits arrivalLimit (pushed g o (alone i) n v) (span-le (0 + n * delayLimit) arrivalLimit (pushed g o (alone i) n v) (omega (arith, p .checked .lent .sized .few))
+      (pushed-span (graphOf-within n t) (p .order) (alone i) 0 delayLimit (λ v _. alone-span (eqb v i)) (λ u v. fits-span delayLimit (g u v) (sound-fits (p .checked .sound) u v)) n v (omega arith) hv)))
 
   -- f is what `delays_from` leaves of f₀
   module _ (f₀ f : List ℤ) (room : b .vertices ≤ length f₀) (e : f ≡ filled (b .vertices) (walk (longest (graphOf (b .vertices) t) (b .vertices)) i) f₀) where

@@ -24,7 +24,8 @@ use Rattle.timing.proofs.Table.{graphOf-within, read-absent, read-at, written-r
 use Rattle.timing.proofs.Checks.{sound-fits, sound-inputs}
 use Rattle.paths.specs.declared.board.Board.{Board}
 use Rattle.paths.specs.Chain.{Chains}
-use Rattle.paths.specs.Arrivals.{insideLimit, reachedLimit, filled, Passable, Started, Reached, Pushable, Pushed}
+use Rattle.paths.specs.Arrivals.{insideLimit, reachedLimit, filled, Started, Reached, Pushable, Pushed}
+use Rattle.paths.specs.Checked.{Passable}
 use Rattle.paths.proofs.Rows.{lent, lent-cell, lent-long}
 use Rattle.paths.proofs.Chaining.{lentChain, chain-long, chain-lent}
 use Rattle.paths.proofs.Pushing.{pushed, pushed-span, pushed-all}
@@ -50,16 +51,16 @@ filled-is n h f₀ f room size cells rest = ext-getD (pos 0) f (filled n h f₀)
         ∙ ap (λ (x : ℕ). getD (tabulate n c ++ drop n f₀) (x + (i - n)) (pos 0)) (length-tabulate c n) ∙ ap (λ (x : ℕ). getD (tabulate n c ++ drop n f₀) x (pos 0)) e
 
 -- a vertex's row and chain, lent as parts
-pub pushable : {b : Board} {t : List ℤ} {o c : List ℕ} (P : Passable b t o) (C : Chains (b .vertices) t c) (u : ℕ) (l : u < b .vertices) (f : List ℤ) → b .vertices ≤ length f → Pushable (b .vertices) (lent (b .vertices) t u (P .lent .room) l) (lentChain C u (P .lent .room) l) f
+pub pushable : {b : Board} {t : List ℤ} {o c : List ℕ} (P : Passable b t o) (C : Chains (b .vertices) t c) (u : ℕ) (l : u < b .vertices) (f : List ℤ) → b .vertices ≤ length f → Pushable (b .vertices) (lent (b .vertices) t u (P .checked .lent .room) l) (lentChain C u (P .checked .lent .room) l) f
 pushable {b} {t} P C u l f h = record {
-  some = omega (arith, P .lent .sized);
-  few = P .lent .sized .few;
-  row-room = lent-long (b .vertices) t u (P .lent .room) l;
-  chain-room = chain-long C u (P .lent .room) l;
+  some = omega (arith, P .checked .lent .sized);
+  few = P .checked .lent .sized .few;
+  row-room = lent-long (b .vertices) t u (P .checked .lent .room) l;
+  chain-room = chain-long C u (P .checked .lent .room) l;
   room = h;
-  near = λ v k. subst (λ (d : Delay). T (fits delayLimit d)) (sym (lent-cell (b .vertices) t u (P .lent .room) l v k)) (sound-fits (P .sound) u v);
-  chain = chain-lent C u (P .lent .room) l;
-  no-first = lent-cell (b .vertices) t u (P .lent .room) l 0 (omega (arith, P .lent .sized)) ∙ sound-inputs (P .sound) u 0 (P .lent .sized .some-inputs);
+  near = λ v k. subst (λ (d : Delay). T (fits delayLimit d)) (sym (lent-cell (b .vertices) t u (P .checked .lent .room) l v k)) (sound-fits (P .checked .sound) u v);
+  chain = chain-lent C u (P .checked .lent .room) l;
+  no-first = lent-cell (b .vertices) t u (P .checked .lent .room) l 0 (omega (arith, P .checked .lent .sized)) ∙ sound-inputs (P .checked .sound) u 0 (P .checked .lent .sized .some-inputs);
 }
 
 -- the first p vertices have pushed
@@ -102,16 +103,16 @@ module _ {b : Board} {t : List ℤ} {o : List ℕ} {f₀ f : List ℤ} {p : ℕ}
     reached ne = record {
       there = ne;
       near = subst (λ (d : Delay). T (fits reachedLimit d)) (sym (G .cells x x-in) ∙ read-at absentWide (getD f x (pos 0)) ne)
-          (span-fits reachedLimit (pushed (graphOf n t) o F p x) (span-le (insideLimit + p * delayLimit) reachedLimit (pushed (graphOf n t) o F p x) (omega (arith, R .passable .lent .sized .few))
-          (pushed-span (graphOf-within n t) (R .passable .order) F insideLimit delayLimit (λ v l. fits-span insideLimit (F v) (R .near v l)) (λ u v. fits-span delayLimit (graphOf n t u v) (sound-fits (R .passable .sound) u v)) p x (omega arith) x-in)));
+          (span-fits reachedLimit (pushed (graphOf n t) o F p x) (span-le (insideLimit + p * delayLimit) reachedLimit (pushed (graphOf n t) o F p x) (omega (arith, R .passable .checked .lent .sized .few))
+          (pushed-span (graphOf-within n t) (R .passable .order) F insideLimit delayLimit (λ v l. fits-span insideLimit (F v) (R .near v l)) (λ u v. fits-span delayLimit (graphOf n t u v) (sound-fits (R .passable .checked .sound) u v)) p x (omega arith) x-in)));
     }
 
-    pub onward : (f′ : List ℤ) → length f′ ≡ length f → Pushed n (lent n t x (R .passable .lent .room) x-in) (getD f x (pos 0)) f f′ → Going n t o f₀ f′ (p + 1)
+    pub onward : (f′ : List ℤ) → length f′ ≡ length f → Pushed n (lent n t x (R .passable .checked .lent .room) x-in) (getD f x (pos 0)) f f′ → Going n t o f₀ f′ (p + 1)
     unfolding pushed
     onward f′ l q = rw add-one (record {
       upto = k;
       size = l ∙ G .size;
-      cells = λ v h. q .cells v h ∙ ap₂ _⋓_ (G .cells v h) (ap₂ _⊕_ (G .cells x x-in) (lent-cell n t x (R .passable .lent .room) x-in v h));
+      cells = λ v h. q .cells v h ∙ ap₂ _⋓_ (G .cells v h) (ap₂ _⊕_ (G .cells x x-in) (lent-cell n t x (R .passable .checked .lent .room) x-in v h));
       rest = λ v h. q .rest v h ∙ G .rest v h;
     })
 

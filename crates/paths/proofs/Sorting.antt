@@ -14,11 +14,11 @@ use lib.Seq.{getD-set-same, getD-set-other}
 use borrow.Author.Tests.{lt-ltb, le-ltb}
 use Rattle.laws.specs.Bounded.{sum}
 use Rattle.laws.proofs.Update.{update, update-same, update-other}
-use Rattle.laws.proofs.Sums.{sum-eq, sum-zero, sum-some, sum-but-one, sum-lt, sum-pick}
+use Rattle.laws.proofs.Sums.{sum-eq, sum-zero, sum-some, sum-bound, sum-but-one, sum-lt, sum-pick}
 use Rattle.graph.specs.Delay.{Delay, absent, present}
 use Rattle.graph.specs.Graph.{Graph, Acyclic}
 use Rattle.graph.specs.Count.{bit, fanIn}
-use Rattle.graph.proofs.Presence.{absent-or, bit-present, bit-absent}
+use Rattle.graph.proofs.Presence.{absent-or, bit-le, bit-present, bit-absent}
 use Rattle.graph.proofs.Longest.{Within}
 use Rattle.graph.proofs.Rank.{Ranked, acyclic-ranked}
 use Rattle.paths.specs.Order.{TopologicalOrder}
@@ -72,6 +72,13 @@ wait-in n r d h = ap (λ (b : Bool). cond b 0 (bit d)) (lt-ltb r n h)
 
 wait-out : (n r : ℕ) (d : Delay) → n ≤ r → wait n r d ≡ bit d
 wait-out n r d h = ap (λ (b : Bool). cond b 0 (bit d)) (le-ltb r n h)
+
+wait-le : (n r : ℕ) (d : Delay) → wait n r d ≤ 1
+wait-le n r d = go (ltb r n)
+  where
+    go : (b : Bool) → cond b 0 (bit d) ≤ 1
+    go true = omega arith
+    go false = bit-le d
 
 -- for how many vertices that are not placed v waits
 unfoldable pub waits : ℕ → Graph → (ℕ → ℕ) → ℕ → ℕ
@@ -128,6 +135,10 @@ module _ {n : ℕ} {g : Graph} {o f : List ℕ} {p : ℕ} (w : Within n g) (G : 
     waits-next v =
         let e = sum-change n (λ x. wait n (next x) (g x v)) (λ x. wait n (G .rank x) (g x v)) u l (λ i ne. ap (λ (r : ℕ). wait n r (g i v)) (update-other (G .rank) u p i ne)) in
         omega (arith, e, wait-out n (G .rank u) (g u v) new, ap (λ (r : ℕ). wait n r (g u v)) (update-same (G .rank) u p), wait-in n p (g u v) p-in)
+
+    waits-few : (v : ℕ) → waits n g (G .rank) v ≤ n
+    unfolding waits
+    waits-few v = sum-bound n (λ x. wait n (G .rank x) (g x v)) (λ x. wait-le n (G .rank x) (g x v))
 
     -- no count is lowered below 0
     pub covers : (v : ℕ) → v < n → bit (g u v) ≤ getD f v 0
@@ -186,6 +197,16 @@ module _ {n : ℕ} {g : Graph} {o f : List ℕ} {p : ℕ} (w : Within n g) (G : 
             let kk = subst (λ (r : ℕ). r < n) (update-other (G .rank) u p v ne) k in
             let r = G .rise x v t kk in
             rw (update-other (G .rank) u p v ne, update-other (G .rank) u p x (λ e. omega (arith, ap (G .rank) e, new))) r
+
+    -- a vertex that is placed keeps its 100
+    pub going-kept : n < 100 → (h : List ℕ) → ((v : ℕ) → v < n → v ≢ u → getD h v 0 + bit (g u v) ≡ getD f v 0) → getD h u 0 ≡ 100 → (v : ℕ) → v < n → 100 ≤ getD f v 0 → 100 ≤ getD h v 0
+    unfolding fanOf
+    going-kept few h low mark v k full = go (ℕ-discrete v u) (decLt (G .rank v) n)
+      where
+        go : Dec (v ≡ u) → Dec (G .rank v < n) → 100 ≤ getD h v 0
+        go (yes e) _ = rw e (omega (arith, mark))
+        go (no ne) (yes r) = omega (arith, low v k ne, G .fan v k, waits-next v, one-in n (G .rank v) r)
+        go (no ne) (no r) = absurd (omega (arith, G .fan v k, one-out n (G .rank v) (omega arith), waits-few v))
 
   -- all are placed
   pub going-all : p ≡ n → TopologicalOrder n g o

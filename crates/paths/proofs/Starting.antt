@@ -29,7 +29,8 @@ use Rattle.timing.proofs.Checks.{sound-within, sound-inputs}
 use Rattle.timing.proofs.Limits.{fits-absent}
 use Rattle.timing.proofs.Table.{read-absent, read-at}
 use Rattle.paths.specs.declared.board.Board.{Board}
-use Rattle.paths.specs.Arrivals.{insideLimit, stored, filled, onlyAt, fromList, Passable, Started, Given}
+use Rattle.paths.specs.Arrivals.{insideLimit, stored, filled, onlyAt, fromList, Started, Given}
+use Rattle.paths.specs.Checked.{Passable}
 
 -- ---- stored cells
 
@@ -58,7 +59,7 @@ module _ {b : Board} {t : List ℤ} {o : List ℕ} (p : Passable b t o) where
   g = graphOf n t
 
   l : Longest g (longest g n)
-  l = longest-is n g (sound-within (p .sound)) (p .sound .acyclic)
+  l = longest-is n g (sound-within (p .checked .sound)) (p .checked .sound .acyclic)
 
   -- ---- at one vertex
 
@@ -82,7 +83,7 @@ module _ {b : Board} {t : List ℤ} {o : List ℕ} (p : Passable b t o) where
     pub one-propagated : filled (b .vertices) (propagated (b .vertices) (graphOf (b .vertices) t) (arrivalIn (stored (b .vertices) (onlyAt i) f))) (stored (b .vertices) (onlyAt i) f)
         ≡ filled (b .vertices) (walk (longest (graphOf (b .vertices) t) (b .vertices)) i) f
     one-propagated = filled-over n (propagated n g (arrivalIn (stored n (onlyAt i) f))) (walk (longest g n) i) (onlyAt i) f
-        (propagated-one n (p .sound .acyclic) l (arrivalIn (stored n (onlyAt i) f)) i hi (start i hi ∙ at-i) (λ u hu ne. start u hu ∙ elsewhere u ne))
+        (propagated-one n (p .checked .sound .acyclic) l (arrivalIn (stored n (onlyAt i) f)) i hi (start i hi ∙ at-i) (λ u hu ne. start u hu ∙ elsewhere u ne))
 
   -- ---- at the inputs
 
@@ -94,7 +95,7 @@ module _ {b : Board} {t : List ℤ} {o : List ℕ} (p : Passable b t o) where
     m = b .inputs
 
     m≤n : m ≤ n
-    m≤n = omega (arith, p .sound .room)
+    m≤n = omega (arith, p .checked .sound .room)
 
     at-input : (v : ℕ) → v < m → F v ≡ arrivalIn a v
     unfolding F
@@ -123,7 +124,7 @@ module _ {b : Board} {t : List ℤ} {o : List ℕ} (p : Passable b t o) where
             ap₂ _⋓_ (at-input v q) none ∙ ⋓-absent (arrivalIn a v) ∙ sym (ap (λ (c : Bool). cond c (arrivalIn a v) (greatest m (λ i. arrivalIn a i ⊕ longest g n i v))) (lt-ltb v m q))
           where
             none : greatest n (λ u. F u ⊕ longest g n u v) ≡ absent
-            none = ⊑-absent (greatest-lub n (λ u. F u ⊕ longest g n u v) absent (λ u _. none-r (F u) (undriven l v (λ u. sound-inputs (p .sound) u v q) u)))
+            none = ⊑-absent (greatest-lub n (λ u. F u ⊕ longest g n u v) absent (λ u _. none-r (F u) (undriven l v (λ u. sound-inputs (p .checked .sound) u v q) u)))
         go (no q) =
             ap (λ (d : Delay). d ⋓ greatest n (λ u. F u ⊕ longest g n u v)) (at-other v (omega arith) hv)
             ∙ greatest-pad m n (λ u. F u ⊕ longest g n u v) m≤n (λ u lo hi. ap (λ (d : Delay). d ⊕ longest g n u v) (at-other u lo hi))

@@ -14,7 +14,8 @@ use Rattle.timing.specs.Table.{readCell, writeCell, graphOf}
 use Rattle.timing.proofs.Limits.{fits-span, span-fits}
 use Rattle.timing.proofs.Table.{read-absent, read-at}
 use Rattle.paths.specs.declared.board.Board.{Board}
-use Rattle.paths.specs.Arrivals.{reachedLimit, Passable}
+use Rattle.paths.specs.Arrivals.{reachedLimit}
+use Rattle.paths.specs.Checked.{Passable}
 use Rattle.paths.proofs.PathDelays.{walk-near}
 
 pub walk-far : {b : Board} {t : List ℤ} {o : List ℕ} → Passable b t o → (i : ℕ) → i < b .vertices → (v : ℕ) → v < b .vertices → T (fits reachedLimit (walk (longest (graphOf (b .vertices) t) (b .vertices)) i v))

@@ -11,15 +11,15 @@ use mir.Syntax.{w64}
 use mir.Val.{SFits}
 use Rattle.laws.specs.Lists.{tabulate}
 use Rattle.graph.specs.Delay.{Delay, absent, at, _⋓_, _⊕_}
+use Rattle.graph.specs.Graph.{longest, walk, propagated}
 use Rattle.timing.specs.Limits.{maxVertices, delayLimit, absentCell, absentWide, fits}
-use Rattle.timing.specs.Table.{readCell, writeCell, graphOf}
-use Rattle.timing.specs.Delays.{arrivalIn}
-use Rattle.timing.proofs.Checks.{Sound}
+use Rattle.timing.specs.Table.{readCell, writeCell}
+use Rattle.timing.specs.Delays.{arrivalIn, arrivalAt}
 use Rattle.paths.specs.declared.board.Board.{Board}
-use Rattle.paths.specs.Board.{Lent}
 use Rattle.paths.specs.Cells.{cellAt}
 use Rattle.paths.specs.Chain.{Chain}
-use Rattle.paths.specs.Order.{TopologicalOrder}
+use Rattle.paths.specs.Board.{graphIn}
+use Rattle.paths.specs.Checked.{Passable}
 
 -- inside, arrivals may start within ±2,000,000,000,000
 abbrev pub insideLimit : ℕ
@@ -45,13 +45,17 @@ onlyAt i v = cond (eqb v i) (pos 0) absentWide
 abbrev pub fromList : List ℤ → ℕ → ℤ
 fromList a v = cond (ltb v (length a)) (getD a v (pos 0)) absentWide
 
--- a table that has passed its checks, with a topological order
-pub record Passable (b : Board) (t : List ℤ) (o : List ℕ) : Type 0 where
-  pub lent : Lent b t
-  pub order : TopologicalOrder (b .vertices) (graphOf (b .vertices) t) o
-  pub sound : Sound (b .inputs) (b .outputs) (b .vertices) (graphOf (b .vertices) t)
+-- the latest arrivals where those in f start; the greatest delays from i; the arrivals from the inputs' in a
+abbrev pub latestFrom : Board → List ℤ → List ℤ → ℕ → Delay
+latestFrom b t f = propagated (b .vertices) (graphIn b t) (arrivalIn f)
 
--- and with arrivals that start at its vertices
+abbrev pub delaysFrom : Board → List ℤ → ℕ → ℕ → Delay
+delaysFrom b t i = walk (longest (graphIn b t) (b .vertices)) i
+
+abbrev pub arrivalsFrom : Board → List ℤ → List ℤ → ℕ → Delay
+arrivalsFrom b t a = arrivalAt (b .inputs) (b .vertices) (graphIn b t) (arrivalIn a)
+
+-- a table that has passed its checks, with arrivals that start at its vertices
 pub record Started (b : Board) (t : List ℤ) (o : List ℕ) (f : List ℤ) : Type 0 where
   pub passable : Passable b t o
   pub room : b .vertices ≤ length f

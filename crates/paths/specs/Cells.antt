@@ -12,7 +12,7 @@ abbrev pub cellAt : List ℤ → ℕ → Delay
 cellAt t x = readCell absentCell (getD t x (pos 0))
 
 -- `times` cells, `stride` apart, lie in the table of a board
-pub record Within (t : List ℤ) (from stride times : ℕ) : Type 0 where
+pub record InTable (t : List ℤ) (from stride times : ℕ) : Type 0 where
   pub few : times ≤ maxVertices
   pub near : stride ≤ maxVertices
   pub low : from ≤ maxVertices * maxVertices

@@ -1,30 +1,40 @@
 -- What the answers of the matrix call and the arrival call mean, and what becomes of the lent memory.
 use mathlib.Core.Path.{_≡_}
 use mathlib.Core.Bool.{Bool, false, _&&_}
-use mathlib.Core.List.{List}
-use Prim.Native.Nat.{ℕ}
+use mathlib.Core.List.{List, _++_}
+use Prim.Native.Nat.{ℕ, _*_}
 use lib.IntN.{ℤ}
 use lib.ListN.{length, drop}
+use Rattle.laws.specs.Lent.{Past}
 use Rattle.timing.specs.Limits.{scratchCells}
-use Rattle.timing.specs.Refusal.{number, Verdict, refused, accepted}
+use Rattle.timing.specs.Refusal.{number, Verdict, refused, accepted, Answers}
 use Rattle.timing.specs.Checks.{sizesFit, tableFits, scratchFits}
+use Rattle.timing.specs.Delays.{matrixCells}
+use Rattle.timing.specs.Queries.{matrixInto, arrivalsInto}
+use Rattle.paths.specs.declared.board.Board.{Board}
 use Rattle.paths.specs.declared.queries.Answer.{Answer}
 use Rattle.paths.specs.declared.queries.Answer.the-variants as A
+use Rattle.paths.specs.Board.{graphIn}
 
 -- document 01's number, or the destination afterwards
-abbrev pub answerMeaning : Answer → List ℤ → Verdict (List ℤ)
-answerMeaning A.Done destination = accepted destination
-answerMeaning (A.Refused r) destination = refused (number r)
+abbrev pub queryMeaning : Answer → List ℤ → Verdict (List ℤ)
+queryMeaning A.Done destination = accepted destination
+queryMeaning (A.Refused r) destination = refused (number r)
 
--- a refusal leaves the destination untouched
-abbrev pub written : Verdict (List ℤ) → List ℤ → List ℤ
-written (refused r) destination = destination
-written (accepted new) destination = new
+-- r and the destination afterwards are what v says
+abbrev pub Fills : Verdict (List ℤ) → List ℤ → List ℤ → Answer → Type 0
+Fills = Answers queryMeaning (λ cells. cells)
 
--- r and the destination afterwards are what verdict v says
-pub record Answers (v : Verdict (List ℤ)) (before after : List ℤ) (r : Answer) : Type 0 where
-  pub answer : answerMeaning r after ≡ v
-  pub destination : after ≡ written v before
+-- the two calls after their checks, at a board's table
+abbrev pub matrixOn : Board → List ℤ → List ℤ → Verdict (List ℤ)
+matrixOn b t destination = matrixInto (b .inputs) (b .outputs) (b .vertices) destination (graphIn b t)
+
+abbrev pub arrivalsOn : Board → List ℤ → List ℤ → List ℤ → Verdict (List ℤ)
+arrivalsOn b t given answers = arrivalsInto (b .inputs) (b .outputs) (b .vertices) given answers (graphIn b t)
+
+-- a destination that begins with the matrix
+abbrev pub withMatrix : Board → List ℤ → List ℤ → List ℤ
+withMatrix b t destination = matrixCells (b .inputs) (b .outputs) (b .vertices) (graphIn b t) ++ drop (b .outputs * b .inputs) destination
 
 -- the lent memory passes checks 1, 2 and 3
 abbrev pub lentFits : ℕ → ℕ → ℕ → List ℤ → ℕ → Bool
@@ -32,5 +42,5 @@ lentFits m n N t s = sizesFit m n N && tableFits N t && scratchFits N s
 
 -- the scratch cells past those that a call may use stay, and all of them where check 1, 2 or 3 refuses
 pub record ScratchAfter (m n N : ℕ) (t before after : List ℤ) : Type 0 where
-  pub past : drop (scratchCells N) after ≡ drop (scratchCells N) before
+  pub past : Past (scratchCells N) before after
   pub untouched : lentFits m n N t (length before) ≡ false → after ≡ before

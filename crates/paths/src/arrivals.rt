@@ -1,20 +1,23 @@
 // Arrivals: each vertex in topological order pushes its own along its arcs, so that every arc is looked at once, and no cell without one.
 use crate::board::Board;
+use crate::order::Order;
 ghost use mathlib.Core.Path.{_≡_};
 ghost use mathlib.Core.Logic.{_≢_};
 ghost use Prim.Native.Nat.{_<_, _≤_};
 ghost use lib.Dec.{T};
 ghost use lib.ListN.{length};
-ghost use Rattle.graph.specs.Graph.{longest, walk, propagated};
-ghost use Rattle.timing.specs.Limits.{delayLimit, absentCell, fits};
-ghost use Rattle.timing.specs.Table.{readCell, graphOf};
-ghost use Rattle.timing.specs.Delays.{arrivalIn, arrivalAt};
+ghost use Rattle.laws.specs.Lent.{was};
+ghost use Rattle.timing.specs.Limits.{delayLimit, absentCell, absentWide, fits};
+ghost use Rattle.timing.specs.Table.{readCell};
 ghost use Rattle.paths.specs.Chain.{Chains};
-ghost use Rattle.paths.specs.Arrivals.{stored, filled, onlyAt, fromList, Passable, Started, Given, Reached, Gains, Pushable, Pushed};
+ghost use Rattle.paths.specs.Arrivals.{stored, filled, onlyAt, fromList, Started, Given, Reached, Gains, Pushable, Pushed, latestFrom, delaysFrom, arrivalsFrom};
+ghost use Rattle.paths.specs.Checked.{Passable};
 
 // Whether what comes over an arc is later than what is there. An absent arrival is below every other.
 fn gains(best: i64, a: i64, cell: i32) -> bool
-    requires { ⌜ Reached a × (cell ≢ absentCell) × T (fits delayLimit (readCell absentCell cell)) ⌝ }
+    requires { ⌜ Reached a ⌝ }
+    requires { ⌜ cell ≢ absentCell ⌝ }
+    requires { ⌜ T (fits delayLimit (readCell absentCell cell)) ⌝ }
     ensures { λ r. ⌜ Gains best a cell r ⌝ }
 {
     best < a + (cell as i64)
@@ -22,8 +25,9 @@ fn gains(best: i64, a: i64, cell: i32) -> bool
 
 // Pushes a on along the arcs of a row. A cell is stored only where it changes: a store in each turn costs more.
 fn push(row: &[i32], chain: &[u8], a: i64, f: &mut [i64], n: usize)
-    requires { ⌜ Reached a × Pushable n (now row) (now chain) (now f) ⌝ }
-    ensures { λ _. ⌜ Pushed n (now (row .entry)) a (now (f .entry)) (now (f .exit)) ⌝ }
+    requires { ⌜ Reached a ⌝ }
+    requires { ⌜ Pushable n (now row) (now chain) (now f) ⌝ }
+    ensures { λ _. ⌜ Pushed n (was row) a (was f) (now (f .exit)) ⌝ }
 {
     let mut v = chain[0] as usize;
     while v < n {
@@ -36,20 +40,15 @@ fn push(row: &[i32], chain: &[u8], a: i64, f: &mut [i64], n: usize)
 }
 
 // The latest arrivals, where the first N cells of f have those that start at each vertex.
-pub fn propagate(
-    board: Board,
-    table: &[i32],
-    list: &[u8; Board::MAX_VERTICES],
-    chain: &[u8],
-    f: &mut [i64],
-)
-    requires { ⌜ Started board (now table) (now list) (now f) × Chains (board .vertices) (now table) (now chain) ⌝ }
-    ensures { λ _. ⌜ now (f .exit) ≡ filled (board .vertices) (propagated (board .vertices) (graphOf (board .vertices) (now (table .entry))) (arrivalIn (now (f .entry)))) (now (f .entry)) ⌝ }
+pub fn propagate(board: Board, table: &[i32], order: &Order, chain: &[u8], f: &mut [i64])
+    requires { ⌜ Started board (now table) (now order) (now f) ⌝ }
+    requires { ⌜ Chains (board .vertices) (now table) (now chain) ⌝ }
+    ensures { λ _. ⌜ now (f .exit) ≡ filled (board .vertices) (latestFrom board (was table) (was f)) (was f) ⌝ }
 {
     let n = board.vertices;
     let mut p = 0;
     while p < n {
-        let u = list[p] as usize;
+        let u = order[p] as usize;
         let a = f[u];
         if a != Board::ABSENT_WIDE {
             let at = n * u;
@@ -59,45 +58,49 @@ pub fn propagate(
     }
 }
 
-fn only_at(i: usize, v: usize) -> i64
-    ensures { λ r. ⌜ r ≡ onlyAt i v ⌝ }
+// No signal at the n vertices.
+fn start_none(f: &mut [i64], n: usize)
+    requires { ⌜ n ≤ length (now f) ⌝ }
+    ensures { λ _. ⌜ now (f .exit) ≡ stored n (λ _. absentWide) (was f) ⌝ }
 {
-    if v == i {
-        return 0;
+    let mut v = 0;
+    while v < n {
+        f[v] = Board::ABSENT_WIDE;
+        v += 1;
     }
-    Board::ABSENT_WIDE
 }
 
 // A signal that starts at i alone.
 fn start_at(f: &mut [i64], n: usize, i: usize)
     requires { ⌜ n ≤ length (now f) ⌝ }
-    ensures { λ _. ⌜ now (f .exit) ≡ stored n (onlyAt i) (now (f .entry)) ⌝ }
+    requires { ⌜ i < n ⌝ }
+    ensures { λ _. ⌜ now (f .exit) ≡ stored n (onlyAt i) (was f) ⌝ }
 {
-    let mut v = 0;
-    while v < n {
-        f[v] = only_at(i, v);
-        v += 1;
-    }
+    start_none(f, n);
+    f[i] = 0;
 }
 
 // The greatest delays from vertex i, 0 at i itself.
 pub fn delays_from(
     board: Board,
     table: &[i32],
-    list: &[u8; Board::MAX_VERTICES],
+    order: &Order,
     chain: &[u8],
     i: usize,
     f: &mut [i64],
 )
-    requires { ⌜ Passable board (now table) (now list) × Chains (board .vertices) (now table) (now chain) × (i < board .vertices) × (board .vertices ≤ length (now f)) ⌝ }
-    ensures { λ _. ⌜ now (f .exit) ≡ filled (board .vertices) (walk (longest (graphOf (board .vertices) (now (table .entry))) (board .vertices)) i) (now (f .entry)) ⌝ }
+    requires { ⌜ Passable board (now table) (now order) ⌝ }
+    requires { ⌜ Chains (board .vertices) (now table) (now chain) ⌝ }
+    requires { ⌜ i < board .vertices ⌝ }
+    requires { ⌜ board .vertices ≤ length (now f) ⌝ }
+    ensures { λ _. ⌜ now (f .exit) ≡ filled (board .vertices) (delaysFrom board (was table) i) (was f) ⌝ }
 {
     start_at(f, board.vertices, i);
-    propagate(board, table, list, chain, f);
+    propagate(board, table, order, chain, f);
 }
 
 fn from_list(inputs: &[i64], v: usize) -> i64
-    ensures { λ r. ⌜ r ≡ fromList (now (inputs .entry)) v ⌝ }
+    ensures { λ r. ⌜ r ≡ fromList (was inputs) v ⌝ }
 {
     if v >= inputs.len() {
         return Board::ABSENT_WIDE;
@@ -108,7 +111,7 @@ fn from_list(inputs: &[i64], v: usize) -> i64
 // Signals that start at the inputs.
 fn start_inputs(inputs: &[i64], f: &mut [i64], n: usize)
     requires { ⌜ n ≤ length (now f) ⌝ }
-    ensures { λ _. ⌜ now (f .exit) ≡ stored n (fromList (now (inputs .entry))) (now (f .entry)) ⌝ }
+    ensures { λ _. ⌜ now (f .exit) ≡ stored n (fromList (was inputs)) (was f) ⌝ }
 {
     let mut v = 0;
     while v < n {
@@ -121,14 +124,17 @@ fn start_inputs(inputs: &[i64], f: &mut [i64], n: usize)
 pub fn arrivals(
     board: Board,
     table: &[i32],
-    list: &[u8; Board::MAX_VERTICES],
+    order: &Order,
     chain: &[u8],
     inputs: &[i64],
     f: &mut [i64],
 )
-    requires { ⌜ Passable board (now table) (now list) × Chains (board .vertices) (now table) (now chain) × Given board (now inputs) × (board .vertices ≤ length (now f)) ⌝ }
-    ensures { λ _. ⌜ now (f .exit) ≡ filled (board .vertices) (arrivalAt (board .inputs) (board .vertices) (graphOf (board .vertices) (now (table .entry))) (arrivalIn (now (inputs .entry)))) (now (f .entry)) ⌝ }
+    requires { ⌜ Passable board (now table) (now order) ⌝ }
+    requires { ⌜ Chains (board .vertices) (now table) (now chain) ⌝ }
+    requires { ⌜ Given board (now inputs) ⌝ }
+    requires { ⌜ board .vertices ≤ length (now f) ⌝ }
+    ensures { λ _. ⌜ now (f .exit) ≡ filled (board .vertices) (arrivalsFrom board (was table) (was inputs)) (was f) ⌝ }
 {
     start_inputs(inputs, f, board.vertices);
-    propagate(board, table, list, chain, f);
+    propagate(board, table, order, chain, f);
 }

@@ -21,10 +21,10 @@ impl Board {
     pub const MAX_VERTICES: usize = 90;
 
     // The cells of a table of that many vertices.
-    pub const MAX_CELLS: usize = 8_100;
+    pub const MAX_CELLS: usize = Board::MAX_VERTICES * Board::MAX_VERTICES;
 
-    // The cells of the largest delay matrix: 45 inputs and 45 outputs.
-    pub const MAX_PAIRS: usize = 2_025;
+    // The cells of the largest delay matrix: half of them inputs, half outputs.
+    pub const MAX_PAIRS: usize = Board::MAX_CELLS / 4;
 
     pub const MIN_DELAY: i64 = -1_000_000_000;
 

@@ -2,17 +2,23 @@
 use crate::board::Board;
 ghost use mathlib.Core.Path.{_≡_};
 ghost use Prim.Native.Nat.{_+_, _*_, _<_, _≤_};
-ghost use lib.Dec.{T};
+ghost use lib.Dec.{T, eqb};
 ghost use lib.ListN.{length};
 ghost use Rattle.laws.specs.Bounded.{every, sum};
 ghost use Rattle.laws.specs.Lists.{tabulate};
+ghost use Rattle.laws.specs.Lent.{was};
 ghost use Rattle.graph.specs.Delay.{at, present};
 ghost use Rattle.graph.specs.Count.{bit, fanIn, fanOut, arcs};
 ghost use Rattle.timing.specs.Limits.{delayLimit, absentCell, fits};
-ghost use Rattle.timing.specs.Table.{readCell, graphOf};
+ghost use Rattle.timing.specs.Table.{readCell};
 ghost use Rattle.timing.specs.Checks.{cellsFit, noArcIntoInput};
-ghost use Rattle.paths.specs.Board.{Lent};
-ghost use Rattle.paths.specs.Cells.{cellAt, Within};
+ghost use Rattle.paths.specs.Board.{Lent, graphIn};
+ghost use Rattle.paths.specs.Cells.{cellAt, InTable};
+
+// The limits of a delay, as a cell has them.
+const MIN_TICKS: i32 = Board::MIN_DELAY as i32;
+
+const MAX_TICKS: i32 = Board::MAX_DELAY as i32;
 
 // A cell as a 64-bit number.
 pub fn wide(x: i32) -> i64
@@ -49,6 +55,16 @@ pub fn in_range(x: i64) -> bool
     x <= Board::MAX_DELAY
 }
 
+// The same of a cell: compared as it is, not widened, so that four go at a time.
+fn ticks_fit(x: i32) -> bool
+    ensures { λ r. ⌜ r ≡ fits delayLimit (at x) ⌝ }
+{
+    if x < MIN_TICKS {
+        return false;
+    }
+    x <= MAX_TICKS
+}
+
 // Whether a cell is absent or in range.
 fn cell_fits(x: i32) -> bool
     ensures { λ r. ⌜ r ≡ fits delayLimit (readCell absentCell x) ⌝ }
@@ -56,27 +72,27 @@ fn cell_fits(x: i32) -> bool
     if !is_arc(x) {
         return true;
     }
-    in_range(wide(x))
+    ticks_fit(x)
 }
 
+// Whether each cell of a row fits. All are looked at, so that the compiler takes four at a time.
 fn row_fits(row: &[i32], n: usize) -> bool
     requires { ⌜ n ≤ length (now row) ⌝ }
-    ensures { λ r. ⌜ r ≡ every n (λ v. fits delayLimit (cellAt (now (row .entry)) v)) ⌝ }
+    ensures { λ r. ⌜ r ≡ every n (λ v. fits delayLimit (cellAt (was row) v)) ⌝ }
 {
+    let mut all = true;
     let mut v = 0;
     while v < n {
-        if !cell_fits(row[v]) {
-            return false;
-        }
+        all = all & cell_fits(row[v]);
         v += 1;
     }
-    true
+    all
 }
 
 // Check 4: each cell is absent or in range.
 pub fn cells_fit(board: Board, table: &[i32]) -> bool
     requires { ⌜ Lent board (now table) ⌝ }
-    ensures { λ r. ⌜ r ≡ cellsFit (board .vertices) (graphOf (board .vertices) (now (table .entry))) ⌝ }
+    ensures { λ r. ⌜ r ≡ cellsFit (board .vertices) (graphIn board (was table)) ⌝ }
 {
     let n = board.vertices;
     let mut u = 0;
@@ -92,10 +108,10 @@ pub fn cells_fit(board: Board, table: &[i32]) -> bool
 
 // How many of the cells at `from`, `from` + `stride`, .. are present: the one counting routine.
 fn count(table: &[i32], from: usize, stride: usize, times: usize) -> usize
-    requires { ⌜ Within (now table) from stride times ⌝ }
-    ensures { λ r. ⌜ r ≡ sum times (λ i. bit (cellAt (now (table .entry)) (from + stride * i))) ⌝ }
+    requires { ⌜ InTable (now table) from stride times ⌝ }
+    ensures { λ r. ⌜ r ≡ sum times (λ i. bit (cellAt (was table) (from + stride * i))) ⌝ }
 {
-    let mut total = 0;
+    let mut total = 0u32;
     let mut i = 0;
     while i < times {
         let at = from + stride * i;
@@ -104,13 +120,14 @@ fn count(table: &[i32], from: usize, stride: usize, times: usize) -> usize
         }
         i += 1;
     }
-    total
+    total as usize
 }
 
 // The arcs out of u: a row.
 pub fn fan_out(board: Board, table: &[i32], u: usize) -> usize
-    requires { ⌜ Lent board (now table) × (u < board .vertices) ⌝ }
-    ensures { λ r. ⌜ r ≡ fanOut (board .vertices) (graphOf (board .vertices) (now (table .entry))) u ⌝ }
+    requires { ⌜ Lent board (now table) ⌝ }
+    requires { ⌜ u < board .vertices ⌝ }
+    ensures { λ r. ⌜ r ≡ fanOut (board .vertices) (graphIn board (was table)) u ⌝ }
 {
     let n = board.vertices;
     count(table, n * u, 1, n)
@@ -118,17 +135,58 @@ pub fn fan_out(board: Board, table: &[i32], u: usize) -> usize
 
 // The arcs into v: a column.
 pub fn fan_in(board: Board, table: &[i32], v: usize) -> usize
-    requires { ⌜ Lent board (now table) × (v < board .vertices) ⌝ }
-    ensures { λ r. ⌜ r ≡ fanIn (board .vertices) (graphOf (board .vertices) (now (table .entry))) v ⌝ }
+    requires { ⌜ Lent board (now table) ⌝ }
+    requires { ⌜ v < board .vertices ⌝ }
+    ensures { λ r. ⌜ r ≡ fanIn (board .vertices) (graphIn board (was table)) v ⌝ }
 {
     let n = board.vertices;
     count(table, v, n, n)
 }
 
+// Whether no arc leads into v. The first settles it.
+pub fn none_into(board: Board, table: &[i32], v: usize) -> bool
+    requires { ⌜ Lent board (now table) ⌝ }
+    requires { ⌜ v < board .vertices ⌝ }
+    ensures { λ r. ⌜ r ≡ eqb (fanIn (board .vertices) (graphIn board (was table)) v) 0 ⌝ }
+{
+    let n = board.vertices;
+    let mut u = 0;
+    while u < n {
+        let at = n * u + v;
+        if is_arc(table[at]) {
+            return false;
+        }
+        u += 1;
+    }
+    true
+}
+
+// Whether one arc leads into v. The second settles it.
+pub fn one_into(board: Board, table: &[i32], v: usize) -> bool
+    requires { ⌜ Lent board (now table) ⌝ }
+    requires { ⌜ v < board .vertices ⌝ }
+    ensures { λ r. ⌜ r ≡ eqb (fanIn (board .vertices) (graphIn board (was table)) v) 1 ⌝ }
+{
+    let n = board.vertices;
+    let mut found = false;
+    let mut u = 0;
+    while u < n {
+        let at = n * u + v;
+        if is_arc(table[at]) {
+            if found {
+                return false;
+            }
+            found = true;
+        }
+        u += 1;
+    }
+    found
+}
+
 // All arcs: the present cells.
 pub fn arcs(board: Board, table: &[i32]) -> usize
     requires { ⌜ Lent board (now table) ⌝ }
-    ensures { λ r. ⌜ r ≡ arcs (board .vertices) (graphOf (board .vertices) (now (table .entry))) ⌝ }
+    ensures { λ r. ⌜ r ≡ arcs (board .vertices) (graphIn board (was table)) ⌝ }
 {
     let n = board.vertices;
     let mut total = 0;
@@ -143,22 +201,23 @@ pub fn arcs(board: Board, table: &[i32]) -> usize
 // Check 5: no arc leads into an input.
 pub fn no_arc_into_input(board: Board, table: &[i32]) -> bool
     requires { ⌜ Lent board (now table) ⌝ }
-    ensures { λ r. ⌜ r ≡ noArcIntoInput (board .inputs) (board .vertices) (graphOf (board .vertices) (now (table .entry))) ⌝ }
+    ensures { λ r. ⌜ r ≡ noArcIntoInput (board .inputs) (board .vertices) (graphIn board (was table)) ⌝ }
 {
+    let n = board.vertices;
     let m = board.inputs;
-    let mut i = 0;
-    while i < m {
-        if fan_in(board, table, i) != 0 {
+    let mut u = 0;
+    while u < n {
+        if count(table, n * u, 1, m) != 0 {
             return false;
         }
-        i += 1;
+        u += 1;
     }
     true
 }
 
 // No arcs.
 pub fn clear(row: &mut [i32])
-    ensures { λ _. ⌜ now (row .exit) ≡ tabulate (length (now (row .entry))) (λ _. absentCell) ⌝ }
+    ensures { λ _. ⌜ now (row .exit) ≡ tabulate (length (was row)) (λ _. absentCell) ⌝ }
 {
     let mut v = 0;
     while v < row.len() {

@@ -7,5 +7,6 @@ pub mod chain;
 pub mod checks;
 pub mod order;
 pub mod queries;
+pub mod room;
 
 pub use board::Board;

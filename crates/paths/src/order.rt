@@ -2,34 +2,63 @@
 use crate::board::Board;
 use crate::cells;
 ghost use mathlib.Core.Path.{_≡_};
-ghost use mathlib.Core.Logic.{_≢_};
-ghost use Prim.Native.Nat.{ℕ, _+_, _*_, _<_, _≤_};
+ghost use mathlib.Core.Bool.{cond};
+ghost use Prim.Native.Nat.{ℕ, _+_, _<_, _≤_};
+ghost use lib.Dec.{eqb};
 ghost use lib.ListN.{length, getD};
-ghost use Rattle.graph.specs.Count.{bit, fanIn};
+ghost use Rattle.laws.specs.Lent.{was};
+ghost use Rattle.graph.specs.Count.{bit};
 ghost use Rattle.timing.specs.Limits.{maxVertices, absentCell};
-ghost use Rattle.timing.specs.Table.{readCell, graphOf};
-ghost use Rattle.paths.specs.Board.{Lent};
-ghost use Rattle.paths.specs.Cells.{cellAt};
-ghost use Rattle.paths.specs.Order.{Ordered, standsBefore};
+ghost use Rattle.timing.specs.Table.{readCell};
+ghost use Rattle.paths.specs.Board.{Lent, graphIn};
+ghost use Rattle.paths.specs.Order.{Ordered, standsBefore, FansIn, Raisable, Raised, Lowerable, Lowered, FirstZero};
 
-// A byte for each vertex.
-pub fn bytes() -> [u8; Board::MAX_VERTICES]
-    ensures { λ r. ⌜ length r ≡ maxVertices ⌝ }
+// The vertices, a byte each, so that every arc rises.
+pub type Order = [u8; Board::MAX_VERTICES];
+
+fn no_fans() -> [u8; Board::MAX_VERTICES]
+    ensures { λ r. ⌜ (length r ≡ maxVertices) × ((v : ℕ) → v < maxVertices → getD r v 0 ≡ 0) ⌝ }
 {
     [0u8; Board::MAX_VERTICES]
 }
 
-// How many arcs lead into each vertex.
-fn fans(board: Board, table: &[i32]) -> [u8; Board::MAX_VERTICES]
-    requires { ⌜ Lent board (now table) ⌝ }
-    ensures { λ r. ⌜ (length r ≡ maxVertices) × ((v : ℕ) → v < board .vertices → getD r v 0 ≡ fanIn (board .vertices) (graphOf (board .vertices) (now (table .entry))) v) ⌝ }
+fn raised(x: u8, cell: i32) -> u8
+    requires { ⌜ x < maxVertices ⌝ }
+    ensures { λ r. ⌜ r ≡ x + bit (readCell absentCell cell) ⌝ }
 {
-    let n = board.vertices;
-    let mut fan = bytes();
+    if cells::is_arc(cell) {
+        return x + 1;
+    }
+    x
+}
+
+// Adds a row's arcs to the counts of their targets.
+fn raise(row: &[i32], fan: &mut [u8; Board::MAX_VERTICES], n: usize)
+    requires { ⌜ n ≤ maxVertices ⌝ }
+    requires { ⌜ n ≤ length (now row) ⌝ }
+    requires { ⌜ length (now fan) ≡ maxVertices ⌝ }
+    requires { ⌜ Raisable n (now fan) ⌝ }
+    ensures { λ _. ⌜ Raised n (was row) (was fan) (now (fan .exit)) ⌝ }
+{
     let mut v = 0;
     while v < n {
-        fan[v] = cells::fan_in(board, table, v) as u8;
+        fan[v] = raised(fan[v], row[v]);
         v += 1;
+    }
+}
+
+// How many arcs lead into each vertex, by rows.
+fn fans(board: Board, table: &[i32]) -> [u8; Board::MAX_VERTICES]
+    requires { ⌜ Lent board (now table) ⌝ }
+    ensures { λ r. ⌜ FansIn (board .vertices) (graphIn board (was table)) r ⌝ }
+{
+    let n = board.vertices;
+    let mut fan = no_fans();
+    let mut u = 0;
+    while u < n {
+        let at = n * u;
+        raise(&table[at..], &mut fan, n);
+        u += 1;
     }
     fan
 }
@@ -46,8 +75,11 @@ fn lowered(x: u8, cell: i32) -> u8
 
 // Takes a row's arcs off the counts of their targets.
 fn lower(row: &[i32], fan: &mut [u8; Board::MAX_VERTICES], n: usize)
-    requires { ⌜ (n ≤ maxVertices) × (n ≤ length (now row)) × (length (now fan) ≡ maxVertices) × ((v : ℕ) → v < n → bit (cellAt (now row) v) ≤ getD (now fan) v 0) ⌝ }
-    ensures { λ _. ⌜ (length (now (fan .exit)) ≡ maxVertices) × ((v : ℕ) → v < n → getD (now (fan .exit)) v 0 + bit (cellAt (now (row .entry)) v) ≡ getD (now (fan .entry)) v 0) ⌝ }
+    requires { ⌜ n ≤ maxVertices ⌝ }
+    requires { ⌜ n ≤ length (now row) ⌝ }
+    requires { ⌜ length (now fan) ≡ maxVertices ⌝ }
+    requires { ⌜ Lowerable n (now row) (now fan) ⌝ }
+    ensures { λ _. ⌜ Lowered n (was row) (was fan) (now (fan .exit)) ⌝ }
 {
     let mut v = 0;
     while v < n {
@@ -56,12 +88,13 @@ fn lower(row: &[i32], fan: &mut [u8; Board::MAX_VERTICES], n: usize)
     }
 }
 
-// The first vertex whose count is 0, or n.
-fn ready(fan: &[u8; Board::MAX_VERTICES], n: usize) -> usize
+// The first vertex from `from` on whose count is 0, or n.
+fn ready(fan: &[u8; Board::MAX_VERTICES], from: usize, n: usize) -> usize
     requires { ⌜ n ≤ maxVertices ⌝ }
-    ensures { λ r. ⌜ (r ≤ n) × (r < n → getD (now (fan .entry)) r 0 ≡ 0) × ((v : ℕ) → v < r → getD (now (fan .entry)) v 0 ≢ 0) ⌝ }
+    requires { ⌜ from ≤ n ⌝ }
+    ensures { λ r. ⌜ FirstZero n (was fan) from r ⌝ }
 {
-    let mut v = 0;
+    let mut v = from;
     while v < n {
         if fan[v] == 0 {
             return v;
@@ -71,44 +104,58 @@ fn ready(fan: &[u8; Board::MAX_VERTICES], n: usize) -> usize
     v
 }
 
-// Check 6: whether there is no cycle, with a topological order in the first N bytes of `list` if so. A placed vertex's count is 100, which it never
+// Where the next search begins, once u is placed: all before it are.
+fn past(from: usize, u: usize) -> usize
+    requires { ⌜ u < maxVertices ⌝ }
+    ensures { λ r. ⌜ r ≡ cond (eqb u from) (u + 1) from ⌝ }
+{
+    if u == from {
+        return u + 1;
+    }
+    from
+}
+
+// Check 6: whether there is no cycle, with a topological order in the first N bytes of `order` if so. A placed vertex's count is 100, which it never
 // loses: no more than 90 arcs lead into a vertex.
-pub fn topological_order(board: Board, table: &[i32], list: &mut [u8; Board::MAX_VERTICES]) -> bool
-    requires { ⌜ Lent board (now table) × (length (now list) ≡ maxVertices) ⌝ }
-    ensures { λ r. ⌜ Ordered (board .vertices) (graphOf (board .vertices) (now (table .entry))) (now (list .exit)) r ⌝ }
+pub fn topological_order(board: Board, table: &[i32], order: &mut Order) -> bool
+    requires { ⌜ Lent board (now table) ⌝ }
+    requires { ⌜ length (now order) ≡ maxVertices ⌝ }
+    ensures { λ r. ⌜ Ordered (board .vertices) (graphIn board (was table)) (now (order .exit)) r ⌝ }
 {
     let n = board.vertices;
     let mut fan = fans(board, table);
+    let mut from = 0;
     let mut p = 0;
     while p < n {
-        let u = ready(&fan, n);
+        let u = ready(&fan, from, n);
         if u >= n {
             return false;
         }
         let at = n * u;
         lower(&table[at..], &mut fan, n);
         fan[u] = 100;
-        list[p] = u as u8;
+        order[p] = u as u8;
+        from = past(from, u);
         p += 1;
     }
     true
 }
 
-// A byte of the list as a vertex.
+// A byte of an order as a vertex.
 fn vertex(x: u8) -> usize
     ensures { λ r. ⌜ r ≡ x ⌝ }
 {
     x as usize
 }
 
-// Whether a stands before b among the first n bytes of `list`.
-pub fn stands_before(list: &[u8; Board::MAX_VERTICES], n: usize, a: usize, b: usize) -> bool
+// Whether a stands before b among the first n bytes of `order`.
+pub fn stands_before(order: &Order, n: usize, a: usize, b: usize) -> bool
     requires { ⌜ n ≤ maxVertices ⌝ }
-    ensures { λ r. ⌜ r ≡ standsBefore n (now (list .entry)) a b ⌝ }
+    ensures { λ r. ⌜ r ≡ standsBefore n (was order) a b ⌝ }
 {
     let mut p = 0;
     while p < n {
-        let v = vertex(list[p]);
+        let v = vertex(order[p]);
         if v == b {
             break;
         }

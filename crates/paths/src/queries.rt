@@ -4,21 +4,22 @@ use crate::board::Board;
 use crate::board::Made;
 use crate::chain;
 use crate::checks;
-use crate::order;
+use crate::order::Order;
+use crate::room;
 use timing::Refusal;
 ghost use mathlib.Core.Path.{_≡_};
-ghost use mathlib.Core.List.{_++_};
-ghost use Prim.Native.Nat.{_+_, _*_, _<_, _≤_};
+ghost use Prim.Native.Nat.{_+_, _*_, _≤_};
 ghost use lib.IntN.{pos};
-ghost use lib.ListN.{length, getD, drop};
+ghost use lib.ListN.{length, getD};
 ghost use Rattle.laws.specs.Lists.{tabulate};
-ghost use Rattle.timing.specs.Limits.{arrivalLimit, absentWide, scratchCells, fits};
-ghost use Rattle.timing.specs.declared.Refusal.the-variants.{ArrivalLists, DestinationShort};
-ghost use Rattle.timing.specs.Table.{readCell, graphOf};
-ghost use Rattle.timing.specs.Delays.{matrixCells, arrivalsFit};
-ghost use Rattle.timing.specs.Queries.{matrixInto, matrixCall, arrivalsInto, arrivalCall};
-ghost use Rattle.paths.specs.Arrivals.{Passable};
-ghost use Rattle.paths.specs.Queries.{Answers, ScratchAfter};
+ghost use Rattle.laws.specs.Lent.{was, Past};
+ghost use Rattle.timing.specs.Limits.{arrivalLimit, absentWide, fits};
+ghost use Rattle.timing.specs.Table.{readCell};
+ghost use Rattle.timing.specs.Delays.{arrivalsFit};
+ghost use Rattle.timing.specs.Queries.{matrixCall, arrivalCall};
+ghost use Rattle.paths.specs.Checked.{Passable};
+ghost use Rattle.paths.specs.Queries.{ScratchAfter, Fills, matrixOn, arrivalsOn, withMatrix};
+ghost use Rattle.paths.specs.Board.{ScratchRoom, PastScratch};
 
 pub enum Answer {
     Done,
@@ -28,7 +29,7 @@ pub enum Answer {
 // The outputs' cells: they stand in f from m on.
 fn copy_out(row: &mut [i64], f: &[i64], m: usize)
     requires { ⌜ m + length (now row) ≤ length (now f) ⌝ }
-    ensures { λ _. ⌜ now (row .exit) ≡ tabulate (length (now (row .entry))) (λ j. getD (now (f .entry)) (m + j) (pos 0)) ⌝ }
+    ensures { λ _. ⌜ now (row .exit) ≡ tabulate (length (was row)) (λ j. getD (was f) (m + j) (pos 0)) ⌝ }
 {
     let mut j = 0;
     while j < row.len() {
@@ -41,20 +42,23 @@ fn copy_out(row: &mut [i64], f: &[i64], m: usize)
 pub fn fill_matrix(
     board: Board,
     table: &[i32],
-    list: &[u8; Board::MAX_VERTICES],
+    order: &Order,
     scratch: &mut [i64],
     destination: &mut [i64],
 )
-    requires { ⌜ Passable board (now table) (now list) × (board .vertices ≤ length (now scratch)) × (board .outputs * board .inputs ≤ length (now destination)) ⌝ }
-    ensures { λ _. ⌜ now (destination .exit) ≡ matrixCells (board .inputs) (board .outputs) (board .vertices) (graphOf (board .vertices) (now (table .entry))) ++ drop (board .outputs * board .inputs) (now (destination .entry)) ⌝ }
-    ensures { λ _. ⌜ drop (board .vertices) (now (scratch .exit)) ≡ drop (board .vertices) (now (scratch .entry)) ⌝ }
+    requires { ⌜ Passable board (now table) (now order) ⌝ }
+    requires { ⌜ board .vertices ≤ length (now scratch) ⌝ }
+    requires { ⌜ board .outputs * board .inputs ≤ length (now destination) ⌝ }
+    ensures { λ _. ⌜ now (destination .exit) ≡ withMatrix board (was table) (was destination) ⌝ }
+    ensures { λ _. ⌜ Past (board .vertices) (was scratch) (now (scratch .exit)) ⌝ }
 {
-    let chain = chain::chains(board, table);
+    let mut chain = room::cell_bytes();
+    chain::chains(board, table, &mut chain);
     let m = board.inputs;
     let n = board.outputs;
     let mut i = 0;
     while i < m {
-        arrivals::delays_from(board, table, list, &chain, i, scratch);
+        arrivals::delays_from(board, table, order, &chain, i, scratch);
         let at = n * i;
         let end = at + n;
         copy_out(&mut destination[at..end], scratch, m);
@@ -66,16 +70,17 @@ pub fn fill_matrix(
 fn matrix_answer(
     board: Board,
     table: &[i32],
-    list: &[u8; Board::MAX_VERTICES],
+    order: &Order,
     scratch: &mut [i64],
     destination: &mut [i64],
 ) -> Answer
-    requires { ⌜ Passable board (now table) (now list) × (scratchCells (board .vertices) ≤ length (now scratch)) ⌝ }
-    ensures { λ r. ⌜ Answers (matrixInto (board .inputs) (board .outputs) (board .vertices) (now (destination .entry)) (graphOf (board .vertices) (now (table .entry)))) (now (destination .entry)) (now (destination .exit)) r ⌝ }
-    ensures { λ _. ⌜ drop (scratchCells (board .vertices)) (now (scratch .exit)) ≡ drop (scratchCells (board .vertices)) (now (scratch .entry)) ⌝ }
+    requires { ⌜ Passable board (now table) (now order) ⌝ }
+    requires { ⌜ ScratchRoom board (now scratch) ⌝ }
+    ensures { λ r. ⌜ Fills (matrixOn board (was table) (was destination)) (was destination) (now (destination .exit)) r ⌝ }
+    ensures { λ _. ⌜ PastScratch board (was scratch) (now (scratch .exit)) ⌝ }
 {
     if destination.len() >= board.outputs * board.inputs {
-        fill_matrix(board, table, list, scratch, destination);
+        fill_matrix(board, table, order, scratch, destination);
         return Answer::Done;
     }
     Answer::Refused(Refusal::DestinationShort)
@@ -90,13 +95,13 @@ pub fn delay_matrix(
     scratch: &mut [i64],
     destination: &mut [i64],
 ) -> Answer
-    ensures { λ r. ⌜ Answers (matrixCall inputs outputs vertices (length (now (scratch .entry))) (now (table .entry)) (now (destination .entry))) (now (destination .entry)) (now (destination .exit)) r ⌝ }
-    ensures { λ _. ⌜ ScratchAfter inputs outputs vertices (now (table .entry)) (now (scratch .entry)) (now (scratch .exit)) ⌝ }
+    ensures { λ r. ⌜ Fills (matrixCall inputs outputs vertices (length (was scratch)) (was table) (was destination)) (was destination) (now (destination .exit)) r ⌝ }
+    ensures { λ _. ⌜ ScratchAfter inputs outputs vertices (was table) (was scratch) (now (scratch .exit)) ⌝ }
 {
-    let mut list = order::bytes();
-    let lent = checks::checked(inputs, outputs, vertices, table, scratch.len(), &mut list);
+    let mut order = room::vertex_bytes();
+    let lent = checks::checked(inputs, outputs, vertices, table, scratch.len(), &mut order);
     match lent {
-        Made::Board(board) => matrix_answer(board, table, &list, scratch, destination),
+        Made::Board(board) => matrix_answer(board, table, &order, scratch, destination),
         Made::Refused(r) => Answer::Refused(r),
     }
 }
@@ -116,7 +121,7 @@ fn arrival_fits(x: i64) -> bool
 
 // Whether there is an arrival for each input, each absent or within the limits.
 fn arrivals_fit(board: Board, given: &[i64]) -> bool
-    ensures { λ r. ⌜ r ≡ arrivalsFit (board .inputs) (now (given .entry)) ⌝ }
+    ensures { λ r. ⌜ r ≡ arrivalsFit (board .inputs) (was given) ⌝ }
 {
     let m = board.inputs;
     if given.len() != m {
@@ -136,14 +141,15 @@ fn arrivals_fit(board: Board, given: &[i64]) -> bool
 fn arrivals_answer(
     board: Board,
     table: &[i32],
-    list: &[u8; Board::MAX_VERTICES],
+    order: &Order,
     scratch: &mut [i64],
     given: &[i64],
     answers: &mut [i64],
 ) -> Answer
-    requires { ⌜ Passable board (now table) (now list) × (scratchCells (board .vertices) ≤ length (now scratch)) ⌝ }
-    ensures { λ r. ⌜ Answers (arrivalsInto (board .inputs) (board .outputs) (board .vertices) (now (given .entry)) (now (answers .entry)) (graphOf (board .vertices) (now (table .entry)))) (now (answers .entry)) (now (answers .exit)) r ⌝ }
-    ensures { λ _. ⌜ drop (scratchCells (board .vertices)) (now (scratch .exit)) ≡ drop (scratchCells (board .vertices)) (now (scratch .entry)) ⌝ }
+    requires { ⌜ Passable board (now table) (now order) ⌝ }
+    requires { ⌜ ScratchRoom board (now scratch) ⌝ }
+    ensures { λ r. ⌜ Fills (arrivalsOn board (was table) (was given) (was answers)) (was answers) (now (answers .exit)) r ⌝ }
+    ensures { λ _. ⌜ PastScratch board (was scratch) (now (scratch .exit)) ⌝ }
 {
     if !arrivals_fit(board, given) {
         return Answer::Refused(Refusal::ArrivalLists);
@@ -151,8 +157,9 @@ fn arrivals_answer(
     if answers.len() != board.outputs {
         return Answer::Refused(Refusal::ArrivalLists);
     }
-    let chain = chain::chains(board, table);
-    arrivals::arrivals(board, table, list, &chain, given, scratch);
+    let mut chain = room::cell_bytes();
+    chain::chains(board, table, &mut chain);
+    arrivals::arrivals(board, table, order, &chain, given, scratch);
     copy_out(answers, scratch, board.inputs);
     Answer::Done
 }
@@ -167,13 +174,13 @@ pub fn output_arrivals(
     given: &[i64],
     answers: &mut [i64],
 ) -> Answer
-    ensures { λ r. ⌜ Answers (arrivalCall inputs outputs vertices (length (now (scratch .entry))) (now (table .entry)) (now (given .entry)) (now (answers .entry))) (now (answers .entry)) (now (answers .exit)) r ⌝ }
-    ensures { λ _. ⌜ ScratchAfter inputs outputs vertices (now (table .entry)) (now (scratch .entry)) (now (scratch .exit)) ⌝ }
+    ensures { λ r. ⌜ Fills (arrivalCall inputs outputs vertices (length (was scratch)) (was table) (was given) (was answers)) (was answers) (now (answers .exit)) r ⌝ }
+    ensures { λ _. ⌜ ScratchAfter inputs outputs vertices (was table) (was scratch) (now (scratch .exit)) ⌝ }
 {
-    let mut list = order::bytes();
-    let lent = checks::checked(inputs, outputs, vertices, table, scratch.len(), &mut list);
+    let mut order = room::vertex_bytes();
+    let lent = checks::checked(inputs, outputs, vertices, table, scratch.len(), &mut order);
     match lent {
-        Made::Board(board) => arrivals_answer(board, table, &list, scratch, given, answers),
+        Made::Board(board) => arrivals_answer(board, table, &order, scratch, given, answers),
         Made::Refused(r) => Answer::Refused(r),
     }
 }

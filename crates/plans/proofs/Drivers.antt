@@ -1,23 +1,20 @@
 -- The driver of an output, and the cell of its arc.
 use mathlib.Core.Path.{_≡_, ap, sym, _∙_, subst}
-use mathlib.Core.Bool.{_&&_}
 use mathlib.Core.List.{List}
 use Prim.Native.Nat.{ℕ, _+_, _≤_, _<_}
 use native.Mathlib.Omega.{arith}
-use lib.Dec.{T, eqb, leb, ltb, ltb→lt}
+use lib.Dec.{T, leb, ltb, ltb→lt}
 use lib.IntN.{ℤ}
 use Rattle.laws.proofs.Booleans.{and-e}
 use Rattle.laws.proofs.Bounded.{first-holds}
 use Rattle.graph.specs.Delay.{Delay, at, present, ticks}
-use Rattle.graph.specs.Count.{fanIn}
 use Rattle.graph.proofs.Presence.{ticks-is}
 use Rattle.timing.specs.Limits.{delayLimit, absentCell, fits}
 use Rattle.timing.specs.Refusal.{accepted}
-use Rattle.timing.specs.declared.Refusal.the-variants.{WrongVertex, WrongArcs, DelayOutOfRange}
 use Rattle.timing.specs.Table.{readCell, graphOf}
-use Rattle.timing.proofs.Verdict.{require-accepted, same-accepted}
 use Rattle.reduction.specs.Outcome.{isOutput, isInner}
 use Rattle.reduction.specs.MergeBack.{driver, driverDelay, mergeFits, mergeBackVerdict}
+use Rattle.reduction.proofs.Accepted.{merge-back-accepted}
 use Rattle.paths.proofs.ReadCells.{arc-cell}
 use Rattle.plans.specs.MergedRow.{Drives}
 
@@ -42,14 +39,7 @@ module _ (N : ℕ) (t : List ℤ) (o : ℕ) (range : (u v : ℕ) → T (fits del
   -- what `merge_back_apply` asks, from an accepted verdict
   pub verdict-drives : (m n : ℕ) → m + n ≤ N → (x : ℕ × ℤ) → mergeBackVerdict m n N o (graphOf N t) ≡ accepted x
       → Drives N t (x .0) o (x .1) × T (mergeFits N (graphOf N t) (x .0) o (x .1))
-  unfolding mergeBackVerdict
   verdict-drives m n roles x q =
-      let g = graphOf N t in
-      let v = driver N g o in
-      let d = driverDelay N g o in
-      let role = require-accepted (isOutput m n o) WrongVertex _ x q in
-      let arcs = require-accepted (eqb (fanIn N g o) 1 && isInner m n N v) WrongArcs _ x (role .1) in
-      let range = require-accepted (mergeFits N g v o d) DelayOutOfRange _ x (arcs .1) in
-      let inner = and-e (eqb (fanIn N g o) 1) (isInner m n N v) (arcs .0) in
-      subst (λ (y : ℕ × ℤ). Drives N t (y .0) o (y .1) × T (mergeFits N g (y .0) o (y .1))) (same-accepted (range .1))
-      (driver-drives (output-below m n N o roles (role .0)) (inner-below m n N v (inner .1)), range .0)
+      let h = merge-back-accepted m n N o (graphOf N t) x q in
+      subst (λ (y : ℕ × ℤ). Drives N t (y .0) o (y .1) × T (mergeFits N (graphOf N t) (y .0) o (y .1))) (h .answer)
+      (driver-drives (omega (arith, h .output .1)) (h .inner .1), h .in-range)

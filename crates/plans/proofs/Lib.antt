@@ -1,16 +1,8 @@
+pub mod Applying
 pub mod SumCells
 pub mod ShrunkRows
 pub mod CopiedRow
 pub mod ShrunkTable
-pub mod Members
-pub mod Sets
-pub mod LeastOf
-pub mod Marking
-pub mod CentreCells
-pub mod StarChain
-pub mod Rewriting
-pub mod RowCells
-pub mod StarTable
 pub mod LoweredSums
 pub mod Drivers
 pub mod MergedRows

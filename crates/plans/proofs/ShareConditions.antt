@@ -16,14 +16,14 @@ use Rattle.timing.specs.Refusal.{Verdict, refused, require, _then_}
 use Rattle.timing.specs.Delays.{matrix, column}
 use Rattle.reduction.specs.Outcome.{isInput, isOutput, isInner, unused}
 use Rattle.reduction.specs.Common.{commonDifference}
-use Rattle.reduction.specs.ShareInputs.{shareInputsVerdict}
-use Rattle.reduction.specs.ShareOutputs.{shareOutputsVerdict}
+use Rattle.reduction.specs.ShareInputs.{inputsSaved, shareInputsVerdict}
+use Rattle.reduction.specs.ShareOutputs.{outputsSaved, shareOutputsVerdict}
 use Rattle.paths.specs.declared.board.Board.{Board}
 use Rattle.paths.specs.Board.{Sized}
 use Rattle.plans.specs.declared.verdict.Difference.{Difference}
 use Rattle.plans.specs.declared.verdict.Difference.the-variants as D
 use Rattle.plans.specs.Verdict.{differenceMeaning}
-use Rattle.plans.specs.Sharing.{TwoOutputs, outputsSaved, inputsSaved}
+use Rattle.plans.specs.Sharing.{TwoOutputs}
 
 -- the scratch has room for a vector
 pub vector-fits : (b : Board) → Sized b → b .vertices ≤ scratchCells (b .vertices)
@@ -57,13 +57,13 @@ two-inputs m N a b k e =
     (ltb→lt a m (r .0), ltb→lt b m (r .1), ltb→lt k N (p .1))
 
 module _ (N : ℕ) (g : Graph) (k : ℕ) where
-  pub used : (fanIn N g k ≡ 0 → ⊥) → unused N g k ≡ false
+  pub used : (fanOut N g k ≡ 0 → ⊥) → unused N g k ≡ false
   unfolding unused
   used h = eqb-other (fanIn N g k + fanOut N g k) 0 (λ e. h (omega arith))
 
-  pub used-out : fanIn N g k ≡ 0 → unused N g k ≡ eqb (fanOut N g k) 0
+  pub used-in : fanOut N g k ≡ 0 → unused N g k ≡ eqb (fanIn N g k) 0
   unfolding unused
-  used-out e = let s : fanIn N g k + fanOut N g k ≡ fanOut N g k = omega arith in ap (λ (n : ℕ). eqb n 0) s
+  used-in e = let s : fanIn N g k + fanOut N g k ≡ fanIn N g k = omega arith in ap (λ (n : ℕ). eqb n 0) s
 
 -- ---- the verdict of share outputs
 

@@ -17,7 +17,8 @@ use Rattle.timing.specs.Table.{readCell, graphOf}
 use Rattle.timing.specs.Delays.{arrivalIn, matrix}
 use Rattle.reduction.specs.Common.{commonDifference}
 use Rattle.paths.specs.declared.board.Board.{Board}
-use Rattle.paths.specs.Arrivals.{filled, Passable}
+use Rattle.paths.specs.Arrivals.{filled}
+use Rattle.paths.specs.Checked.{Passable}
 use Rattle.plans.specs.Comparing.{Comparable}
 use Rattle.plans.specs.Sharing.{TwoVectors}
 use Rattle.plans.proofs.Differences.{common-same}
@@ -82,7 +83,7 @@ module _ {b : Board} {t : List ℤ} {o : List ℕ} (p : Passable b t o) (i j : �
 
     pub both-vectors : TwoVectors b (putMid (b .vertices) (length f₁ - b .vertices) f₁ y)
     both-vectors = record {
-      sized = p .lent .sized;
+      sized = p .checked .lent .sized;
       room = omega (arith, both-length);
       near = λ v l. (subst (λ (d : Delay). T (fits arrivalLimit d)) (sym (first-vector v l)) (walk-near p i hi v l), subst (λ (d : Delay). T (fits arrivalLimit d)) (sym (second-vector v l)) (walk-near p j hj v l));
     }
@@ -98,7 +99,7 @@ module _ {b : Board} {t : List ℤ} {o : List ℕ} (p : Passable b t o) (i j : �
         ≡ commonDifference (b .outputs) (matrix (b .inputs) (b .vertices) (graphOf (b .vertices) t) i) (matrix (b .inputs) (b .vertices) (graphOf (b .vertices) t) j)
     unfolding matrix
     both-common li lj = common-same (b .outputs) _ _ _ _ (λ k l.
-        let below : m + k < N = omega (arith, p .lent .sized .roles) in
+        let below : m + k < N = omega (arith, p .checked .lent .sized .roles) in
         (first-vector (m + k) below ∙ walk-other (longest g N) i (m + k) (λ c. omega arith), second-vector (m + k) below ∙ walk-other (longest g N) j (m + k) (λ c. omega arith)))
 
 -- ---- the outputs' cells of both

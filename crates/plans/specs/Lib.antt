@@ -5,6 +5,4 @@ pub mod SharedRow
 pub mod Sharing
 pub mod MergedRow
 pub mod Rewritten
-pub mod Members
-pub mod StarCells
-pub mod StarReady
+pub mod OnBoards

@@ -1,20 +1,19 @@
 -- The parts of the shares' conditions.
+use mathlib.Core.Path.{_≡_}
 use mathlib.Core.Logic.{_≢_}
-use mathlib.Core.Bool.{not}
+use mathlib.Core.Bool.{Bool, true}
 use mathlib.Core.List.{List}
-use Prim.Native.Nat.{ℕ, _+_, _≤_, _<_}
-use lib.Dec.{T, leb}
+use Prim.Native.Nat.{ℕ, _+_, _*_, _≤_, _<_}
+use lib.Dec.{T}
 use lib.IntN.{ℤ}
 use lib.ListN.{length}
-use Rattle.graph.specs.Delay.{at, present}
-use Rattle.graph.specs.Graph.{Graph, longest}
-use Rattle.graph.specs.Count.{fanIn, fanOut}
-use Rattle.timing.specs.declared.Refusal.the-variants.{PathBack, NothingSaved, DelayOutOfRange}
-use Rattle.timing.specs.Limits.{delayLimit, arrivalLimit, fits}
-use Rattle.timing.specs.Refusal.{Verdict, accepted, require}
+use Rattle.graph.specs.Delay.{present}
+use Rattle.graph.specs.Graph.{longest}
+use Rattle.timing.specs.Limits.{arrivalLimit, fits}
 use Rattle.timing.specs.Delays.{arrivalIn}
 use Rattle.paths.specs.declared.board.Board.{Board}
-use Rattle.paths.specs.Board.{Sized}
+use Rattle.paths.specs.Board.{Sized, graphIn}
+use Rattle.reach.specs.RowSets.{RowSets}
 
 -- two outputs
 pub record TwoOutputs (board : Board) (a b : ℕ) : Type 0 where
@@ -24,23 +23,17 @@ pub record TwoOutputs (board : Board) (a b : ℕ) : Type 0 where
   pub below-b : b < board .vertices
   pub two : a ≢ b
 
--- what share outputs asks of a common difference e
-abbrev pub outputsSaved : ℕ → Graph → ℕ → ℕ → ℤ → Verdict ℤ
-outputsSaved N g a b e =
-    require (not (present (longest g N b a))) PathBack
-    (require (leb 2 (fanIn N g b)) NothingSaved
-    (require (fits delayLimit (at e)) DelayOutOfRange
-    (accepted e)))
+-- where `made`, the words have the table's row sets
+pub record Indexed (board : Board) (t : List ℤ) (words : List ℕ) (made : Bool) : Type 0 where
+  pub long : 2 * board .vertices ≤ length words
+  pub sets : made ≡ true → RowSets (board .vertices) (graphIn board t) words
+
+-- a path leads from u to v
+abbrev pub pathOn : Board → List ℤ → ℕ → ℕ → Bool
+pathOn board t u v = present (longest (graphIn board t) (board .vertices) u v)
 
 -- delays to every vertex in the first N cells, and in the next N
 pub record TwoVectors (board : Board) (f : List ℤ) : Type 0 where
   pub sized : Sized board
   pub room : board .vertices + board .vertices ≤ length f
   pub near : (v : ℕ) → v < board .vertices → T (fits arrivalLimit (arrivalIn f v)) × T (fits arrivalLimit (arrivalIn f (board .vertices + v)))
-
--- what share inputs asks of a common difference e
-abbrev pub inputsSaved : ℕ → Graph → ℕ → ℤ → Verdict ℤ
-inputsSaved N g b e =
-    require (leb 3 (fanOut N g b)) NothingSaved
-    (require (fits delayLimit (at e)) DelayOutOfRange
-    (accepted e))

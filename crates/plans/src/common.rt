@@ -5,6 +5,7 @@ use timing::Refusal;
 ghost use mathlib.Core.Path.{_≡_};
 ghost use lib.Dec.{T};
 ghost use lib.ListN.{length};
+ghost use Rattle.laws.specs.Lent.{was};
 ghost use Rattle.timing.specs.Limits.{arrivalLimit, absentWide, fits};
 ghost use Rattle.timing.specs.Table.{readCell};
 ghost use Rattle.timing.specs.Delays.{arrivalIn};
@@ -21,7 +22,8 @@ pub enum Seen {
 
 // One more place.
 pub fn seen_next(seen: Seen, x: i64, y: i64) -> Seen
-    requires { ⌜ T (fits arrivalLimit (readCell absentWide x)) × T (fits arrivalLimit (readCell absentWide y)) ⌝ }
+    requires { ⌜ T (fits arrivalLimit (readCell absentWide x)) ⌝ }
+    requires { ⌜ T (fits arrivalLimit (readCell absentWide y)) ⌝ }
     ensures { λ r. ⌜ r ≡ compared seen (readCell absentWide x) (readCell absentWide y) ⌝ }
 {
     if x == Board::ABSENT_WIDE {
@@ -54,7 +56,7 @@ pub fn settle(seen: Seen) -> Difference
 // ys less xs where both are joined, if that is one number.
 pub fn common_difference(xs: &[i64], ys: &[i64]) -> Difference
     requires { ⌜ Comparable (now xs) (now ys) ⌝ }
-    ensures { λ r. ⌜ differenceMeaning r ≡ commonDifference (length (now (xs .entry))) (arrivalIn (now (xs .entry))) (arrivalIn (now (ys .entry))) ⌝ }
+    ensures { λ r. ⌜ differenceMeaning r ≡ commonDifference (length (was xs)) (arrivalIn (was xs)) (arrivalIn (was ys)) ⌝ }
 {
     let mut seen = Seen::Nothing;
     let mut j = 0;

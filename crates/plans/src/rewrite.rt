@@ -1,15 +1,16 @@
 // The new table of a step that rewrites each row on its own, with one row to take arcs from.
 use crate::merge_back;
 use crate::rows;
-use crate::share;
+use crate::rows::Row;
+use crate::share_inputs;
+use crate::share_outputs;
 use crate::shrink;
 use paths::Board;
 ghost use mathlib.Core.Path.{_≡_};
-ghost use lib.ListN.{length};
-ghost use Rattle.laws.specs.Lists.{tabulate};
-ghost use Rattle.timing.specs.Table.{graphOf, withGraph};
+ghost use Rattle.laws.specs.Lent.{was};
 ghost use Rattle.paths.specs.Board.{Lent};
 ghost use Rattle.plans.specs.Rewritten.{rewritten, Rewritable, origin, rewrittenCell, RowFit};
+ghost use Rattle.plans.specs.OnBoards.{changed, remade};
 
 // The step with its vertices, and its delay where it has one.
 pub enum Rewriting {
@@ -32,26 +33,35 @@ fn origin(how: Rewriting) -> usize
 }
 
 // The row of u.
-fn rewrite_row(row: &mut [i32], via: &[i32; Board::MAX_VERTICES], how: Rewriting, u: usize)
+fn rewrite_row(row: &mut [i32], via: &Row, how: Rewriting, u: usize)
     requires { ⌜ RowFit how (now row) (now via) ⌝ }
-    ensures { λ _. ⌜ now (row .exit) ≡ tabulate (length (now (row .entry))) (rewrittenCell how (now (row .entry)) (now (via .entry)) u) ⌝ }
+    ensures { λ _. ⌜ now (row .exit) ≡ remade (rewrittenCell how (was row) (was via) u) (was row) ⌝ }
 {
     match how {
         Rewriting::Shrink(k) => shrink::shrink_row(row, via, k, u),
-        Rewriting::ShareInputs(a, b, k, e) => share::share_inputs_row(row, via, a, b, k, e, u),
-        Rewriting::ShareOutputs(a, b, e) => share::share_outputs_row(row, a, b, e, u),
+        Rewriting::ShareInputs(a, b, k, e) => share_inputs::share_inputs_row(
+            row,
+            via,
+            a,
+            b,
+            k,
+            e,
+            u,
+        ),
+        Rewriting::ShareOutputs(a, b, e) => share_outputs::share_outputs_row(row, a, b, e, u),
         Rewriting::MergeBack(v, o, d) => merge_back::merge_row(row, via, v, o, d, u),
     }
 }
 
 // The one row is copied first, for two rows of one table cannot be lent together.
 pub fn rewrite(board: Board, table: &mut [i32], how: Rewriting)
-    requires { ⌜ Lent board (now table) × Rewritable how (board .vertices) (now table) ⌝ }
-    ensures { λ _. ⌜ now (table .exit) ≡ withGraph (board .vertices) (rewritten how (graphOf (board .vertices) (now (table .entry)))) (now (table .entry)) ⌝ }
+    requires { ⌜ Lent board (now table) ⌝ }
+    requires { ⌜ Rewritable how (board .vertices) (now table) ⌝ }
+    ensures { λ _. ⌜ now (table .exit) ≡ changed board (rewritten how) (was table) ⌝ }
 {
     let n = board.vertices;
     let from = n * origin(how);
-    let via = rows::row_copy(&table[from..], n);
+    let via = rows::row_copy(table, from, n);
     let mut u = 0;
     while u < n {
         let at = n * u;

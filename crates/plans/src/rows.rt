@@ -2,14 +2,17 @@
 use paths::Board;
 use paths::cells;
 ghost use mathlib.Core.Path.{_≡_};
-ghost use mathlib.Core.Bool.{_&&_};
-ghost use Prim.Native.Nat.{ℕ, _<_, _≤_};
+ghost use Prim.Native.Nat.{ℕ, _+_, _<_, _≤_};
 ghost use lib.IntN.{pos};
 ghost use lib.ListN.{length, getD};
+ghost use Rattle.laws.specs.Lent.{was};
 ghost use Rattle.timing.specs.Limits.{maxVertices};
-ghost use Rattle.timing.specs.Table.{graphOf};
-ghost use Rattle.reduction.specs.Outcome.{isOutput, isInner, unused};
+ghost use Rattle.reduction.specs.Outcome.{isOutput, isInner};
 ghost use Rattle.paths.specs.Board.{Sized, Lent};
+ghost use Rattle.plans.specs.OnBoards.{isFree};
+
+// A row of any table.
+pub type Row = [i32; Board::MAX_VERTICES];
 
 pub fn is_inner(board: Board, k: usize) -> bool
     requires { ⌜ Sized board ⌝ }
@@ -37,27 +40,29 @@ pub fn is_output(board: Board, k: usize) -> bool
 
 // Whether k is an inner vertex that no arc touches.
 pub fn is_free(board: Board, table: &[i32], k: usize) -> bool
-    requires { ⌜ Lent board (now table) × (k < board .vertices) ⌝ }
-    ensures { λ r. ⌜ r ≡ (isInner (board .inputs) (board .outputs) (board .vertices) k && unused (board .vertices) (graphOf (board .vertices) (now (table .entry))) k) ⌝ }
+    requires { ⌜ Lent board (now table) ⌝ }
+    requires { ⌜ k < board .vertices ⌝ }
+    ensures { λ r. ⌜ r ≡ isFree board (was table) k ⌝ }
 {
     if !is_inner(board, k) {
         return false;
     }
-    if cells::fan_in(board, table, k) != 0 {
+    if cells::fan_out(board, table, k) != 0 {
         return false;
     }
-    cells::fan_out(board, table, k) == 0
+    cells::none_into(board, table, k)
 }
 
-// A row, in an array.
-pub fn row_copy(row: &[i32], n: usize) -> [i32; Board::MAX_VERTICES]
-    requires { ⌜ (n ≤ maxVertices) × (n ≤ length (now row)) ⌝ }
-    ensures { λ r. ⌜ ((v : ℕ) → v < n → getD r v (pos 0) ≡ getD (now (row .entry)) v (pos 0)) ⌝ }
+// The n cells of a row that starts at cell `at`, in an array.
+pub fn row_copy(table: &[i32], at: usize, n: usize) -> Row
+    requires { ⌜ n ≤ maxVertices ⌝ }
+    requires { ⌜ at + n ≤ length (now table) ⌝ }
+    ensures { λ r. ⌜ ((v : ℕ) → v < n → getD r v (pos 0) ≡ getD (was table) (at + v) (pos 0)) ⌝ }
 {
     let mut copy = [0i32; Board::MAX_VERTICES];
     let mut v = 0;
     while v < n {
-        copy[v] = row[v];
+        copy[v] = table[at + v];
         v += 1;
     }
     copy

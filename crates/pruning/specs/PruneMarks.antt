@@ -9,10 +9,10 @@ use Rattle.laws.specs.Bounded.{some}
 use Rattle.graph.specs.Delay.{absent, present}
 use Rattle.graph.specs.Graph.{Graph, longest}
 use Rattle.timing.specs.Limits.{absentWide}
-use Rattle.timing.specs.Refusal.{Verdict, refused, accepted}
-use Rattle.timing.specs.Table.{readCell, graphOf, withGraph}
+use Rattle.timing.specs.Table.{readCell, graphOf}
 use Rattle.timing.specs.Delays.{arrivalIn}
-use Rattle.reduction.specs.Prune.{critical, pruned, pruneVerdict}
+use Rattle.reduction.specs.Outcome.{everyPair}
+use Rattle.reduction.specs.Prune.{critical}
 use Rattle.paths.specs.declared.board.Board.{Board}
 use Rattle.paths.specs.Cells.{cellAt}
 use Rattle.pruning.specs.TightArcs.{tight, decidesFrom}
@@ -26,14 +26,24 @@ pub record RowMarked (row : List ℤ) (a : ℤ) (f : List ℤ) (alive marks₀ m
   pub cells : (v : ℕ) → v < length marks₀ → getD marks v false ≡ (getD marks₀ v false || tightTo row a f alive v)
   pub found : r ≡ some (length marks₀) (tightTo row a f alive)
 
--- the arcs that decide a delay from i are marked too
+-- the arcs of which f holds are marked too
+abbrev pub AlsoMarked : ℕ → (ℕ → ℕ → Bool) → List Bool → List Bool → Type 0
+AlsoMarked N f marks₀ marks = (u v : ℕ) → u < N → v < N → getD marks (N * u + v) false ≡ (getD marks₀ (N * u + v) false || f u v)
+
+-- those that decide a delay from i
 abbrev pub MarkedFrom : Board → ℕ → List ℤ → List Bool → List Bool → Type 0
-MarkedFrom b i t marks₀ marks = (u v : ℕ) → u < b .vertices → v < b .vertices → getD marks (b .vertices * u + v) false
-    ≡ (getD marks₀ (b .vertices * u + v) false || decidesFrom (b .inputs) (b .outputs) (longest (graphOf (b .vertices) t) (b .vertices)) (graphOf (b .vertices) t) i u v)
+MarkedFrom b i t = AlsoMarked (b .vertices) (decidesFrom (b .inputs) (b .outputs) (longest (graphOf (b .vertices) t) (b .vertices)) (graphOf (b .vertices) t) i)
+
+-- those that decide a delay
+abbrev pub stays : Board → List ℤ → ℕ → ℕ → Bool
+stays b t = critical everyPair (b .inputs) (b .outputs) (b .vertices) (graphOf (b .vertices) t)
+
+abbrev pub DecidingMarked : Board → List ℤ → List Bool → List Bool → Type 0
+DecidingMarked b t = AlsoMarked (b .vertices) (stays b t)
 
 -- the marks are those of the arcs that stay
 abbrev pub StayMarked : Board → List ℤ → List Bool → Type 0
-StayMarked b t marks = (u v : ℕ) → u < b .vertices → v < b .vertices → getD marks (b .vertices * u + v) false ≡ critical (b .inputs) (b .outputs) (b .vertices) (graphOf (b .vertices) t) u v
+StayMarked b t marks = (u v : ℕ) → u < b .vertices → v < b .vertices → getD marks (b .vertices * u + v) false ≡ stays b t u v
 
 -- room for the marks, all of them off
 pub record Unmarked (b : Board) (marks : List Bool) : Type 0 where
@@ -47,11 +57,3 @@ someUnmarked N g marks = some N (λ u. some N (λ v. present (g u v) && not (get
 -- the arcs with a mark
 abbrev pub markedArcs : ℕ → List Bool → Graph → Graph
 markedArcs N marks g u v = cond (getD marks (N * u + v) false) (g u v) absent
-
--- the new table of an accepted step; a refusal leaves it as it was
-abbrev pub ifAccepted : Verdict (Unit {0}) → List ℤ → List ℤ → List ℤ
-ifAccepted (refused r) new old = old
-ifAccepted (accepted x) new old = new
-
-unfoldable pub tableAfterPrune : ℕ → ℕ → ℕ → List ℤ → List ℤ
-tableAfterPrune m n N t = ifAccepted (pruneVerdict m n N (graphOf N t)) (withGraph N (pruned m n N (graphOf N t)) t) t

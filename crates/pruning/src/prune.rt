@@ -3,33 +3,38 @@ use paths::Board;
 use paths::arrivals;
 use paths::cells;
 use paths::chain;
+use paths::order::Order;
+use paths::room;
 use plans::verdict::Fit;
 use timing::Refusal;
 ghost use mathlib.Core.Path.{_≡_};
 ghost use mathlib.Core.Logic.{_≢_};
 ghost use mathlib.Core.Bool.{false, not, cond, _&&_, _||_};
-ghost use Prim.Native.Nat.{ℕ, _+_, _*_, _<_, _≤_};
+ghost use Prim.Native.Nat.{_*_, _<_, _≤_};
 ghost use lib.Dec.{T};
 ghost use lib.IntN.{pos};
-ghost use lib.ListN.{length, getD, drop};
+ghost use lib.ListN.{length, getD};
 ghost use Rattle.laws.specs.Bounded.{some};
-ghost use Rattle.laws.specs.Lists.{tabulate};
+ghost use Rattle.laws.specs.Lent.{was, Past};
 ghost use Rattle.graph.specs.Delay.{present};
-ghost use Rattle.timing.specs.Limits.{maxVertices, delayLimit, absentCell, absentWide, scratchCells, fits};
-ghost use Rattle.timing.specs.Table.{readCell, graphOf, withGraph};
+ghost use Rattle.timing.specs.Limits.{delayLimit, absentCell, absentWide, fits};
+ghost use Rattle.timing.specs.Table.{readCell};
 ghost use Rattle.reduction.specs.Outcome.{isOutput};
-ghost use Rattle.reduction.specs.Prune.{pruneVerdict};
-ghost use Rattle.paths.specs.Board.{Sized, Lent};
+ghost use Rattle.reduction.specs.Steps.{prune};
+ghost use Rattle.paths.specs.Board.{Sized, Lent, graphIn, ScratchRoom, PastScratch};
 ghost use Rattle.paths.specs.Cells.{cellAt};
 ghost use Rattle.paths.specs.Chain.{Chains};
-ghost use Rattle.paths.specs.Arrivals.{Passable, Reached, Pushable};
-ghost use Rattle.plans.specs.Verdict.{fitMeaning};
+ghost use Rattle.paths.specs.Arrivals.{Reached, Pushable};
+ghost use Rattle.paths.specs.Checked.{Passable};
+ghost use Rattle.plans.specs.OnBoards.{changed, remade, Applies};
 ghost use Rattle.pruning.specs.TightArcs.{tight};
-ghost use Rattle.pruning.specs.PruneMarks.{RowMarked, MarkedFrom, StayMarked, Unmarked, someUnmarked, markedArcs, tableAfterPrune};
+ghost use Rattle.pruning.specs.PruneMarks.{RowMarked, MarkedFrom, DecidingMarked, Unmarked, someUnmarked, markedArcs};
 
 // Whether the arc is tight: what is at its head came over it.
 fn is_tight(a: i64, cell: i32, w: i64) -> bool
-    requires { ⌜ Reached a × (cell ≢ absentCell) × T (fits delayLimit (readCell absentCell cell)) ⌝ }
+    requires { ⌜ Reached a ⌝ }
+    requires { ⌜ cell ≢ absentCell ⌝ }
+    requires { ⌜ T (fits delayLimit (readCell absentCell cell)) ⌝ }
     ensures { λ r. ⌜ r ≡ tight (readCell absentWide a) (readCell absentCell cell) (readCell absentWide w) ⌝ }
 {
     w == a + (cell as i64)
@@ -44,8 +49,9 @@ fn mark_row(
     alive: &[bool; Board::MAX_VERTICES],
     marks: &mut [bool],
 ) -> bool
-    requires { ⌜ Reached a × Pushable (length (now marks)) (now row) (now chain) (now f) ⌝ }
-    ensures { λ r. ⌜ RowMarked (now (row .entry)) a (now (f .entry)) (now (alive .entry)) (now (marks .entry)) (now (marks .exit)) r ⌝ }
+    requires { ⌜ Reached a ⌝ }
+    requires { ⌜ Pushable (length (now marks)) (now row) (now chain) (now f) ⌝ }
+    ensures { λ r. ⌜ RowMarked (was row) a (was f) (was alive) (was marks) (now (marks .exit)) r ⌝ }
 {
     let mut found = false;
     let mut v = chain[0] as usize;
@@ -59,13 +65,6 @@ fn mark_row(
         v = chain[v] as usize;
     }
     found
-}
-
-// No vertex is alive yet.
-fn dark() -> [bool; Board::MAX_VERTICES]
-    ensures { λ r. ⌜ (length r ≡ maxVertices) × ((v : ℕ) → v < maxVertices → getD r v false ≡ false) ⌝ }
-{
-    [false; Board::MAX_VERTICES]
 }
 
 // Whether a vertex that is reached is alive: an output, or one with a tight arc to a vertex that is.
@@ -88,23 +87,27 @@ fn is_alive(board: Board, v: usize, found: bool) -> bool
 fn mark_from(
     board: Board,
     table: &[i32],
-    list: &[u8; Board::MAX_VERTICES],
+    order: &Order,
     chain: &[u8],
     i: usize,
     f: &mut [i64],
     marks: &mut [bool],
 )
-    requires { ⌜ Passable board (now table) (now list) × Chains (board .vertices) (now table) (now chain) × (i < board .inputs) × (board .vertices ≤ length (now f)) × (board .vertices * board .vertices ≤ length (now marks)) ⌝ }
-    ensures { λ _. ⌜ MarkedFrom board i (now (table .entry)) (now (marks .entry)) (now (marks .exit)) ⌝ }
-    ensures { λ _. ⌜ drop (board .vertices) (now (f .exit)) ≡ drop (board .vertices) (now (f .entry)) ⌝ }
+    requires { ⌜ Passable board (now table) (now order) ⌝ }
+    requires { ⌜ Chains (board .vertices) (now table) (now chain) ⌝ }
+    requires { ⌜ i < board .inputs ⌝ }
+    requires { ⌜ board .vertices ≤ length (now f) ⌝ }
+    requires { ⌜ board .vertices * board .vertices ≤ length (now marks) ⌝ }
+    ensures { λ _. ⌜ MarkedFrom board i (was table) (was marks) (now (marks .exit)) ⌝ }
+    ensures { λ _. ⌜ Past (board .vertices) (was f) (now (f .exit)) ⌝ }
 {
-    arrivals::delays_from(board, table, list, chain, i, f);
+    arrivals::delays_from(board, table, order, chain, i, f);
     let n = board.vertices;
-    let mut alive = dark();
+    let mut alive = room::vertex_flags();
     let mut p = n;
     while p > 0 {
         p -= 1;
-        let u = list[p] as usize;
+        let u = order[p] as usize;
         let a = f[u];
         if a != Board::ABSENT_WIDE {
             let at = n * u;
@@ -122,23 +125,26 @@ fn mark_from(
     }
 }
 
-// Marks the arcs that decide a delay.
+// Marks the arcs that decide a delay; other marks stay.
 pub fn prune_marks(
     board: Board,
     table: &[i32],
-    list: &[u8; Board::MAX_VERTICES],
+    order: &Order,
     scratch: &mut [i64],
     marks: &mut [bool],
 )
-    requires { ⌜ Passable board (now table) (now list) × (board .vertices ≤ length (now scratch)) × Unmarked board (now marks) ⌝ }
-    ensures { λ _. ⌜ StayMarked board (now (table .entry)) (now (marks .exit)) ⌝ }
-    ensures { λ _. ⌜ drop (board .vertices) (now (scratch .exit)) ≡ drop (board .vertices) (now (scratch .entry)) ⌝ }
+    requires { ⌜ Passable board (now table) (now order) ⌝ }
+    requires { ⌜ board .vertices ≤ length (now scratch) ⌝ }
+    requires { ⌜ board .vertices * board .vertices ≤ length (now marks) ⌝ }
+    ensures { λ _. ⌜ DecidingMarked board (was table) (was marks) (now (marks .exit)) ⌝ }
+    ensures { λ _. ⌜ Past (board .vertices) (was scratch) (now (scratch .exit)) ⌝ }
 {
-    let chain = chain::chains(board, table);
+    let mut chain = room::cell_bytes();
+    chain::chains(board, table, &mut chain);
     let m = board.inputs;
     let mut i = 0;
     while i < m {
-        mark_from(board, table, list, &chain, i, scratch, marks);
+        mark_from(board, table, order, &chain, i, scratch, marks);
         i += 1;
     }
 }
@@ -146,30 +152,28 @@ pub fn prune_marks(
 fn goes(cell: i32, mark: bool) -> bool
     ensures { λ r. ⌜ r ≡ (present (readCell absentCell cell) && not mark) ⌝ }
 {
-    if mark {
-        return false;
-    }
-    cells::is_arc(cell)
+    cells::is_arc(cell) & !mark
 }
 
-// Whether a row has an arc without a mark.
+// Whether a row has an arc without a mark. All are looked at, so that the compiler takes several at a time.
 fn row_unmarked(row: &[i32], marks: &[bool], n: usize) -> bool
-    requires { ⌜ (n ≤ length (now row)) × (n ≤ length (now marks)) ⌝ }
-    ensures { λ r. ⌜ r ≡ some n (λ v. present (cellAt (now (row .entry)) v) && not (getD (now (marks .entry)) v false)) ⌝ }
+    requires { ⌜ n ≤ length (now row) ⌝ }
+    requires { ⌜ n ≤ length (now marks) ⌝ }
+    ensures { λ r. ⌜ r ≡ some n (λ v. present (cellAt (was row) v) && not (getD (was marks) v false)) ⌝ }
 {
+    let mut some = false;
     let mut v = 0;
     while v < n {
-        if goes(row[v], marks[v]) {
-            return true;
-        }
+        some = some | goes(row[v], marks[v]);
         v += 1;
     }
-    false
+    some
 }
 
 fn some_unmarked(board: Board, table: &[i32], marks: &[bool]) -> bool
-    requires { ⌜ Lent board (now table) × (board .vertices * board .vertices ≤ length (now marks)) ⌝ }
-    ensures { λ r. ⌜ r ≡ someUnmarked (board .vertices) (graphOf (board .vertices) (now (table .entry))) (now (marks .entry)) ⌝ }
+    requires { ⌜ Lent board (now table) ⌝ }
+    requires { ⌜ board .vertices * board .vertices ≤ length (now marks) ⌝ }
+    ensures { λ r. ⌜ r ≡ someUnmarked (board .vertices) (graphIn board (was table)) (was marks) ⌝ }
 {
     let n = board.vertices;
     let mut u = 0;
@@ -195,7 +199,7 @@ fn kept(cell: i32, mark: bool) -> i32
 // A row without the arcs that have no mark.
 fn thin_row(row: &mut [i32], marks: &[bool])
     requires { ⌜ length (now row) ≤ length (now marks) ⌝ }
-    ensures { λ _. ⌜ now (row .exit) ≡ tabulate (length (now (row .entry))) (λ v. cond (getD (now (marks .entry)) v false) (getD (now (row .entry)) v (pos 0)) absentCell) ⌝ }
+    ensures { λ _. ⌜ now (row .exit) ≡ remade (λ v. cond (getD (was marks) v false) (getD (was row) v (pos 0)) absentCell) (was row) ⌝ }
 {
     let mut v = 0;
     while v < row.len() {
@@ -205,8 +209,9 @@ fn thin_row(row: &mut [i32], marks: &[bool])
 }
 
 fn thin(board: Board, table: &mut [i32], marks: &[bool])
-    requires { ⌜ Lent board (now table) × (board .vertices * board .vertices ≤ length (now marks)) ⌝ }
-    ensures { λ _. ⌜ now (table .exit) ≡ withGraph (board .vertices) (markedArcs (board .vertices) (now (marks .entry)) (graphOf (board .vertices) (now (table .entry)))) (now (table .entry)) ⌝ }
+    requires { ⌜ Lent board (now table) ⌝ }
+    requires { ⌜ board .vertices * board .vertices ≤ length (now marks) ⌝ }
+    ensures { λ _. ⌜ now (table .exit) ≡ changed board (markedArcs (board .vertices) (was marks)) (was table) ⌝ }
 {
     let n = board.vertices;
     let mut u = 0;
@@ -222,16 +227,17 @@ fn thin(board: Board, table: &mut [i32], marks: &[bool])
 fn prune_in(
     board: Board,
     table: &mut [i32],
-    list: &[u8; Board::MAX_VERTICES],
+    order: &Order,
     scratch: &mut [i64],
     marks: &mut [bool],
 ) -> Fit
-    requires { ⌜ Passable board (now table) (now list) × (board .vertices ≤ length (now scratch)) × Unmarked board (now marks) ⌝ }
-    ensures { λ r. ⌜ fitMeaning r ≡ pruneVerdict (board .inputs) (board .outputs) (board .vertices) (graphOf (board .vertices) (now (table .entry))) ⌝ }
-    ensures { λ _. ⌜ now (table .exit) ≡ tableAfterPrune (board .inputs) (board .outputs) (board .vertices) (now (table .entry)) ⌝ }
-    ensures { λ _. ⌜ drop (board .vertices) (now (scratch .exit)) ≡ drop (board .vertices) (now (scratch .entry)) ⌝ }
+    requires { ⌜ Passable board (now table) (now order) ⌝ }
+    requires { ⌜ board .vertices ≤ length (now scratch) ⌝ }
+    requires { ⌜ Unmarked board (now marks) ⌝ }
+    ensures { λ r. ⌜ Applies board prune (was table) (now (table .exit)) r ⌝ }
+    ensures { λ _. ⌜ Past (board .vertices) (was scratch) (now (scratch .exit)) ⌝ }
 {
-    prune_marks(board, table, list, scratch, marks);
+    prune_marks(board, table, order, scratch, marks);
     if !some_unmarked(board, table, marks) {
         return Fit::Refused(Refusal::NothingSaved);
     }
@@ -239,26 +245,14 @@ fn prune_in(
     Fit::Accepted
 }
 
-// Room for the marks.
-fn unmarked() -> [bool; Board::MAX_CELLS]
-    ensures { λ r. ⌜ (length r ≡ maxVertices * maxVertices) × ((x : ℕ) → x < maxVertices * maxVertices → getD r x false ≡ false) ⌝ }
-{
-    [false; Board::MAX_CELLS]
-}
-
 // The step: what it answers, and the table after it. Nothing is written where it refuses.
-pub fn prune_step(
-    board: Board,
-    table: &mut [i32],
-    list: &[u8; Board::MAX_VERTICES],
-    scratch: &mut [i64],
-) -> Fit
-    requires { ⌜ Passable board (now table) (now list) × (scratchCells (board .vertices) ≤ length (now scratch)) ⌝ }
-    ensures { λ r. ⌜ fitMeaning r ≡ pruneVerdict (board .inputs) (board .outputs) (board .vertices) (graphOf (board .vertices) (now (table .entry))) ⌝ }
-    ensures { λ _. ⌜ now (table .exit) ≡ tableAfterPrune (board .inputs) (board .outputs) (board .vertices) (now (table .entry)) ⌝ }
-    ensures { λ _. ⌜ drop (scratchCells (board .vertices)) (now (scratch .exit)) ≡ drop (scratchCells (board .vertices)) (now (scratch .entry)) ⌝ }
+pub fn prune_step(board: Board, table: &mut [i32], order: &Order, scratch: &mut [i64]) -> Fit
+    requires { ⌜ Passable board (now table) (now order) ⌝ }
+    requires { ⌜ ScratchRoom board (now scratch) ⌝ }
+    ensures { λ r. ⌜ Applies board prune (was table) (now (table .exit)) r ⌝ }
+    ensures { λ _. ⌜ PastScratch board (was scratch) (now (scratch .exit)) ⌝ }
 {
-    let mut marks = unmarked();
+    let mut marks = room::cell_flags();
     let size = board.cells();
-    prune_in(board, table, list, scratch, &mut marks[..size])
+    prune_in(board, table, order, scratch, &mut marks[..size])
 }

@@ -1,26 +1,26 @@
 -- Deleting arcs that never decide. The law is for any pairs (i, j) that count: where each arc that decides for one of them stays, its greatest delay stays.
 use mathlib.Core.Path.{_≡_, sym, ap, _∙_, subst}
 use mathlib.Core.Logic.{_⊎_, inl, inr}
+use mathlib.Core.Bool.{Bool, _&&_}
 use mathlib.Core.List.{List, [], _∷_}
-use Prim.Native.Nat.{ℕ, _+_, _-_, _<_}
+use Prim.Native.Nat.{ℕ, _+_, _-_, _≤_, _<_}
 use native.Mathlib.Omega.{arith}
-use lib.Dec.{T, T-not, ltb, ltb→lt}
-use Rattle.laws.proofs.Booleans.{cond-elim, and-i}
-use Rattle.graph.specs.Delay.{Delay, absent, present, immediate, _⊕_, _⊑_, eqD}
+use lib.Dec.{T, T-not}
+use Rattle.laws.proofs.Booleans.{cond-elim, and-i, and-e}
+use Rattle.graph.specs.Delay.{Delay, absent, present, immediate, _⊕_, _⊑_}
 use Rattle.graph.specs.Graph.{Graph, pathDelay, Acyclic, Longest, longest, walk}
-use Rattle.graph.specs.Count.{arcs}
-use Rattle.graph.proofs.Delay.{absent-⊑, ⊑-refl, ⊑-trans, ⊑-antisym, ⊑-eq, ⊕-immediate, immediate-⊕, ⊕-assoc, ⊕-mono, ⊕-left, ⊕-right, eq→eqD}
-use Rattle.graph.proofs.Presence.{present-⊑, absent-or}
-use Rattle.graph.proofs.Closure.{walk-same, walk-⊒, walk-arc, path-walk}
+use Rattle.graph.proofs.Delay.{absent-⊑, ⊑-refl, ⊑-trans, ⊑-antisym, ⊑-eq, ⊑-absent, none-r, ⊕-immediate, immediate-⊕, ⊕-assoc, ⊕-mono, ⊕-left, ⊕-right}
+use Rattle.graph.proofs.Presence.{present-⊑, present-l, not-present, absent-or, same-i, same-e}
+use Rattle.graph.proofs.Closure.{walk-same, walk-other, walk-⊒, walk-arc, path-walk, last-arc}
 use Rattle.graph.proofs.Rank.{Ranked}
 use Rattle.timing.specs.Refusal.{accepted}
-use Rattle.timing.specs.declared.Refusal.the-variants.{NothingSaved}
-use Rattle.timing.proofs.Verdict.{require-accepted}
-use Rattle.timing.proofs.Checks.{LegalArc, Sound}
-use Rattle.reduction.proofs.Better.{Output, Better, rank-of, longest-of, better}
+use Rattle.timing.specs.Sound.{LegalArc, Sound}
+use Rattle.reduction.proofs.Accepted.{prune-accepted}
+use Rattle.reduction.proofs.Better.{Output, Same, Better, rank-of, longest-of, same}
 use Rattle.laws.specs.Bounded.{some}
 use Rattle.laws.proofs.Bounded.{some-at, some-of}
-use Rattle.reduction.specs.Prune.{decides, critical, pruned, pruneVerdict}
+use Rattle.reduction.specs.Outcome.{everyPair}
+use Rattle.reduction.specs.Prune.{decides, critical, thinned, pruned, pruneVerdict}
 
 -- the arc u→v with the greatest walks before and after it
 abbrev pub throughArc : Graph → Graph → ℕ → ℕ → ℕ → ℕ → Delay
@@ -60,45 +60,64 @@ module _ {Counts : ℕ → ℕ → Type 0} {L g g′ : Graph} (s : Thinned Count
 
 -- ---- the step
 
-abbrev InputOutput : ℕ → ℕ → ℕ → ℕ → Type 0
-InputOutput m n i j = (i < m) × Output m n j
+abbrev Counted : (ℕ → ℕ → Bool) → ℕ → ℕ → ℕ → ℕ → Type 0
+Counted counts m n i j = (i < m) × Output m n j × T (counts i j)
 
 -- no walk, arc and walk are longer than the greatest delay
 pub through-⊑ : {L g : Graph} → Acyclic g → Longest g L → (u v i j : ℕ) → throughArc L g u v i j ⊑ L i j
 through-⊑ {L} {g} a l u v i j = rw (← (⊕-assoc (walk L i u) (g u v) (walk L v j))) (⊑-trans (⊕-right (walk L v j) (walk-arc a l i u v)) (path-walk a l i v j))
 
-pub critical-at : (m n N : ℕ) (g : Graph) (u v : ℕ) → T (critical m n N g u v) → (i : ℕ) × (j : ℕ) × (i < m) × Output m n j × T (decides (longest g N) g u v i j)
-unfolding critical
-critical-at m n N g u v t =
-    let a = some-at m (λ i. some n (λ j. decides (longest g N) g u v i (m + j))) t in
-    let b = some-at n (λ j. decides (longest g N) g u v (a .0) (m + j)) (a .2) in
-    (a .0, m + b .0, a .1, (omega arith, omega arith), b .2)
+module _ (counts : ℕ → ℕ → Bool) (m n N : ℕ) (g : Graph) (u v : ℕ) where
+  pub critical-at : T (critical counts m n N g u v) → (i : ℕ) × (j : ℕ) × Counted counts m n i j × T (decides (longest g N) g u v i j)
+  unfolding critical
+  critical-at t =
+      let a = some-at m (λ i. some n (λ j. counts i (m + j) && decides (longest g N) g u v i (m + j))) t in
+      let b = some-at n (λ j. counts (a .0) (m + j) && decides (longest g N) g u v (a .0) (m + j)) (a .2) in
+      let c = and-e (counts (a .0) (m + b .0)) (decides (longest g N) g u v (a .0) (m + b .0)) (b .2) in
+      (a .0, m + b .0, (a .1, (omega arith, omega arith), c .0), c .1)
 
-pub critical-of : (m n N : ℕ) (g : Graph) (u v i j : ℕ) → i < m → Output m n j → T (decides (longest g N) g u v i j) → T (critical m n N g u v)
-unfolding critical
-critical-of m n N g u v i j hi hj t =
-    some-of m (λ i. some n (λ j. decides (longest g N) g u v i (m + j))) i hi
-    (some-of n (λ j. decides (longest g N) g u v i (m + j)) (j - m) (omega arith) (subst (λ (x : ℕ). T (decides (longest g N) g u v i x)) e t))
-  where
-    e : j ≡ m + (j - m)
-    e = omega arith
+  pub critical-of : (i j : ℕ) → Counted counts m n i j → T (decides (longest g N) g u v i j) → T (critical counts m n N g u v)
+  unfolding critical
+  critical-of i j c t =
+      some-of m (λ i. some n (λ j. counts i (m + j) && decides (longest g N) g u v i (m + j))) i (c .0)
+      (some-of n (λ j. counts i (m + j) && decides (longest g N) g u v i (m + j)) (j - m) (omega arith)
+      (subst (λ (x : ℕ). T (counts i x && decides (longest g N) g u v i x)) e (and-i (counts i j) (decides (longest g N) g u v i j) (c .2) t)))
+    where
+      e : j ≡ m + (j - m)
+      e = omega arith
 
-module _ {m n N : ℕ} {g : Graph} (s : Sound m n N g) where
-  pruned-is : Thinned (InputOutput m n) (longest g N) g (pruned m n N g)
-  unfolding pruned
-  pruned-is = record {
-    less = λ u v. cond-elim (λ (d : Delay). d ⊑ g u v) (critical m n N g u v) (g u v) absent (λ _. ⊑-refl (g u v)) (λ _. absent-⊑ (g u v));
-    kept = λ u v i j c t h. cond-elim (λ (d : Delay). g u v ⊑ d) (critical m n N g u v) (g u v) absent (λ _. ⊑-refl (g u v))
-        (λ f. absurd (T-not (critical m n N g u v) f (critical-of m n N g u v i j (c .0) (c .1)
-        (and-i (present (longest g N i j)) (eqD (longest g N i j) (throughArc (longest g N) g u v i j)) t
-        (eq→eqD (longest g N i j) (throughArc (longest g N) g u v i j) (⊑-antisym h (through-⊑ (s .acyclic) (longest-of s) u v i j)))))));
+-- any arcs may go as long as those that decide stay
+module _ (counts : ℕ → ℕ → Bool) {m n N : ℕ} {g : Graph} (s : Sound m n N g) (stays : ℕ → ℕ → Bool) (deciding : (u v : ℕ) → T (critical counts m n N g u v) → T (stays u v)) where
+  thinned-is : Thinned (Counted counts m n) (longest g N) g (thinned stays g)
+  thinned-is = record {
+    less = λ u v. cond-elim (λ (d : Delay). d ⊑ g u v) (stays u v) (g u v) absent (λ _. ⊑-refl (g u v)) (λ _. absent-⊑ (g u v));
+    kept = λ u v i j c t h. cond-elim (λ (d : Delay). g u v ⊑ d) (stays u v) (g u v) absent (λ _. ⊑-refl (g u v))
+        (λ f. absurd (T-not (stays u v) f (deciding u v (critical-of counts m n N g u v i j c
+        (same-i (longest g N i j) (throughArc (longest g N) g u v i j) t (⊑-antisym h (through-⊑ (s .acyclic) (longest-of s) u v i j)))))));
   }
 
-  pub prune-better : (x : Unit {0}) → pruneVerdict m n N g ≡ accepted x → Better m n N g (pruned m n N g)
-  unfolding pruneVerdict pruned
-  prune-better x e =
-      better s legal (thinned-ranked pruned-is (rank-of s)) (λ l′ i j hi hj. thinned-same pruned-is (s .acyclic) (longest-of s) l′ i j (hi, hj))
-      (ltb→lt (arcs N (pruned m n N g)) (arcs N g) (require-accepted (ltb (arcs N (pruned m n N g)) (arcs N g)) NothingSaved _ x e .0))
+  pub thinned-keeps : Same counts m n N g (thinned stays g)
+  thinned-keeps = same s legal (thinned-ranked thinned-is (rank-of s)) (λ l′ i j hi hj c. thinned-same thinned-is (s .acyclic) (longest-of s) l′ i j (hi, hj, c))
     where
-      legal : (u v : ℕ) → T (present (pruned m n N g u v)) → LegalArc m N u v (pruned m n N g u v)
-      legal u v = cond-elim (λ (d : Delay). T (present d) → LegalArc m N u v d) (critical m n N g u v) (g u v) absent (λ _. s .legal u v) (λ _ k. absurd k)
+      legal : (u v : ℕ) → T (present (thinned stays g u v)) → LegalArc m N u v (thinned stays g u v)
+      legal u v = cond-elim (λ (d : Delay). T (present d) → LegalArc m N u v d) (stays u v) (g u v) absent (λ _. s .legal u v) (λ _ k. absurd k)
+
+pub prune-better : {m n N : ℕ} {g : Graph} → Sound m n N g → (x : Unit {0}) → pruneVerdict m n N g ≡ accepted x → Better everyPair m n N g (pruned m n N g)
+unfolding pruned
+prune-better {m} {n} {N} {g} s x e = record { same = thinned-keeps everyPair s (critical everyPair m n N g) (λ _ _ t. t); fewer = prune-accepted m n N g x e }
+
+-- an arc that leaves an inner vertex without arcs in never decides
+pub undriven-idle : (counts : ℕ → ℕ → Bool) {m n N : ℕ} {g : Graph} → Sound m n N g → (u v : ℕ) → m ≤ u → ((x : ℕ) → g x u ≡ absent) → T (critical counts m n N g u v) → ⊥
+undriven-idle counts {m} {n} {N} {g} s u v inner none t =
+    let c = critical-at counts m n N g u v t in
+    let i = c .0 in
+    let j = c .1 in
+    let d = same-e (longest g N i j) (throughArc (longest g N) g u v i j) (c .3) in
+    not-present (walk (longest g N) i u) (dark i (c .2 .0)) (present-l (walk (longest g N) i u) (g u v ⊕ walk (longest g N) v j) (subst (λ (x : Delay). T (present x)) (d .1) (d .0)))
+  where
+    reach : (i : ℕ) → (longest g N i u ⊑ g i u) ⊎ ((x : ℕ) × (longest g N i u ⊑ longest g N i x ⊕ g x u)) → longest g N i u ⊑ absent
+    reach i (inl h) = ⊑-trans h (⊑-eq (none i))
+    reach i (inr (x, h)) = ⊑-trans h (none-r (longest g N i x) (none x))
+
+    dark : (i : ℕ) → i < m → walk (longest g N) i u ≡ absent
+    dark i l = walk-other (longest g N) i u (λ e. omega arith) ∙ ⊑-absent (reach i (last-arc (longest-of s) i u))

@@ -2,13 +2,13 @@
 -- read backwards.
 use mathlib.Core.Path.{_≡_, sym, ap, _∙_, subst}
 use mathlib.Core.Logic.{_≢_, _⊎_, inl, inr}
-use mathlib.Core.Bool.{not, _&&_}
+use mathlib.Core.Bool.{Bool}
 use Prim.Native.Nat.{ℕ, suc, _+_, _-_, _≤_, _<_}
 use native.Mathlib.Decide.{ℕ-discrete}
 use native.Mathlib.Omega.{arith}
-use lib.Dec.{T, eqb, leb, ltb, leb→le, ltb→lt}
+use lib.Dec.{T, leb→le}
 use lib.IntN.{ℤ}
-use Rattle.laws.proofs.Booleans.{eqb-same, eqb-other, and-e, neqb→ne}
+use Rattle.laws.proofs.Booleans.{eqb-same, eqb-other}
 use Rattle.laws.proofs.Update.{update, update-same, update-other, update-elim}
 use Rattle.laws.proofs.Sums.{sum-le, sum-eq, sum-but-three, sum-single}
 use Rattle.graph.specs.Delay.{Delay, absent, at, present, immediate, _⋓_, _⊕_, _⊑_}
@@ -21,16 +21,14 @@ use Rattle.graph.proofs.Rank.{Ranked, ranked-acyclic}
 use Rattle.graph.proofs.Arrivals.{Arrivals, arrivals-longest, walk-arrivals}
 use Rattle.timing.specs.Limits.{delayLimit, fits}
 use Rattle.timing.specs.Refusal.{accepted}
-use Rattle.timing.specs.declared.Refusal.the-variants.{WrongVertex, NumberTaken, NothingSaved, DelayOutOfRange}
-use Rattle.timing.proofs.Verdict.{require-accepted, then-accepted, same-accepted}
-use Rattle.timing.proofs.Checks.{LegalArc, Sound, sound-within, sound-inputs}
-use Rattle.reduction.specs.Outcome.{isInput, isInner, unused}
-use Rattle.reduction.proofs.Better.{Output, Inner, Better, inner-of, unused-in, unused-out, rank-of, longest-of, input-output, input-inner, output-inner, better}
+use Rattle.timing.specs.Sound.{LegalArc, Sound}
+use Rattle.timing.proofs.Checks.{sound-within, sound-inputs}
+use Rattle.reduction.specs.Outcome.{everyPair, unused}
+use Rattle.reduction.proofs.Better.{Output, Inner, Same, Better, unused-in, unused-out, rank-of, longest-of, input-output, input-inner, output-inner, same}
 use Rattle.graph.proofs.Longest.{Within, longest-is}
 use Rattle.timing.specs.Delays.{matrix}
 use Rattle.reduction.specs.ShareInputs.{shareInputsVerdict, inputsShared}
-use Rattle.reduction.specs.Common.{commonDifference}
-use Rattle.reduction.proofs.Common.{common-difference}
+use Rattle.reduction.proofs.Accepted.{common-accepted, share-inputs-accepted}
 use Rattle.reduction.proofs.Shrink.{Shrunk}
 use Rattle.reduction.proofs.Unshrink.{unshrunk-ranked, unshrunk-same}
 
@@ -111,13 +109,13 @@ module _ (a b : ℕ) (e : ℤ) {g : Graph} (ab : a ≢ b) (nb : (u : ℕ) → g 
                 dead = rw p (⊑-absent (reach (last-arc l a b)))
             go (no m) = (x, rw (update-other B b immediate v n, update-other B b immediate x m, lean-other x v m, ⊕-assoc (at e) (L a x) (g x v)) (⊕-left (at e) h))
 
-    -- at each j at which b's delay is a's and e
-    pub lean-same : {L′ : Graph} → Longest (lean a b e g) L′ → (i j : ℕ) → j ≢ i → L b j ≡ at e ⊕ L a j → L′ i j ≡ L i j
+    -- from b, at each j at which b's delay is a's and e
+    pub lean-same : {L′ : Graph} → Longest (lean a b e g) L′ → (i j : ℕ) → j ≢ i → (i ≡ b → L b j ≡ at e ⊕ L a j) → L′ i j ≡ L i j
     unfolding B
     lean-same {L′} l′ i j ne eq = go (ℕ-discrete i b)
       where
         go : Dec (i ≡ b) → L′ i j ≡ L i j
-        go (yes p) = rw p (arrivals-longest lean-arrivals-b lean-ranked l′ j (λ x. ne (x ∙ sym p)) ∙ update-other B b immediate j (λ x. ne (x ∙ sym p)) ∙ sym eq)
+        go (yes p) = rw p (arrivals-longest lean-arrivals-b lean-ranked l′ j (λ x. ne (x ∙ sym p)) ∙ update-other B b immediate j (λ x. ne (x ∙ sym p)) ∙ sym (eq p))
         go (no n) = arrivals-longest (lean-arrivals (walk-arrivals (ranked-acyclic r) l i) (λ x. n (sym x))) lean-ranked l′ j ne ∙ walk-other L i j (λ e. ne (sym e))
 
 pub record Shared (a b k : ℕ) (e : ℤ) (g g′ : Graph) : Type 0 where
@@ -150,18 +148,18 @@ module _ {a b k : ℕ} {e : ℤ} {g g′ : Graph} (s : Shared a b k e g g′) (a
   pub shared-ranked : {N : ℕ} → Within N g′ → Ranked g′
   shared-ranked w = unshrunk-ranked shared-shrunk w (s .else-k k ka kb) (lean-ranked a b e ab nb r)
 
-  pub shared-same : {N : ℕ} {L L′ : Graph} → b < N → Within N g → Within N g′ → Longest g L → Longest g′ L′ → (i j : ℕ) → j ≢ i → i ≢ k → j ≢ k → L b j ≡ at e ⊕ L a j → L′ i j ≡ L i j
+  pub shared-same : {N : ℕ} {L L′ : Graph} → b < N → Within N g → Within N g′ → Longest g L → Longest g′ L′ → (i j : ℕ) → j ≢ i → i ≢ k → j ≢ k → (i ≡ b → L b j ≡ at e ⊕ L a j) → L′ i j ≡ L i j
   shared-same {N} bN w w′ l l′ i j ne ni nj eq =
       unshrunk-same shared-shrunk w′ (s .else-k k ka kb) (lean-ranked a b e ab nb r) mid l′ i j ne ni nj ∙ lean-same a b e ab nb r l mid i j ne eq
     where
       mid : Longest (lean a b e g) (longest (lean a b e g) N)
       mid = longest-is N (lean a b e g) (lean-within a b e ab nb r bN w) (ranked-acyclic (lean-ranked a b e ab nb r))
 
-pub shared-fewer : {N a b k : ℕ} {e : ℤ} {g g′ : Graph} → Shared a b k e g g′ → a ≢ b → k ≢ a → k ≢ b → ((v : ℕ) → g k v ≡ absent) → ((u : ℕ) → g u k ≡ absent)
-    → a < N → b < N → k < N → 3 ≤ fanOut N g b → arcs N g′ < arcs N g
+pub shared-count : {N a b k : ℕ} {e : ℤ} {g g′ : Graph} → Shared a b k e g g′ → a ≢ b → k ≢ a → k ≢ b → ((v : ℕ) → g k v ≡ absent) → ((u : ℕ) → g u k ≡ absent)
+    → a < N → b < N → k < N → arcs N g′ + fanOut N g b ≤ arcs N g + 2
 unfolding arcs fanOut
-shared-fewer {N} {a} {b} {k} {e} {g} {g′} s ab ka kb out in′ aN bN kN three =
-    omega (arith, sum-but-three N (fanOut N g′) (fanOut N g) a b k 1 0 aN bN kN ab (λ x. ka (sym x)) (λ x. kb (sym x)) (λ u _ p q m. other u p q m) all)
+shared-count {N} {a} {b} {k} {e} {g} {g′} s ab ka kb out in′ aN bN kN =
+    omega (arith, sum-but-three N (fanOut N g′) (fanOut N g) a b k (fanOut N g b) 2 aN bN kN ab (λ x. ka (sym x)) (λ x. kb (sym x)) (λ u _ p q m. other u p q m) all)
   where
     other : (u : ℕ) → u ≢ a → u ≢ b → u ≢ k → fanOut N g′ u ≤ fanOut N g u
     other u p q m = sum-le N (λ t. bit (g′ u t)) (λ t. bit (g u t)) (λ t _. go t (ℕ-discrete t k))
@@ -170,7 +168,7 @@ shared-fewer {N} {a} {b} {k} {e} {g} {g′} s ab ka kb out in′ aN bN kN three 
         go t (yes x) = omega (arith, bit-absent {x = g′ u t} (rw x (s .else-k u p q)))
         go t (no n) = bit-same (s .rest u t p q m n)
 
-    all : fanOut N g′ a + (fanOut N g′ b + fanOut N g′ k) + 1 ≤ fanOut N g a + (fanOut N g b + fanOut N g k) + 0
+    all : fanOut N g′ a + (fanOut N g′ b + fanOut N g′ k) + fanOut N g b ≤ fanOut N g a + (fanOut N g b + fanOut N g k) + 2
     all = omega (
       arith,
       sum-single N (λ t. bit (g′ a t)) k kN (λ t n. bit-absent (s .a-out t n)),
@@ -198,78 +196,82 @@ inputsShared-is a b k e g ak bk ka kb ba fresh = record {
     other u p q (yes x) = rw (x, eqb-other k a ka, eqb-other k b kb, eqb-same k) (fresh a)
     other u p q (no n) = rw (eqb-other u a p, eqb-other u b q, eqb-other u k n) (fresh u)
 
-pub share-inputs-better : {m n N : ℕ} (a b k : ℕ) {g : Graph} (e : ℤ) → Sound m n N g → shareInputsVerdict m n N a b k g ≡ accepted e → Better m n N g (inputsShared a b k e g)
-unfolding shareInputsVerdict matrix
+-- From the facts that the verdict gives, where b's delays that count are a's and e.
+module _ (counts : ℕ → ℕ → Bool) {m n N : ℕ} (a b k : ℕ) {g : Graph} (e : ℤ) (s : Sound m n N g) (ha : a < m) (hb : b < m) (ab : a ≢ b) (hk : Inner m n N k) (free : T (unused N g k))
+    (dif : (j : ℕ) → j < n → T (counts b (m + j)) → longest g N b (m + j) ≡ longest g N a (m + j) ⊕ at e) (low : T (fits delayLimit (at e))) where
+  out : (v : ℕ) → g k v ≡ absent
+  out = unused-out (sound-within s) k free
+
+  in′ : (u : ℕ) → g u k ≡ absent
+  in′ = unused-in (sound-within s) k free
+
+  ak : a ≢ k
+  ak = input-inner s a k ha hk
+
+  bk : b ≢ k
+  bk = input-inner s b k hb hk
+
+  ka : k ≢ a
+  ka z = ak (sym z)
+
+  kb : k ≢ b
+  kb z = bk (sym z)
+
+  a<N : a < N
+  a<N = omega (arith, s .room)
+
+  b<N : b < N
+  b<N = omega (arith, s .room)
+
+  c : Shared a b k e g (inputsShared a b k e g)
+  c = inputsShared-is a b k e g ak bk ka kb (λ z. ab (sym z)) in′
+
+  none : (u : ℕ) → g u b ≡ absent
+  none u = sound-inputs s u b hb
+
+  at-output : (j : ℕ) → Output m n j → T (counts b j) → longest g N b j ≡ longest g N a j ⊕ at e
+  at-output j hj =
+      let z : m + (j - m) ≡ j = omega arith in
+      subst (λ (x : ℕ). T (counts b x) → longest g N b x ≡ longest g N a x ⊕ at e) z (dif (j - m) (omega arith))
+
+  legal : (u t : ℕ) → T (present (inputsShared a b k e g u t)) → LegalArc m N u t (inputsShared a b k e g u t)
+  legal u t = go (ℕ-discrete u k) (ℕ-discrete t k) (ℕ-discrete u a) (ℕ-discrete u b)
+    where
+      m≤k : m ≤ k
+      m≤k = omega arith
+
+      go : Dec (u ≡ k) → Dec (t ≡ k) → Dec (u ≡ a) → Dec (u ≡ b) → T (present (inputsShared a b k e g u t)) → LegalArc m N u t (inputsShared a b k e g u t)
+      go (yes z) _ _ _ h =
+          let x = s .legal a t (rw (z, c .hub t) at h) in
+          rw (z, c .hub t) (record { from-below = hk .1; to-below = x .to-below; not-input = x .not-input; in-range = x .in-range })
+      go (no p) (yes z) (yes q) _ h = rw (z, q, c .a-k) (record { from-below = a<N; to-below = hk .1; not-input = m≤k; in-range = tt })
+      go (no p) (yes z) (no q) (yes f) h = rw (z, f, c .b-k) (record { from-below = b<N; to-below = hk .1; not-input = m≤k; in-range = low })
+      go (no p) (yes z) (no q) (no f) h = absurd (not-present (inputsShared a b k e g u t) (rw z (c .else-k u q f)) h)
+      go (no p) (no z) (yes q) _ h = absurd (not-present (inputsShared a b k e g u t) (rw q (c .a-out t z)) h)
+      go (no p) (no z) (no q) (yes f) h = absurd (not-present (inputsShared a b k e g u t) (rw f (c .b-out t z)) h)
+      go (no p) (no z) (no q) (no f) h = rw (c .rest u t q f p z) (s .legal u t (rw (c .rest u t q f p z) at h))
+
+  w′ : Within N (inputsShared a b k e g)
+  w′ = record { in-range = λ u t h. (legal u t h .from-below, legal u t h .to-below) }
+
+  ranked : Ranked (inputsShared a b k e g)
+  ranked = shared-ranked c ab ka kb out in′ none (rank-of s) w′
+
+  pub inputs-shared-keeps : Same counts m n N g (inputsShared a b k e g)
+  inputs-shared-keeps = same s legal ranked (λ l′ i j hi hj t.
+      shared-same c ab ka kb out in′ none (rank-of s) b<N (sound-within s) w′ (longest-of s) l′ i j (input-output s i j hi hj) (input-inner s i k hi hk) (output-inner s j k hj hk)
+      (λ z. at-output j hj (subst (λ (x : ℕ). T (counts x j)) z t) ∙ ⊕-comm (longest g N a j) (at e)))
+
+  -- b's arcs go for two
+  pub inputs-shared-count : arcs N (inputsShared a b k e g) + fanOut N g b ≤ arcs N g + 2
+  inputs-shared-count = shared-count c ab ka kb out in′ a<N b<N (hk .1)
+
+  pub inputs-shared-better : 3 ≤ fanOut N g b → Better counts m n N g (inputsShared a b k e g)
+  inputs-shared-better three = record { same = inputs-shared-keeps; fewer = omega (arith, inputs-shared-count) }
+
+pub share-inputs-better : {m n N : ℕ} (a b k : ℕ) {g : Graph} (e : ℤ) → Sound m n N g → shareInputsVerdict m n N a b k g ≡ accepted e → Better everyPair m n N g (inputsShared a b k e g)
+unfolding matrix
 share-inputs-better {m} {n} {N} a b k {g} e s q =
-    let p7 = require-accepted (isInput m a && isInput m b && not (eqb a b) && ltb k N) WrongVertex _ e q in
-    let p8 = require-accepted (isInner m n N k && unused N g k) NumberTaken _ e (p7 .1) in
-    let p11 = then-accepted (commonDifference n (matrix m N g a) (matrix m N g b)) _ e (p8 .1) in
-    let p13 = require-accepted (leb 3 (fanOut N g b)) NothingSaved _ e (p11 .2) in
-    let p14 = require-accepted (fits delayLimit (at (p11 .0))) DelayOutOfRange _ e (p13 .1) in
-    let h = and-e (isInput m a && isInput m b && not (eqb a b)) (ltb k N) (p7 .0) in
-    let h′ = and-e (isInput m a && isInput m b) (not (eqb a b)) (h .0) in
-    let h″ = and-e (isInput m a) (isInput m b) (h′ .0) in
-    let f = and-e (isInner m n N k) (unused N g k) (p8 .0) in
-    step (ltb→lt a m (h″ .0)) (ltb→lt b m (h″ .1)) (neqb→ne a b (h′ .1)) (inner-of m n N k (f .0)) (unused-out (sound-within s) k (f .1)) (unused-in (sound-within s) k (f .1))
-    (common-difference n (matrix m N g a) (matrix m N g b) e (p11 .1 ∙ p14 .1)) (leb→le 3 (fanOut N g b) (p13 .0))
-    (subst (λ (z : ℤ). T (fits delayLimit (at z))) (same-accepted (p14 .1)) (p14 .0))
-  where
-    step : a < m → b < m → a ≢ b → Inner m n N k → ((v : ℕ) → g k v ≡ absent) → ((u : ℕ) → g u k ≡ absent) → ((j : ℕ) → j < n → longest g N b (m + j) ≡ longest g N a (m + j) ⊕ at e)
-        → 3 ≤ fanOut N g b → T (fits delayLimit (at e)) → Better m n N g (inputsShared a b k e g)
-    step ha hb ab hk out in′ dif three low =
-        better s legal ranked
-        (λ l′ i j hi hj. shared-same c ab ka kb out in′ none (rank-of s) b<N (sound-within s) w′ (longest-of s) l′ i j (input-output s i j hi hj) (input-inner s i k hi hk) (output-inner s j k hj hk)
-        (at-output j hj ∙ ⊕-comm (longest g N a j) (at e)))
-        (shared-fewer c ab ka kb out in′ a<N b<N (hk .1) three)
-      where
-        ak : a ≢ k
-        ak = input-inner s a k ha hk
-
-        bk : b ≢ k
-        bk = input-inner s b k hb hk
-
-        ka : k ≢ a
-        ka z = ak (sym z)
-
-        kb : k ≢ b
-        kb z = bk (sym z)
-
-        a<N : a < N
-        a<N = omega (arith, s .room)
-
-        b<N : b < N
-        b<N = omega (arith, s .room)
-
-        c : Shared a b k e g (inputsShared a b k e g)
-        c = inputsShared-is a b k e g ak bk ka kb (λ z. ab (sym z)) in′
-
-        none : (u : ℕ) → g u b ≡ absent
-        none u = sound-inputs s u b hb
-
-        at-output : (j : ℕ) → Output m n j → longest g N b j ≡ longest g N a j ⊕ at e
-        at-output j hj =
-            let z : m + (j - m) ≡ j = omega arith in
-            subst (λ (x : ℕ). longest g N b x ≡ longest g N a x ⊕ at e) z (dif (j - m) (omega arith))
-
-        legal : (u t : ℕ) → T (present (inputsShared a b k e g u t)) → LegalArc m N u t (inputsShared a b k e g u t)
-        legal u t = go (ℕ-discrete u k) (ℕ-discrete t k) (ℕ-discrete u a) (ℕ-discrete u b)
-          where
-            m≤k : m ≤ k
-            m≤k = omega arith
-
-            go : Dec (u ≡ k) → Dec (t ≡ k) → Dec (u ≡ a) → Dec (u ≡ b) → T (present (inputsShared a b k e g u t)) → LegalArc m N u t (inputsShared a b k e g u t)
-            go (yes z) _ _ _ h =
-                let x = s .legal a t (rw (z, c .hub t) at h) in
-                rw (z, c .hub t) (record { from-below = hk .1; to-below = x .to-below; not-input = x .not-input; in-range = x .in-range })
-            go (no p) (yes z) (yes q) _ h = rw (z, q, c .a-k) (record { from-below = a<N; to-below = hk .1; not-input = m≤k; in-range = tt })
-            go (no p) (yes z) (no q) (yes f) h = rw (z, f, c .b-k) (record { from-below = b<N; to-below = hk .1; not-input = m≤k; in-range = low })
-            go (no p) (yes z) (no q) (no f) h = absurd (not-present (inputsShared a b k e g u t) (rw z (c .else-k u q f)) h)
-            go (no p) (no z) (yes q) _ h = absurd (not-present (inputsShared a b k e g u t) (rw q (c .a-out t z)) h)
-            go (no p) (no z) (no q) (yes f) h = absurd (not-present (inputsShared a b k e g u t) (rw f (c .b-out t z)) h)
-            go (no p) (no z) (no q) (no f) h = rw (c .rest u t q f p z) (s .legal u t (rw (c .rest u t q f p z) at h))
-
-        w′ : Within N (inputsShared a b k e g)
-        w′ = record { in-range = λ u t h. (legal u t h .from-below, legal u t h .to-below) }
-
-        ranked : Ranked (inputsShared a b k e g)
-        ranked = shared-ranked c ab ka kb out in′ none (rank-of s) w′
+    let h = share-inputs-accepted m n N a b k g e q in
+    inputs-shared-better everyPair a b k e s (h .input-a) (h .input-b) (h .two) (h .inner) (h .free)
+    (λ j l _. common-accepted n (matrix m N g a) (matrix m N g b) e (h .difference) j l) (h .in-range) (leb→le 3 (fanOut N g b) (h .enough))

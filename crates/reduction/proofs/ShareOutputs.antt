@@ -1,34 +1,30 @@
 -- Sharing outputs: the arrivals stay as they are, b's coming from a.
-use mathlib.Core.Path.{_≡_, sym, ap, _∙_, subst}
+use mathlib.Core.Path.{_≡_, sym, ap, _∙_}
 use mathlib.Core.Logic.{_≢_}
-use mathlib.Core.Bool.{not, _&&_}
 use Prim.Native.Nat.{ℕ, suc, _+_, _≤_, _<_}
 use native.Mathlib.Decide.{ℕ-discrete}
 use native.Mathlib.Omega.{arith}
-use lib.Dec.{T, eqb, leb, leb→le}
+use lib.Dec.{T, leb→le}
 use lib.IntN.{ℤ}
-use Rattle.laws.proofs.Booleans.{eqb-same, eqb-other, and-e, neqb→ne}
+use Rattle.laws.proofs.Booleans.{eqb-same, eqb-other}
 use Rattle.laws.proofs.Sums.{sum-le, sum-but-one, sum-single}
 use Rattle.graph.specs.Delay.{Delay, absent, at, present, _⊕_, _⊑_}
 use Rattle.graph.specs.Graph.{Graph, Longest, longest, walk}
 use Rattle.graph.specs.Count.{bit, fanIn, arcs}
 use Rattle.graph.proofs.Delay.{⊑-refl, none-r}
-use Rattle.graph.proofs.Presence.{present-⊕, present-⊑, not-present, bit-le, bit-absent, bit-same, absent-unless}
+use Rattle.graph.proofs.Presence.{present-⊕, present-⊑, not-present, bit-le, bit-absent, bit-same}
 use Rattle.graph.proofs.Closure.{walk-same, walk-other}
 use Rattle.graph.proofs.Rank.{Ranked, ranked-acyclic}
 use Rattle.graph.proofs.Arrivals.{Arrivals, arrivals-longest, walk-arrivals}
 use Rattle.graph.proofs.Count.{arcs-fanIn}
 use Rattle.timing.specs.Limits.{delayLimit, fits}
 use Rattle.timing.specs.Refusal.{accepted}
-use Rattle.timing.specs.declared.Refusal.the-variants.{WrongVertex, PathBack, NothingSaved, DelayOutOfRange}
-use Rattle.timing.proofs.Verdict.{require-accepted, then-accepted, same-accepted}
-use Rattle.timing.proofs.Checks.{LegalArc, Sound}
-use Rattle.reduction.specs.Outcome.{isOutput}
-use Rattle.reduction.proofs.Better.{Output, Better, output-of, rank-of, longest-of, input-output, better}
+use Rattle.timing.specs.Sound.{LegalArc, Sound}
+use Rattle.reduction.specs.Outcome.{everyPair}
+use Rattle.reduction.proofs.Better.{Output, Better, rank-of, longest-of, input-output, better}
 use Rattle.reduction.proofs.Lift.{lift, lift-mono}
 use Rattle.reduction.specs.ShareOutputs.{shareOutputsVerdict, outputsShared}
-use Rattle.reduction.specs.Common.{commonDifference}
-use Rattle.reduction.proofs.Common.{common-difference}
+use Rattle.reduction.proofs.Accepted.{common-accepted, share-outputs-accepted}
 use Rattle.timing.specs.Delays.{column}
 
 pub record Tied (a b : ℕ) (e : ℤ) (g g′ : Graph) : Type 0 where
@@ -98,41 +94,32 @@ outputsShared-is : (a b : ℕ) (e : ℤ) (g : Graph) → Tied a b e g (outputsSh
 unfolding outputsShared
 outputsShared-is a b e g = record { new = simp eqb-same; gone = λ u n. simp (eqb-same, eqb-other); rest = λ u v n. simp eqb-other }
 
-pub share-outputs-better : {m n N : ℕ} (a b : ℕ) {g : Graph} (e : ℤ) → Sound m n N g → shareOutputsVerdict m n N a b g ≡ accepted e → Better m n N g (outputsShared a b e g)
-unfolding shareOutputsVerdict
-share-outputs-better {m} {n} {N} a b {g} e s q =
-    let p7 = require-accepted (isOutput m n a && isOutput m n b && not (eqb a b)) WrongVertex _ e q in
-    let p11 = then-accepted (commonDifference m (column N g a) (column N g b)) _ e (p7 .1) in
-    let p12 = require-accepted (not (present (longest g N b a))) PathBack _ e (p11 .2) in
-    let p13 = require-accepted (leb 2 (fanIn N g b)) NothingSaved _ e (p12 .1) in
-    let p14 = require-accepted (fits delayLimit (at (p11 .0))) DelayOutOfRange _ e (p13 .1) in
-    let h = and-e (isOutput m n a && isOutput m n b) (not (eqb a b)) (p7 .0) in
-    let h′ = and-e (isOutput m n a) (isOutput m n b) (h .0) in
-    step (output-of m n a (h′ .0)) (output-of m n b (h′ .1)) (neqb→ne a b (h .1))
-    (common-difference m (column N g a) (column N g b) e (p11 .1 ∙ p14 .1))
-    (absent-unless (longest g N b a) (p12 .0)) (leb→le 2 (fanIn N g b) (p13 .0))
-    (subst (λ (z : ℤ). T (fits delayLimit (at z))) (same-accepted (p14 .1)) (p14 .0))
+-- from the facts that the verdict gives
+pub outputs-shared-better : {m n N : ℕ} (a b : ℕ) {g : Graph} (e : ℤ) → Sound m n N g → Output m n a → Output m n b → a ≢ b → ((i : ℕ) → i < m → longest g N i b ≡ longest g N i a ⊕ at e)
+    → longest g N b a ≡ absent → 2 ≤ fanIn N g b → T (fits delayLimit (at e)) → Better everyPair m n N g (outputsShared a b e g)
+outputs-shared-better {m} {n} {N} a b {g} e s ha hb ab dif way two low =
+    better s legal (tied-ranked c ab (rank-of s) (longest-of s) way)
+    (λ l′ i j hi hj. tied-same c ab (rank-of s) (longest-of s) l′ way i j (input-output s i j hi hj) (input-output s i a hi ha) (input-output s i b hi hb) (dif i hi))
+    (tied-fewer c a<N b<N two)
   where
-    step : Output m n a → Output m n b → a ≢ b → ((i : ℕ) → i < m → longest g N i b ≡ longest g N i a ⊕ at e) → longest g N b a ≡ absent → 2 ≤ fanIn N g b → T (fits delayLimit (at e))
-        → Better m n N g (outputsShared a b e g)
-    step ha hb ab dif way two low =
-        better s legal (tied-ranked c ab (rank-of s) (longest-of s) way)
-        (λ l′ i j hi hj. tied-same c ab (rank-of s) (longest-of s) l′ way i j (input-output s i j hi hj) (input-output s i a hi ha) (input-output s i b hi hb) (dif i hi))
-        (tied-fewer c a<N b<N two)
+    c : Tied a b e g (outputsShared a b e g)
+    c = outputsShared-is a b e g
+
+    a<N : a < N
+    a<N = omega (arith, s .room)
+
+    b<N : b < N
+    b<N = omega (arith, s .room)
+
+    legal : (u v : ℕ) → T (present (outputsShared a b e g u v)) → LegalArc m N u v (outputsShared a b e g u v)
+    legal u v = go (ℕ-discrete v b) (ℕ-discrete u a)
       where
-        c : Tied a b e g (outputsShared a b e g)
-        c = outputsShared-is a b e g
+        go : Dec (v ≡ b) → Dec (u ≡ a) → T (present (outputsShared a b e g u v)) → LegalArc m N u v (outputsShared a b e g u v)
+        go (yes p) (yes q) t = rw (p, q, c .new) (record { from-below = a<N; to-below = b<N; not-input = hb .0; in-range = low })
+        go (yes p) (no q) t = absurd (not-present (outputsShared a b e g u v) (rw p (c .gone u q)) t)
+        go (no p) _ t = rw (c .rest u v p) (s .legal u v (rw (c .rest u v p) at t))
 
-        a<N : a < N
-        a<N = omega (arith, s .room)
-
-        b<N : b < N
-        b<N = omega (arith, s .room)
-
-        legal : (u v : ℕ) → T (present (outputsShared a b e g u v)) → LegalArc m N u v (outputsShared a b e g u v)
-        legal u v = go (ℕ-discrete v b) (ℕ-discrete u a)
-          where
-            go : Dec (v ≡ b) → Dec (u ≡ a) → T (present (outputsShared a b e g u v)) → LegalArc m N u v (outputsShared a b e g u v)
-            go (yes p) (yes q) t = rw (p, q, c .new) (record { from-below = a<N; to-below = b<N; not-input = hb .0; in-range = low })
-            go (yes p) (no q) t = absurd (not-present (outputsShared a b e g u v) (rw p (c .gone u q)) t)
-            go (no p) _ t = rw (c .rest u v p) (s .legal u v (rw (c .rest u v p) at t))
+pub share-outputs-better : {m n N : ℕ} (a b : ℕ) {g : Graph} (e : ℤ) → Sound m n N g → shareOutputsVerdict m n N a b g ≡ accepted e → Better everyPair m n N g (outputsShared a b e g)
+share-outputs-better {m} {n} {N} a b {g} e s q =
+    let h = share-outputs-accepted m n N a b g e q in
+    outputs-shared-better a b e s (h .output-a) (h .output-b) (h .two) (common-accepted m (column N g a) (column N g b) e (h .difference)) (h .no-way) (leb→le 2 (fanIn N g b) (h .enough)) (h .in-range)

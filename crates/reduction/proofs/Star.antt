@@ -1,31 +1,31 @@
 -- A star: no sum through the centre is above the arc it stands for, so shrinking the centre gives the old graph back.
 use mathlib.Core.Path.{_≡_, refl, ap, _∙_}
 use mathlib.Core.Logic.{_≢_, _⊎_, inl, inr}
-use mathlib.Core.Bool.{Bool, true, false, cond, _&&_, _||_}
+use mathlib.Core.Bool.{Bool, true, false, cond, _||_}
 use mathlib.Core.List.{List, [], _∷_}
 use Prim.Native.Nat.{ℕ, _+_, _≤_, _<_}
 use native.Mathlib.Decide.{ℕ-discrete, decLt}
 use native.Mathlib.Omega.{arith}
 use lib.Dec.{T, eqb, ltb, ltb→lt}
 use Rattle.laws.specs.Bounded.{sum, member, each}
-use Rattle.laws.proofs.Booleans.{eqb-same, eqb-other, and-e, cond-elim}
+use Rattle.laws.proofs.Booleans.{eqb-same, eqb-other, cond-elim}
 use Rattle.laws.proofs.Sums.{sum-le, sum-add, sum-zero, sum-but-one, sum-single}
-use Rattle.graph.specs.Delay.{Delay, absent, at, present, _⋓_, _⊕_, _⊑_, _⊖_, eqD, least}
+use Rattle.graph.specs.Delay.{Delay, absent, at, present, _⋓_, _⊕_, _⊑_, _⊖_, least}
 use Rattle.graph.specs.Graph.{Graph}
 use Rattle.graph.specs.Count.{bit, fanIn, fanOut, arcs}
-use Rattle.graph.proofs.Delay.{absent-⊑, ⊑-refl, ⊑-trans, ⊑-antisym, ⊕-absent, ⊕-right, ⋓-l, ⋓-lub, ⊖-⊕, least-⊑, eqD→eq}
-use Rattle.graph.proofs.Presence.{bit-le, bit-present, bit-absent}
+use Rattle.graph.proofs.Delay.{absent-⊑, ⊑-refl, ⊑-trans, ⊑-antisym, ⊕-absent, ⊕-right, ⋓-l, ⋓-lub, ⊖-⊕, least-⊑}
+use Rattle.graph.proofs.Presence.{not-present, same-e, bit-le, bit-present, bit-absent}
 use Rattle.timing.specs.Limits.{delayLimit, fits}
 use Rattle.timing.specs.Refusal.{accepted}
-use Rattle.timing.specs.declared.Refusal.the-variants.{WrongVertex, NumberTaken, WrongArcs, NothingSaved, DelayOutOfRange, WrongSet}
-use Rattle.timing.proofs.Verdict.{require-accepted}
-use Rattle.timing.proofs.Checks.{LegalArc, Sound, sound-within}
-use Rattle.reduction.specs.Outcome.{isInner, unused}
+use Rattle.timing.specs.Sound.{LegalArc, Sound}
+use Rattle.timing.proofs.Checks.{sound-within}
+use Rattle.reduction.specs.Outcome.{everyPair}
+use Rattle.reduction.proofs.Accepted.{star-accepted}
 use Rattle.reduction.proofs.Better.{Inner, Better, inner-of, unused-in, unused-out, rank-of, longest-of, input-output, input-inner, output-inner, better}
 use lib.ListN.{length}
 use Rattle.laws.proofs.Bounded.{each-at}
 use Rattle.graph.proofs.Longest.{Within}
-use Rattle.reduction.specs.Star.{nonEmpty, distinct, firstOf, toCentre, fromCentre, covered, coveredArcs, starVerdict, starred}
+use Rattle.reduction.specs.Star.{firstOf, toCentre, fromCentre, covered, holding, coveredArcs, starVerdict, centred, starred}
 use Rattle.reduction.proofs.Shrink.{Shrunk}
 use Rattle.reduction.proofs.Unshrink.{unshrunk-ranked, unshrunk-same}
 
@@ -92,9 +92,10 @@ bit-cond : (b : Bool) (d : Delay) → bit (cond b d absent) ≤ cond b 1 0
 bit-cond true d = bit-le d
 bit-cond false d = omega (arith, bit-absent {x = absent} refl)
 
--- ---- the step
+-- ---- the step: any part of the covered arcs may go
 
-module _ (S Ts : List ℕ) (k : ℕ) (g : Graph) (out : (v : ℕ) → g k v ≡ absent) (in′ : (u : ℕ) → g u k ≡ absent) where
+module _ (S Ts : List ℕ) (k : ℕ) (g : Graph) (out : (v : ℕ) → g k v ≡ absent) (in′ : (u : ℕ) → g u k ≡ absent)
+    (gone : ℕ → ℕ → Bool) (part : (u v : ℕ) → T (gone u v) → T (covered S Ts g u v)) where
   -- a sum through the centre is never above the arc
   centre-⊑ : (u v : ℕ) → toCentre S Ts g u ⊕ fromCentre S Ts g v ⊑ g u v
   unfolding toCentre fromCentre
@@ -104,24 +105,24 @@ module _ (S Ts : List ℕ) (k : ℕ) (g : Graph) (out : (v : ℕ) → g k v ≡ 
       (λ _. rw ⊕-absent (absent-⊑ (g u v))))
       (λ _. absent-⊑ (g u v))
 
-  star-in : (u : ℕ) → u ≢ k → starred S Ts k g u k ≡ toCentre S Ts g u
-  unfolding starred
+  star-in : (u : ℕ) → u ≢ k → centred gone S Ts k g u k ≡ toCentre S Ts g u
   star-in u n = simp (eqb-same, eqb-other)
 
-  star-out : (v : ℕ) → starred S Ts k g k v ≡ fromCentre S Ts g v
-  unfolding starred
+  star-out : (v : ℕ) → centred gone S Ts k g k v ≡ fromCentre S Ts g v
   star-out v = simp eqb-same
 
-  star-loop : starred S Ts k g k k ≡ absent
+  star-loop : centred gone S Ts k g k k ≡ absent
   unfolding fromCentre
   star-loop = star-out k ∙ cond-elim (λ (d : Delay). d ≡ absent) (member k Ts) (g (firstOf S) k) absent (λ _. in′ (firstOf S)) (λ _. refl)
 
-  star-cell : (u v : ℕ) → u ≢ k → v ≢ k → starred S Ts k g u v ≡ cond (covered S Ts g u v) absent (g u v)
-  unfolding starred
+  star-cell : (u v : ℕ) → u ≢ k → v ≢ k → centred gone S Ts k g u v ≡ cond (gone u v) absent (g u v)
   star-cell u v a b = simp eqb-other
 
-  starred-is : Starred k g (starred S Ts k g)
+  covers : (u v : ℕ) → T (gone u v) → T (present (g u v)) × (g u v ≡ toCentre S Ts g u ⊕ fromCentre S Ts g v)
   unfolding covered
+  covers u v t = same-e (g u v) (toCentre S Ts g u ⊕ fromCentre S Ts g v) (part u v t)
+
+  starred-is : Starred k g (centred gone S Ts k g)
   starred-is = record {
     fresh-out = out;
     fresh-in = in′;
@@ -129,88 +130,75 @@ module _ (S Ts : List ℕ) (k : ℕ) (g : Graph) (out : (v : ℕ) → g k v ≡ 
     cell = λ u v a b. rw (star-in u a, star-out v, star-cell u v a b) (cell u v);
   }
     where
-      cell : (u v : ℕ) → (cond (covered S Ts g u v) absent (g u v) ≡ g u v) ⊎ ((cond (covered S Ts g u v) absent (g u v) ≡ absent) × (g u v ≡ toCentre S Ts g u ⊕ fromCentre S Ts g v))
-      cell u v = cond-elim (λ (d : Delay). (d ≡ g u v) ⊎ ((d ≡ absent) × (g u v ≡ toCentre S Ts g u ⊕ fromCentre S Ts g v))) (covered S Ts g u v) absent (g u v)
-          (λ t. inr (refl, eqD→eq (g u v) (toCentre S Ts g u ⊕ fromCentre S Ts g v) (and-e (present (g u v)) (eqD (g u v) (toCentre S Ts g u ⊕ fromCentre S Ts g v)) t .1))) (λ _. inl refl)
+      cell : (u v : ℕ) → (cond (gone u v) absent (g u v) ≡ g u v) ⊎ ((cond (gone u v) absent (g u v) ≡ absent) × (g u v ≡ toCentre S Ts g u ⊕ fromCentre S Ts g v))
+      cell u v = cond-elim (λ (d : Delay). (d ≡ g u v) ⊎ ((d ≡ absent) × (g u v ≡ toCentre S Ts g u ⊕ fromCentre S Ts g v))) (gone u v) absent (g u v)
+          (λ t. inr (refl, covers u v t .1)) (λ _. inl refl)
 
   cov : ℕ → ℕ → ℕ
-  cov u v = cond (covered S Ts g u v) 1 0
+  cov u v = cond (gone u v) 1 0
 
   cov-absent : (u v : ℕ) → g u v ≡ absent → cov u v ≡ 0
-  unfolding cov covered
-  cov-absent u v e = rw e
+  unfolding cov
+  cov-absent u v e = cond-elim (λ (x : ℕ). x ≡ 0) (gone u v) 1 0 (λ t. absurd (not-present (g u v) e (covers u v t .0))) (λ _. refl)
 
-  cov-cell : (u v : ℕ) → u ≢ k → v ≢ k → bit (starred S Ts k g u v) + cov u v ≤ bit (g u v)
-  unfolding cov covered
-  cov-cell u v a b = rw (star-cell u v a b) (go (covered S Ts g u v) (λ t. and-e (present (g u v)) (eqD (g u v) (toCentre S Ts g u ⊕ fromCentre S Ts g v)) t .0))
+  cov-cell : (u v : ℕ) → u ≢ k → v ≢ k → bit (centred gone S Ts k g u v) + cov u v ≤ bit (g u v)
+  unfolding cov
+  cov-cell u v a b = rw (star-cell u v a b) (go (gone u v) (λ t. covers u v t .0))
     where
       go : (c : Bool) → (T c → T (present (g u v))) → bit (cond c absent (g u v)) + cond c 1 0 ≤ bit (g u v)
       go true h = omega (arith, bit-absent {x = absent} refl, bit-present (g u v) (h tt))
       go false h = omega arith
 
-  star-fewer : (N : ℕ) → k < N → length S + length Ts < coveredArcs N S Ts g → arcs N (starred S Ts k g) < arcs N g
-  unfolding coveredArcs fanIn fanOut cov toCentre fromCentre
+  star-fewer : (N : ℕ) → k < N → length S + length Ts < holding N gone → arcs N (centred gone S Ts k g) < arcs N g
+  unfolding fanIn fanOut cov toCentre fromCentre
   star-fewer N kN more =
-      starred-fewer g (starred S Ts k g) cov kN (λ v. cov-absent k v (out v)) (λ u. cov-absent u k (in′ u)) cov-cell
+      starred-fewer g (centred gone S Ts k g) cov kN (λ v. cov-absent k v (out v)) (λ u. cov-absent u k (in′ u)) cov-cell
       (omega (
         arith,
         members N S,
         members N Ts,
-        sum-le N (λ u. bit (starred S Ts k g u k)) (λ u. cond (member u S) 1 0) (λ u _. to u (ℕ-discrete u k)),
-        sum-le N (λ v. bit (starred S Ts k g k v)) (λ v. cond (member v Ts) 1 0) (λ v _. rw (star-out v) (bit-cond (member v Ts) (g (firstOf S) v))),
+        sum-le N (λ u. bit (centred gone S Ts k g u k)) (λ u. cond (member u S) 1 0) (λ u _. to u (ℕ-discrete u k)),
+        sum-le N (λ v. bit (centred gone S Ts k g k v)) (λ v. cond (member v Ts) 1 0) (λ v _. rw (star-out v) (bit-cond (member v Ts) (g (firstOf S) v))),
       ))
     where
-      to : (u : ℕ) → Dec (u ≡ k) → bit (starred S Ts k g u k) ≤ cond (member u S) 1 0
-      to u (yes e) = omega (arith, bit-absent {x = starred S Ts k g u k} (rw e star-loop))
+      to : (u : ℕ) → Dec (u ≡ k) → bit (centred gone S Ts k g u k) ≤ cond (member u S) 1 0
+      to u (yes e) = omega (arith, bit-absent {x = centred gone S Ts k g u k} (rw e star-loop))
       to u (no n) = rw (star-in u n) (bit-cond (member u S) (least Ts (λ t. g u t ⊖ g (firstOf S) t)))
 
-pub star-better : {m n N : ℕ} (S Ts : List ℕ) (k : ℕ) {g : Graph} (x : Unit {0}) → Sound m n N g → starVerdict m n N S Ts k g ≡ accepted x → Better m n N g (starred S Ts k g)
-unfolding starVerdict toCentre fromCentre
+  pub centred-better : {m n N : ℕ} → Sound m n N g → T (each S (λ s. ltb s N)) → Inner m n N k → length S + length Ts < holding N gone → T (each S (λ s. fits delayLimit (toCentre S Ts g s)))
+      → Better everyPair m n N g (centred gone S Ts k g)
+  unfolding toCentre fromCentre
+  centred-better {m} {n} {N} s low hk more fit =
+      better s legal (unshrunk-ranked (starred-shrunk starred-is) w′ star-loop (rank-of s))
+      (λ l′ i j hi hj. unshrunk-same (starred-shrunk starred-is) w′ star-loop (rank-of s) (longest-of s) l′ i j (input-output s i j hi hj) (input-inner s i k hi hk) (output-inner s j k hj hk))
+      (star-fewer N (hk .1) more)
+    where
+      legal : (u v : ℕ) → T (present (centred gone S Ts k g u v)) → LegalArc m N u v (centred gone S Ts k g u v)
+      legal u v = go (ℕ-discrete u k) (ℕ-discrete v k)
+        where
+          onward : T (present (fromCentre S Ts g v)) → LegalArc m N k v (fromCentre S Ts g v)
+          onward = cond-elim (λ (d : Delay). T (present d) → LegalArc m N k v d) (member v Ts) (g (firstOf S) v) absent
+              (λ _ t. let a = s .legal (firstOf S) v t in record { from-below = hk .1; to-below = a .to-below; not-input = a .not-input; in-range = a .in-range }) (λ _ t. absurd t)
+
+          into : T (present (toCentre S Ts g u)) → LegalArc m N u k (toCentre S Ts g u)
+          into t =
+              let us = source t in
+              record { from-below = ltb→lt u N (each-at S (λ s. ltb s N) low u us); to-below = hk .1; not-input = omega arith; in-range = each-at S (λ s. fits delayLimit (toCentre S Ts g s)) fit u us }
+            where
+              source : T (present (toCentre S Ts g u)) → T (member u S)
+              source = cond-elim (λ (d : Delay). T (present d) → T (member u S)) (member u S) (least Ts (λ t. g u t ⊖ g (firstOf S) t)) absent (λ b _. b) (λ _ t. absurd t)
+
+          go : Dec (u ≡ k) → Dec (v ≡ k) → T (present (centred gone S Ts k g u v)) → LegalArc m N u v (centred gone S Ts k g u v)
+          go (yes p) _ h = rw (p, star-out v) (onward (rw (p, star-out v) at h))
+          go (no p) (yes q) h = rw (q, star-in u p) (into (rw (q, star-in u p) at h))
+          go (no p) (no q) h = rw (star-cell u v p q)
+              (cond-elim (λ (d : Delay). T (present d) → LegalArc m N u v d) (gone u v) absent (g u v) (λ _ t. absurd t) (λ _. s .legal u v) (rw (star-cell u v p q) at h))
+
+      w′ : Within N (centred gone S Ts k g)
+      w′ = record { in-range = λ u v h. (legal u v h .from-below, legal u v h .to-below) }
+
+pub star-better : {m n N : ℕ} (S Ts : List ℕ) (k : ℕ) {g : Graph} (x : Unit {0}) → Sound m n N g → starVerdict m n N S Ts k g ≡ accepted x → Better everyPair m n N g (starred S Ts k g)
+unfolding coveredArcs starred
 star-better {m} {n} {N} S Ts k {g} x s q =
-    let p7 = require-accepted (each S (λ s. ltb s N) && each Ts (λ t. ltb t N) && ltb k N) WrongVertex _ x q in
-    let p9 = require-accepted (nonEmpty S && nonEmpty Ts && distinct S && distinct Ts) WrongSet _ x (p7 .1) in
-    let p8 = require-accepted (isInner m n N k && unused N g k) NumberTaken _ x (p9 .1) in
-    let p10 = require-accepted (each S (λ s. each Ts (λ t. present (g s t)))) WrongArcs _ x (p8 .1) in
-    let p13 = require-accepted (ltb (length S + length Ts) (coveredArcs N S Ts g)) NothingSaved _ x (p10 .1) in
-    let p14 = require-accepted (each S (λ s. fits delayLimit (toCentre S Ts g s))) DelayOutOfRange _ x (p13 .1) in
-    let h = and-e (each S (λ s. ltb s N) && each Ts (λ t. ltb t N)) (ltb k N) (p7 .0) in
-    let f = and-e (isInner m n N k) (unused N g k) (p8 .0) in
-    step (and-e (each S (λ s. ltb s N)) (each Ts (λ t. ltb t N)) (h .0) .0) (inner-of m n N k (f .0)) (unused-out (sound-within s) k (f .1)) (unused-in (sound-within s) k (f .1))
-    (ltb→lt (length S + length Ts) (coveredArcs N S Ts g) (p13 .0)) (p14 .0)
-  where
-    step : T (each S (λ s. ltb s N)) → Inner m n N k → ((v : ℕ) → g k v ≡ absent) → ((u : ℕ) → g u k ≡ absent) → length S + length Ts < coveredArcs N S Ts g
-        → T (each S (λ s. fits delayLimit (toCentre S Ts g s))) → Better m n N g (starred S Ts k g)
-    step low hk out in′ more fit =
-        better s legal (unshrunk-ranked (starred-shrunk c) w′ loop (rank-of s))
-        (λ l′ i j hi hj. unshrunk-same (starred-shrunk c) w′ loop (rank-of s) (longest-of s) l′ i j (input-output s i j hi hj) (input-inner s i k hi hk) (output-inner s j k hj hk))
-        (star-fewer S Ts k g out in′ N (hk .1) more)
-      where
-        c : Starred k g (starred S Ts k g)
-        c = starred-is S Ts k g out in′
-
-        loop : starred S Ts k g k k ≡ absent
-        loop = star-loop S Ts k g out in′
-
-        legal : (u v : ℕ) → T (present (starred S Ts k g u v)) → LegalArc m N u v (starred S Ts k g u v)
-        legal u v = go (ℕ-discrete u k) (ℕ-discrete v k)
-          where
-            onward : T (present (fromCentre S Ts g v)) → LegalArc m N k v (fromCentre S Ts g v)
-            onward = cond-elim (λ (d : Delay). T (present d) → LegalArc m N k v d) (member v Ts) (g (firstOf S) v) absent
-                (λ _ t. let a = s .legal (firstOf S) v t in record { from-below = hk .1; to-below = a .to-below; not-input = a .not-input; in-range = a .in-range }) (λ _ t. absurd t)
-
-            into : T (present (toCentre S Ts g u)) → LegalArc m N u k (toCentre S Ts g u)
-            into t =
-                let us = source t in
-                record { from-below = ltb→lt u N (each-at S (λ s. ltb s N) low u us); to-below = hk .1; not-input = omega arith; in-range = each-at S (λ s. fits delayLimit (toCentre S Ts g s)) fit u us }
-              where
-                source : T (present (toCentre S Ts g u)) → T (member u S)
-                source = cond-elim (λ (d : Delay). T (present d) → T (member u S)) (member u S) (least Ts (λ t. g u t ⊖ g (firstOf S) t)) absent (λ b _. b) (λ _ t. absurd t)
-
-            go : Dec (u ≡ k) → Dec (v ≡ k) → T (present (starred S Ts k g u v)) → LegalArc m N u v (starred S Ts k g u v)
-            go (yes p) _ h = rw (p, star-out S Ts k g out in′ v) (onward (rw (p, star-out S Ts k g out in′ v) at h))
-            go (no p) (yes q) h = rw (q, star-in S Ts k g out in′ u p) (into (rw (q, star-in S Ts k g out in′ u p) at h))
-            go (no p) (no q) h = rw (star-cell S Ts k g out in′ u v p q)
-                (cond-elim (λ (d : Delay). T (present d) → LegalArc m N u v d) (covered S Ts g u v) absent (g u v) (λ _ t. absurd t) (λ _. s .legal u v) (rw (star-cell S Ts k g out in′ u v p q) at h))
-
-        w′ : Within N (starred S Ts k g)
-        w′ = record { in-range = λ u v h. (legal u v h .from-below, legal u v h .to-below) }
+    let h = star-accepted m n N S Ts k g x q in
+    centred-better S Ts k g (unused-out (sound-within s) k (h .free)) (unused-in (sound-within s) k (h .free)) (covered S Ts g) (λ _ _ t. t) s (h .sources-below) (inner-of m n N k (h .inner)) (h .saved) (h .in-range)

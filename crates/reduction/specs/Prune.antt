@@ -8,17 +8,22 @@ use Rattle.graph.specs.Graph.{Graph, longest, walk}
 use Rattle.graph.specs.Count.{arcs}
 use Rattle.timing.specs.declared.Refusal.the-variants.{NothingSaved}
 use Rattle.timing.specs.Refusal.{Verdict, accepted, require}
+use Rattle.reduction.specs.Outcome.{everyPair}
 
 -- i and j are joined, and the greatest walk from i to u, the arc u→t and the greatest walk from t to j add up to D(i,j)
 abbrev pub decides : Graph → Graph → ℕ → ℕ → ℕ → ℕ → Bool
 decides D g u t i j = present (D i j) && eqD (D i j) (walk D i u ⊕ (g u t ⊕ walk D t j))
 
--- it decides for some input and output
-unfoldable pub critical : ℕ → ℕ → ℕ → Graph → ℕ → ℕ → Bool
-critical m n N g u t = some m (λ i. some n (λ j. decides (longest g N) g u t i (m + j)))
+-- it decides for some input and output whose pair counts
+unfoldable pub critical : (ℕ → ℕ → Bool) → ℕ → ℕ → ℕ → Graph → ℕ → ℕ → Bool
+critical counts m n N g u t = some m (λ i. some n (λ j. counts i (m + j) && decides (longest g N) g u t i (m + j)))
+
+-- the arcs of g that stay
+abbrev pub thinned : (ℕ → ℕ → Bool) → Graph → Graph
+thinned stays g u t = cond (stays u t) (g u t) absent
 
 unfoldable pub pruned : ℕ → ℕ → ℕ → Graph → Graph
-pruned m n N g u t = cond (critical m n N g u t) (g u t) absent
+pruned m n N g u t = thinned (critical everyPair m n N g) g u t
 
 -- 13 where no arc would go
 unfoldable pub pruneVerdict : ℕ → ℕ → ℕ → Graph → Verdict (Unit {0})

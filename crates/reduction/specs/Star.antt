@@ -35,8 +35,12 @@ fromCentre S Ts g t = cond (member t Ts) (g (firstOf S) t) absent
 unfoldable pub covered : List ℕ → List ℕ → Graph → ℕ → ℕ → Bool
 covered S Ts g u t = present (g u t) && eqD (g u t) (toCentre S Ts g u ⊕ fromCentre S Ts g t)
 
+-- the places at which f holds
+abbrev pub holding : ℕ → (ℕ → ℕ → Bool) → ℕ
+holding N f = sum N (λ u. sum N (λ t. cond (f u t) 1 0))
+
 unfoldable pub coveredArcs : ℕ → List ℕ → List ℕ → Graph → ℕ
-coveredArcs N S Ts g = sum N (λ u. sum N (λ t. cond (covered S Ts g u t) 1 0))
+coveredArcs N S Ts g = holding N (covered S Ts g)
 
 unfoldable pub starVerdict : ℕ → ℕ → ℕ → List ℕ → List ℕ → ℕ → Graph → Verdict (Unit {0})
 starVerdict m n N S Ts k g =
@@ -48,9 +52,13 @@ starVerdict m n N S Ts k g =
     (require (each S (λ s. fits delayLimit (toCentre S Ts g s))) DelayOutOfRange
     (accepted tt))))))
 
-unfoldable pub starred : List ℕ → List ℕ → ℕ → Graph → Graph
-starred S Ts k g u t =
+-- the arcs to and from the centre, and of the others those that are not gone
+abbrev pub centred : (ℕ → ℕ → Bool) → List ℕ → List ℕ → ℕ → Graph → Graph
+centred gone S Ts k g u t =
     cond (eqb u k) (fromCentre S Ts g t)
     (cond (eqb t k) (toCentre S Ts g u)
-    (cond (covered S Ts g u t) absent
+    (cond (gone u t) absent
     (g u t)))
+
+unfoldable pub starred : List ℕ → List ℕ → ℕ → Graph → Graph
+starred S Ts k g u t = centred (covered S Ts g) S Ts k g u t

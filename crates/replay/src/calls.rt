@@ -1,11 +1,19 @@
-// What every call is given, what becomes of it, and what most calls print of lent memory.
+// What a call starts from, what becomes of it, and what it prints of lent memory.
 use crate::lines;
+ghost use Rattle.replay.specs.Page.{OnPage};
 
 // Document 01's m, n and N, of any size.
 pub struct Sizes {
     pub inputs: usize,
     pub outputs: usize,
     pub vertices: usize,
+}
+
+pub struct Call {
+    pub kind: usize,
+    pub sizes: Sizes,
+    // The place for its text.
+    pub at: usize,
 }
 
 pub enum Played {
@@ -15,7 +23,10 @@ pub enum Played {
     Ended,
 }
 
-pub fn left(page: &mut [u8], at: usize, table: &[i32], scratch: &[i64]) -> Played {
+pub fn left(page: &mut [u8], at: usize, table: &[i32], scratch: &[i64]) -> usize
+    requires { ⌜ OnPage (now page) at ⌝ }
+    ensures { λ r. ⌜ OnPage (now (page .exit)) r ⌝ }
+{
     let next = lines::table(page, at, table);
-    Played::Printed(lines::scratch(page, next, scratch))
+    lines::scratch(page, next, scratch)
 }

@@ -1,6 +1,7 @@
 // Standard input, piece by piece. A failed read counts as the end.
 use codec::unsigned;
-ghost use Prim.Native.Nat.{_*_, _≤_};
+ghost use mathlib.Core.Path.{_≡_};
+ghost use Prim.Native.Nat.{_≤_};
 ghost use lib.ListN.{length};
 
 pub enum Got {
@@ -8,47 +9,38 @@ pub enum Got {
     End,
 }
 
-// Whether so many bytes came.
-pub fn filled(bytes: &mut [u8]) -> bool {
-    io::read_full(0, bytes) == bytes.len()
+// How many of `count` bytes came, into the front of a list.
+pub fn bytes(list: &mut [u8], count: usize) -> usize
+    ensures { λ r. ⌜ r ≤ length (now (list .exit)) ⌝ }
+{
+    if count > list.len() {
+        return 0;
+    }
+    io::read_full(0, &mut list[0..count])
 }
 
-// The number of as many bytes as are lent.
-fn number(bytes: &mut [u8]) -> Got
-    requires { ⌜ (1 ≤ length (now bytes)) × (length (now bytes) ≤ 8) ⌝ }
+// The number of the next `width` bytes.
+fn number(width: usize) -> Got
+    requires { ⌜ (1 ≤ width) × (width ≤ 8) ⌝ }
 {
-    if !filled(bytes) {
+    let mut word = [0u8; 8];
+    let came = bytes(&mut word, width);
+    if came != width {
         return Got::End;
     }
-    Got::Number(unsigned::number(bytes, 0, bytes.len()) as usize)
+    Got::Number(unsigned::number(&word, 0, width) as usize)
 }
 
 pub fn byte() -> Got {
-    let mut bytes = [0u8; 1];
-    number(&mut bytes)
+    number(1)
 }
 
 pub fn count() -> Got {
-    let mut bytes = [0u8; 2];
-    number(&mut bytes)
+    number(2)
 }
 
 pub fn word() -> Got {
-    let mut bytes = [0u8; 8];
-    number(&mut bytes)
-}
-
-// Whether so many vertices came.
-pub fn vertices(list: &mut [usize]) -> bool {
-    let mut i = 0;
-    while i < list.len() {
-        let Got::Number(x) = word() else {
-            return false;
-        };
-        list[i] = x;
-        i += 1;
-    }
-    true
+    number(8)
 }
 
 // The signed number of 64 bits.
@@ -59,21 +51,8 @@ fn arrival(x: usize) -> i64 {
     !((18_446_744_073_709_551_615 - x) as i64)
 }
 
-// Whether so many arrivals came.
-pub fn arrivals(list: &mut [i64]) -> bool {
-    let mut i = 0;
-    while i < list.len() {
-        let Got::Number(x) = word() else {
-            return false;
-        };
-        list[i] = arrival(x);
-        i += 1;
-    }
-    true
-}
-
 // The signed number of the low 32 bits.
-fn cell(x: u64) -> i32 {
+fn cell(x: usize) -> i32 {
     let low = x % 4_294_967_296;
     if low < 2_147_483_648 {
         return low as i32;
@@ -81,26 +60,63 @@ fn cell(x: u64) -> i32 {
     !((4_294_967_295 - low) as i32)
 }
 
-// The cells of bytes that came.
-fn place(bytes: &[u8], table: &mut [i32])
-    requires { ⌜ length (now table) * 4 ≤ length (now bytes) ⌝ }
-{
-    let mut i = 0;
-    while i < table.len() {
-        table[i] = cell(unsigned::number(bytes, i * 4, 4));
-        i += 1;
+// Stores x at `i` in the one list that is not empty.
+fn store(x: usize, i: usize, vertices: &mut [usize], arrivals: &mut [i64], table: &mut [i32]) {
+    if i < vertices.len() {
+        vertices[i] = x;
+        return;
+    }
+    if i < arrivals.len() {
+        arrivals[i] = arrival(x);
+        return;
+    }
+    if i < table.len() {
+        table[i] = cell(x);
     }
 }
 
-// Whether so many cells came, by way of `bytes`.
-pub fn cells(bytes: &mut [u8], table: &mut [i32]) -> bool {
-    if table.len() > bytes.len() / 4 {
-        return false;
+// How many of `count` numbers came, into the front of that list.
+fn numbers(
+    width: usize,
+    count: usize,
+    vertices: &mut [usize],
+    arrivals: &mut [i64],
+    table: &mut [i32],
+) -> usize
+    requires { ⌜ (1 ≤ width) × (width ≤ 8) ⌝ }
+    ensures { λ r. ⌜ r ≤ count ⌝ }
+{
+    let mut i = 0;
+    while i < count {
+        let Got::Number(x) = number(width) else {
+            return i;
+        };
+        store(x, i, vertices, arrivals, table);
+        i += 1;
     }
-    let need = table.len() * 4;
-    if !filled(&mut bytes[0..need]) {
-        return false;
+    i
+}
+
+pub fn vertices(list: &mut [usize], count: usize) -> usize
+    ensures { λ r. ⌜ r ≤ length (now (list .exit)) ⌝ }
+{
+    if count > list.len() {
+        return 0;
     }
-    place(bytes, table);
-    true
+    numbers(8, count, list, &mut [], &mut [])
+}
+
+pub fn arrivals(list: &mut [i64], count: usize) -> usize
+    ensures { λ r. ⌜ r ≤ length (now (list .exit)) ⌝ }
+{
+    if count > list.len() {
+        return 0;
+    }
+    numbers(8, count, &mut [], list, &mut [])
+}
+
+pub fn cells(table: &mut [i32]) -> usize
+    ensures { λ r. ⌜ r ≤ length (now (table .exit)) ⌝ }
+{
+    numbers(4, table.len(), &mut [], &mut [], table)
 }

@@ -17,7 +17,6 @@ mod step_calls;
 
 fn main() {
     let mut table = memory::table();
-    let mut scratch = memory::scratch();
-    let mut out = memory::page();
-    play::play(&mut table, &mut scratch, &mut out);
+    let mut page = memory::page();
+    play::play(&mut table, &mut page);
 }

@@ -33,7 +33,7 @@ pub fn scratch() -> [i64; CELLS]
     [SCRATCH; CELLS]
 }
 
-pub fn destination() -> [i64; CELLS]
+pub fn delays() -> [i64; CELLS]
     ensures { λ r. ⌜ length r ≡ 8200 ⌝ }
 {
     [DESTINATION; CELLS]
@@ -62,15 +62,6 @@ pub fn page() -> [u8; PAGE]
     ensures { λ r. ⌜ length r ≡ 65536 ⌝ }
 {
     [0u8; PAGE]
-}
-
-// Fills the scratch anew.
-pub fn clean(scratch: &mut [i64]) {
-    let mut i = 0;
-    while i < scratch.len() {
-        scratch[i] = SCRATCH;
-        i += 1;
-    }
 }
 
 // One more than the place of the last scratch cell that was written; 0 if none was.

@@ -1,4 +1,5 @@
 // The whole replay: sizes, lent memory, and calls to the end.
+use crate::calls::Call;
 use crate::calls::Played;
 use crate::calls::Sizes;
 use crate::file_calls;
@@ -8,41 +9,53 @@ use crate::memory;
 use crate::print;
 use crate::query_calls;
 use crate::step_calls;
+ghost use Rattle.replay.specs.Page.{OnPage, EndsOn};
 
-// The next call.
-fn turn(
-    sizes: Sizes,
-    table: &mut [i32],
-    scratch: &mut [i64],
-    page: &mut [u8],
-    at: usize,
-) -> Played {
-    let Got::Number(kind) = input::byte() else {
-        return Played::Ended;
-    };
-    memory::clean(scratch);
+fn played(call: Call, table: &mut [i32], scratch: &mut [i64], page: &mut [u8]) -> Played
+    requires { ⌜ OnPage (now page) (call .at) ⌝ }
+    ensures { λ r. ⌜ EndsOn (now (page .exit)) r ⌝ }
+{
+    let kind = call.kind;
     match kind {
-        1 => step_calls::shrink(sizes, table, scratch, page, at),
-        2 => step_calls::share_inputs(sizes, table, scratch, page, at),
-        3 => step_calls::share_outputs(sizes, table, scratch, page, at),
-        4 => step_calls::prune(sizes, table, scratch, page, at),
-        5 => step_calls::merge_back(sizes, table, scratch, page, at),
-        6 => step_calls::star(sizes, table, scratch, page, at),
-        7 => step_calls::run(sizes, table, scratch, page, at),
-        8 => query_calls::matrix(sizes, table, scratch, page, at),
-        9 => query_calls::arrivals(sizes, table, scratch, page, at),
-        10 => file_calls::write(sizes, table, scratch, page, at),
-        11 => file_calls::read(table, scratch, page, at),
+        1..=5 => step_calls::step(call, table, scratch, page),
+        6 => step_calls::star(call, table, scratch, page),
+        7 => step_calls::run(call, table, scratch, page),
+        8 | 9 => query_calls::query(call, table, scratch, page),
+        10 => file_calls::write(call, table, scratch, page),
+        11 => file_calls::read(call, table, scratch, page),
         _ => Played::Ended,
     }
 }
 
+// The next call, with a scratch of `room` cells.
+fn turn(sizes: Sizes, table: &mut [i32], room: usize, page: &mut [u8], at: usize) -> Played
+    requires { ⌜ OnPage (now page) at ⌝ }
+    ensures { λ r. ⌜ EndsOn (now (page .exit)) r ⌝ }
+{
+    if room > memory::CELLS {
+        return Played::Ended;
+    }
+    let Got::Number(kind) = input::byte() else {
+        return Played::Ended;
+    };
+    let call = Call {
+        kind: kind,
+        sizes: sizes,
+        at: at,
+    };
+    let mut scratch = memory::scratch();
+    played(call, table, &mut scratch[0..room], page)
+}
+
 // The calls, and the place after their text. Nothing says that the input ends, so the turns are counted down, from a number that no replay uses up.
-fn turns(sizes: Sizes, table: &mut [i32], scratch: &mut [i64], page: &mut [u8]) -> usize {
+fn turns(sizes: Sizes, table: &mut [i32], room: usize, page: &mut [u8]) -> usize
+    requires { ⌜ OnPage (now page) 0 ⌝ }
+    ensures { λ r. ⌜ OnPage (now (page .exit)) r ⌝ }
+{
     let mut at = 0;
     let mut left = u64::MAX;
     while left > 0 {
-        let played = turn(sizes, table, scratch, page, at);
+        let played = turn(sizes, table, room, page, at);
         let Played::Printed(next) = played else {
             return at;
         };
@@ -52,16 +65,20 @@ fn turns(sizes: Sizes, table: &mut [i32], scratch: &mut [i64], page: &mut [u8]) 
     at
 }
 
-// The table's cells come by way of the page.
-fn begin(sizes: Sizes, table: &mut [i32], scratch: &mut [i64], page: &mut [u8]) {
-    if !input::cells(page, table) {
+fn begin(sizes: Sizes, table: &mut [i32], room: usize, page: &mut [u8])
+    requires { ⌜ OnPage (now page) 0 ⌝ }
+{
+    let came = input::cells(table);
+    if came != table.len() {
         return;
     }
-    let at = turns(sizes, table, scratch, page);
+    let at = turns(sizes, table, room, page);
     print::flush(page, at);
 }
 
-pub fn play(table: &mut [i32], scratch: &mut [i64], page: &mut [u8]) {
+pub fn play(table: &mut [i32], page: &mut [u8])
+    requires { ⌜ OnPage (now page) 0 ⌝ }
+{
     let Got::Number(inputs) = input::word() else {
         return;
     };
@@ -80,13 +97,10 @@ pub fn play(table: &mut [i32], scratch: &mut [i64], page: &mut [u8]) {
     if cells > table.len() {
         return;
     }
-    if room > scratch.len() {
-        return;
-    }
     let sizes = Sizes {
         inputs: inputs,
         outputs: outputs,
         vertices: vertices,
     };
-    begin(sizes, &mut table[0..cells], &mut scratch[0..room], page);
+    begin(sizes, &mut table[0..cells], room, page);
 }

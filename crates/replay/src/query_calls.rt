@@ -1,95 +1,68 @@
-// The two calls that answer path delays.
+// The two calls that answer path delays: the matrix, and the output arrivals.
 use crate::answers;
+use crate::calls::Call;
 use crate::calls::Played;
-use crate::calls::Sizes;
 use crate::input;
 use crate::input::Got;
 use crate::lines;
 use crate::memory;
 use paths::queries;
 use paths::queries::Answer;
+ghost use Rattle.replay.specs.Page.{OnPage, EndsOn};
 
-fn queried(
-    page: &mut [u8],
-    at: usize,
-    answer: Answer,
-    table: &[i32],
-    destination: &[i64],
-    scratch: &[i64],
-) -> Played {
-    let next = answers::query(page, at, answer);
-    let next = lines::table(page, next, table);
-    let next = lines::destination(page, next, destination);
-    Played::Printed(lines::scratch(page, next, scratch))
-}
-
-fn matrix_into(
-    sizes: Sizes,
-    table: &[i32],
-    scratch: &mut [i64],
-    destination: &mut [i64],
-    page: &mut [u8],
-    at: usize,
-) -> Played {
-    let answer = queries::delay_matrix(
-        sizes.inputs,
-        sizes.outputs,
-        sizes.vertices,
-        table,
-        scratch,
-        destination,
-    );
-    queried(page, at, answer, table, destination, scratch)
-}
-
-pub fn matrix(
-    sizes: Sizes,
-    table: &[i32],
-    scratch: &mut [i64],
-    page: &mut [u8],
-    at: usize,
-) -> Played {
-    let Got::Number(length) = input::count() else {
-        return Played::Ended;
-    };
-    if length > memory::CELLS {
-        return Played::Ended;
+// How many arrivals a call is given.
+fn given(kind: usize) -> Got {
+    match kind {
+        8 => Got::Number(0),
+        _ => input::count(),
     }
-    let mut destination = memory::destination();
-    matrix_into(sizes, table, scratch, &mut destination[0..length], page, at)
 }
 
-fn arrivals_into(
-    sizes: Sizes,
+fn answer(
+    call: Call,
     table: &[i32],
     scratch: &mut [i64],
     given: &[i64],
-    answers: &mut [i64],
-    page: &mut [u8],
-    at: usize,
-) -> Played {
-    let answer = queries::output_arrivals(
-        sizes.inputs,
-        sizes.outputs,
-        sizes.vertices,
-        table,
-        scratch,
-        given,
-        answers,
-    );
-    queried(page, at, answer, table, answers, scratch)
+    delays: &mut [i64],
+) -> Answer {
+    let kind = call.kind;
+    let m = call.sizes.inputs;
+    let n = call.sizes.outputs;
+    let vertices = call.sizes.vertices;
+    match kind {
+        8 => queries::delay_matrix(m, n, vertices, table, scratch, delays),
+        _ => queries::output_arrivals(m, n, vertices, table, scratch, given, delays),
+    }
 }
 
-// The arrivals come, and the answers' length.
-fn arrivals_from(
-    sizes: Sizes,
+fn query_into(
+    call: Call,
     table: &[i32],
     scratch: &mut [i64],
-    given: &mut [i64],
+    given: &[i64],
+    delays: &mut [i64],
     page: &mut [u8],
-    at: usize,
-) -> Played {
-    if !input::arrivals(given) {
+) -> Played
+    requires { ⌜ OnPage (now page) (call .at) ⌝ }
+    ensures { λ r. ⌜ EndsOn (now (page .exit)) r ⌝ }
+{
+    let answer = answer(call, table, scratch, given, delays);
+    let next = answers::query(page, call.at, answer);
+    let next = lines::table(page, next, table);
+    let next = lines::delays(page, next, delays);
+    Played::Printed(lines::scratch(page, next, scratch))
+}
+
+pub fn query(call: Call, table: &[i32], scratch: &mut [i64], page: &mut [u8]) -> Played
+    requires { ⌜ OnPage (now page) (call .at) ⌝ }
+    ensures { λ r. ⌜ EndsOn (now (page .exit)) r ⌝ }
+{
+    let Got::Number(count) = given(call.kind) else {
+        return Played::Ended;
+    };
+    let mut arrivals = memory::arrivals();
+    let came = input::arrivals(&mut arrivals, count);
+    if came != count {
         return Played::Ended;
     }
     let Got::Number(length) = input::count() else {
@@ -98,31 +71,13 @@ fn arrivals_from(
     if length > memory::CELLS {
         return Played::Ended;
     }
-    let mut answers = memory::destination();
-    arrivals_into(
-        sizes,
+    let mut delays = memory::delays();
+    query_into(
+        call,
         table,
         scratch,
-        given,
-        &mut answers[0..length],
+        &arrivals[0..count],
+        &mut delays[0..length],
         page,
-        at,
     )
-}
-
-pub fn arrivals(
-    sizes: Sizes,
-    table: &[i32],
-    scratch: &mut [i64],
-    page: &mut [u8],
-    at: usize,
-) -> Played {
-    let Got::Number(count) = input::count() else {
-        return Played::Ended;
-    };
-    if count > memory::ARRIVALS {
-        return Played::Ended;
-    }
-    let mut given = memory::arrivals();
-    arrivals_from(sizes, table, scratch, &mut given[0..count], page, at)
 }

@@ -19,11 +19,11 @@ use Rattle.reduction.specs.ShareInputs.{inputsShared}
 use Rattle.reduction.specs.ShareOutputs.{outputsShared}
 use Rattle.reduction.specs.Run.{freshNumber}
 use Rattle.paths.specs.declared.board.Board.{Board}
-use Rattle.steps.specs.Reduces.{Checked}
+use Rattle.paths.specs.Checked.{Checked}
 use Rattle.run.specs.declared.side.Side.{Side}
 use Rattle.run.specs.declared.side.Side.the-variants.{Inputs, Outputs}
 use Rattle.run.specs.Sides.{OnSide, isRich}
-use Rattle.run.specs.Comparing.{Pair}
+use Rattle.run.specs.Pairs.{Pair}
 use Rattle.run.specs.Running.{Ready, Counted}
 use Rattle.run.proofs.Lines.{side-fits}
 use Rattle.run.proofs.TriedShares.{shared, Trying, share-graph}

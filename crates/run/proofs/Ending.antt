@@ -1,5 +1,5 @@
 -- The rounds as the loop makes them: one accepts nothing and is the last, or it leaves fewer arcs.
-use mathlib.Core.Path.{_≡_, sym, ap, _∙_, subst}
+use mathlib.Core.Path.{_≡_, refl, sym, ap, _∙_, subst}
 use mathlib.Core.Logic.{_≢_}
 use mathlib.Core.Bool.{Bool, true, false, not, cond}
 use mathlib.Core.List.{List}
@@ -13,16 +13,14 @@ use Rattle.timing.specs.Table.{graphOf}
 use Rattle.timing.specs.declared.Refusal.{Refusal}
 use Rattle.timing.specs.Refusal.{Verdict, accepted}
 use Rattle.reduction.specs.Outcome.{Reduced}
-use Rattle.reduction.specs.Run.{Progress, round, rounds, tries, reduce, runCall}
+use Rattle.reduction.specs.Run.{Progress, round, rounds, tries, reduce, wholeRun, runCall}
 use Rattle.reduction.proofs.Rounds.{round-less, fuel-enough}
 use Rattle.reduction.proofs.Run.{tries-gain}
 use Rattle.paths.specs.declared.board.Board.{Board}
 use Rattle.paths.specs.declared.board.Made.{Made}
 use Rattle.paths.specs.declared.board.Made.the-variants as M
 use Rattle.paths.specs.Checked.{Checking}
-use Rattle.paths.proofs.Checking.{call-refused}
-use Rattle.paths.proofs.Answering.{call-is}
-use Rattle.steps.specs.Reduces.{tableAfter}
+use Rattle.paths.proofs.Answering.{answers-on, answers-refused}
 use Rattle.run.specs.declared.answer.Ran.{Ran}
 use Rattle.run.specs.declared.answer.Ran.the-variants as R
 use Rattle.run.specs.Running.{progress}
@@ -72,21 +70,19 @@ module _ (m n N s : ℕ) (p q : Progress) (way : round (tries m n N s) p ≡ q) 
       (λ e. subst (λ (x : Bool). roundsLeft N (not x) (q .table) < suc (arcs N (graphOf N (p .table)))) (sym e) (omega (arith, fewer-arcs m n N s p q way (neqb→ne (q .steps) (p .steps) (subst (λ (x : Bool). T (not x)) (sym e) tt)))))
 
 -- what the loop answers
-pub runs-done : (m n N s : ℕ) (t after : List ℤ) (c a : ℕ) → reduce m n N s t ≡ progress after c → a ≡ arcs N (graphOf N after) → Runs (runOn s t m n N) t after (R.Accepted c a)
+pub runs-done : (m n N s : ℕ) (t after : List ℤ) (c a : ℕ) → reduce m n N s t ≡ progress after c → a ≡ arcs N (graphOf N after) → Runs (accepted (wholeRun m n N s t)) t after (R.Accepted c a)
 runs-done m n N s t after c a whole count = record {
   answer = ap (λ (x : ℕ). accepted (record { table = after; steps = c; arcsLeft = x })) count
       ∙ sym (ap (λ (p : Progress). accepted (record { table = p .table; steps = p .steps; arcsLeft = arcs N (graphOf N (p .table)) })) whole);
-  table = sym (ap (λ (p : Progress). p .table) whole);
+  left = sym (ap (λ (p : Progress). p .table) whole);
 }
 
 -- the call, from its checks and its rounds
 module _ {m n N s : ℕ} {t : List ℤ} {o : List ℕ} {made : Made} (c : Checking m n N s t o made) where
-  pub run-done : (b : Board) → made ≡ M.Board b → (after : List ℤ) (r : Ran) → Runs (runOn s t (b .inputs) (b .outputs) (b .vertices)) t after r → Runs (runCall m n N s t) t after r
+  pub run-done : (b : Board) → made ≡ M.Board b → (after : List ℤ) (r : Ran) → Runs (runOn b s t) t after r → Runs (runCall m n N s t) t after r
   unfolding runCall
-  run-done b e after r h = call-is c (λ (v : Verdict Reduced). Runs v t after r) (λ m n N _. runOn s t m n N) b e h
+  run-done b e after r h = answers-on c b e (λ m n N _. accepted (wholeRun m n N s t)) t after r h
 
   pub run-refused : (x : Refusal) → made ≡ M.Refused x → Runs (runCall m n N s t) t t (R.Refused x)
   unfolding runCall
-  run-refused x e =
-      let q = call-refused m n N s t x made (c .answer) e (λ _. runOn s t m n N) in
-      record { answer = sym q; table = sym (ap (λ (v : Verdict Reduced). tableAfter v t) q) }
+  run-refused x e = answers-refused c x e (λ _. accepted (wholeRun m n N s t)) t (R.Refused x) refl

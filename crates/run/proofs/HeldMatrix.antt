@@ -17,7 +17,8 @@ use Rattle.timing.specs.Limits.{maxVertices, arrivalLimit, absentWide, fits}
 use Rattle.timing.specs.Table.{readCell, writeCell, graphOf}
 use Rattle.timing.specs.Delays.{matrix, matrixCells, arrivalIn}
 use Rattle.paths.specs.declared.board.Board.{Board}
-use Rattle.paths.specs.Arrivals.{reachedLimit, Passable}
+use Rattle.paths.specs.Arrivals.{reachedLimit}
+use Rattle.paths.specs.Checked.{Passable}
 use Rattle.paths.proofs.PathDelays.{walk-near}
 use Rattle.paths.proofs.WalkBounds.{walk-far, read-far}
 use Rattle.run.specs.Running.{progress, Running, Held}
@@ -44,10 +45,10 @@ module _ {b : Board} {t : List ℤ} {o : List ℕ} (p : Passable b t o) where
     }
       where
         below : (i : ℕ) → i < b .inputs → i < b .vertices
-        below i h = omega (arith, p .lent .sized .roles)
+        below i h = omega (arith, p .checked .lent .sized .roles)
 
         output : (j : ℕ) → j < b .outputs → b .inputs + j < b .vertices
-        output j h = omega (arith, p .lent .sized .roles)
+        output j h = omega (arith, p .checked .lent .sized .roles)
 
   pub running-start : Running b (progress t 0)
-  running-start = record { checked = record { lent = p .lent; sound = p .sound }; bound = omega (arith, arcs-few (b .vertices) (graphOf (b .vertices) t), area (b .vertices) maxVertices (p .lent .sized .few)) }
+  running-start = record { checked = p .checked; bound = omega (arith, arcs-few (b .vertices) (graphOf (b .vertices) t), area (b .vertices) maxVertices (p .checked .lent .sized .few)) }

@@ -13,3 +13,5 @@ pub mod Rounding
 pub mod Ending
 pub mod HeldMatrix
 pub mod OrderKept
+pub mod RowsShared
+pub mod NoNumber

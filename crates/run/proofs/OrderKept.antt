@@ -12,12 +12,11 @@ use Rattle.graph.specs.Graph.{Graph}
 use Rattle.reduction.specs.ShareOutputs.{outputsShared}
 use Rattle.paths.specs.declared.board.Board.{Board}
 use Rattle.paths.specs.Order.{TopologicalOrder, standsBefore}
-use Rattle.paths.specs.Arrivals.{Passable}
+use Rattle.paths.specs.Checked.{Passable, Checked}
 use Rattle.paths.proofs.Before.{before-rank}
-use Rattle.steps.specs.Reduces.{Checked}
 use Rattle.run.specs.declared.side.Side.{Side}
 use Rattle.run.specs.declared.side.Side.the-variants.{Inputs, Outputs}
-use Rattle.run.specs.Comparing.{Pair}
+use Rattle.run.specs.Pairs.{Pair}
 use Rattle.run.specs.Running.{Ready}
 use Rattle.run.proofs.Lines.{side-below}
 use Rattle.run.proofs.TriedShares.{Trying, share-graph}
@@ -39,4 +38,4 @@ still-passable board t o Outputs a b k ok ready pair after h ok′ before is =
     let p = ready .order refl in
     let made = share-graph board t Outputs a b k ok after h in
     let rises = before-rank (p .order) a b (side-below board Outputs b (ok .lent .sized) (pair .other)) (true-is before) in
-    record { lent = ok′ .lent; order = subst (λ (g : Graph). TopologicalOrder (board .vertices) g o) (sym (made .1)) (order-kept (p .order) a b (made .0) rises); sound = ok′ .sound }
+    record { checked = ok′; order = subst (λ (g : Graph). TopologicalOrder (board .vertices) g o) (sym (made .1)) (order-kept (p .order) a b (made .0) rises) }

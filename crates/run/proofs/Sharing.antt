@@ -4,7 +4,7 @@ use mathlib.Core.Bool.{Bool}
 use mathlib.Core.List.{List, [], _∷_}
 use Prim.Native.Nat.{ℕ, _≤_}
 use lib.IntN.{ℤ}
-use lib.ListN.{length, drop}
+use lib.ListN.{length}
 use Rattle.timing.specs.Limits.{scratchCells}
 use Rattle.reduction.specs.Steps.{share-outputs}
 use Rattle.reduction.specs.Run.{Progress, Try, round, numbers}
@@ -15,7 +15,7 @@ use Rattle.run.specs.declared.side.Side.{Side}
 use Rattle.run.specs.declared.side.Side.the-variants.{Inputs, Outputs}
 use Rattle.run.specs.declared.share_tries.Tally.{Tally}
 use Rattle.run.specs.Sides.{firstOf, countOf, tryShare, shareTries}
-use Rattle.run.specs.Running.{progress, Running, Held, Ready, Counted, Reaches}
+use Rattle.run.specs.Running.{progress, Running, Held, Ready, Counted, RowsKept, Reaches}
 use Rattle.run.proofs.Moving.{running-on, held-on, same-length-on}
 
 pub share-try-gains : (m n N : ℕ) (side : Side) (s a b : ℕ) → Gains m n N (tryShare m n N side s a b)
@@ -26,46 +26,46 @@ pub share-tries-gain : (m n N : ℕ) (side : Side) (s : ℕ) → All (Gains m n 
 share-tries-gain m n N side s = all-pairs (Gains m n N) (tryShare m n N side s) (numbers (firstOf side m) (countOf side m n)) (numbers (firstOf side m) (countOf side m n)) (share-try-gains m n N side s)
 
 -- from table₀ with tries `all` to table with tries `left`
-pub record Sharing (b : Board) (M : List ℤ) (side : Side) (all : ℕ → List Try) (table₀ scratch₀ : List ℤ) (steps : ℕ) (left : ℕ → List Try) (table : List ℤ) (list : List ℕ) (scratch : List ℤ) (rich : List Bool) (tally : Tally) : Type 0 where
+pub record Sharing (b : Board) (M : List ℤ) (side : Side) (all : ℕ → List Try) (table₀ : List ℤ) (list₀ : List ℕ) (steps : ℕ) (left : ℕ → List Try) (table : List ℤ) (list words : List ℕ) (rich : List Bool) (tally : Tally) : Type 0 where
   pub running : Running b (progress table (tally .steps))
   pub held : Held b M table
   pub ready : Ready side b table list (tally .fresh)
   pub counted : Counted side b table rich
+  pub rows : RowsKept side b table words (tally .made)
   pub long : length table ≡ length table₀
-  pub scratch-long : length scratch ≡ length scratch₀
-  pub past : drop (scratchCells (b .vertices)) scratch ≡ drop (scratchCells (b .vertices)) scratch₀
+  pub same : side ≡ Inputs → list ≡ list₀
   pub way : (s : ℕ) → scratchCells (b .vertices) ≤ s → round (left s) (progress table (tally .steps)) ≡ round (all s) (progress table₀ steps)
 
-module _ {b : Board} {M : List ℤ} {side : Side} {table scratch : List ℤ} (tally : Tally) where
+module _ {b : Board} {M : List ℤ} {side : Side} {table : List ℤ} (tally : Tally) where
   -- nothing tried yet; the tries may be said in another way
-  pub sharing-none : {list : List ℕ} {rich : List Bool} (all left : ℕ → List Try) → ((s : ℕ) → all s ≡ left s) → Running b (progress table (tally .steps)) → Held b M table → Ready side b table list (tally .fresh) → Counted side b table rich
-      → Sharing b M side all table scratch (tally .steps) left table list scratch rich tally
-  sharing-none all left e run held ready counted = record {
+  pub sharing-none : {list words : List ℕ} {rich : List Bool} (all left : ℕ → List Try) → ((s : ℕ) → all s ≡ left s) → Running b (progress table (tally .steps)) → Held b M table → Ready side b table list (tally .fresh) → Counted side b table rich → RowsKept side b table words (tally .made)
+      → Sharing b M side all table list (tally .steps) left table list words rich tally
+  sharing-none all left e run held ready counted rows = record {
     running = run;
     held = held;
     ready = ready;
     counted = counted;
+    rows = rows;
     long = refl;
-    scratch-long = refl;
-    past = refl;
+    same = λ _. refl;
     way = λ s _. ap (λ (qs : List Try). round qs (progress table (tally .steps))) (sym (e s));
   }
 
   -- one try
-  pub sharing-one : (x y : ℕ) (all left : ℕ → List Try) → ((s : ℕ) → all s ≡ tryShare (b .inputs) (b .outputs) (b .vertices) side s x y ∷ left s) → Running b (progress table (tally .steps)) → Held b M table
-      → (table′ : List ℤ) (list′ : List ℕ) (scratch′ : List ℤ) (rich′ : List Bool) (tally′ : Tally)
+  pub sharing-one : {list : List ℕ} (x y : ℕ) (all left : ℕ → List Try) → ((s : ℕ) → all s ≡ tryShare (b .inputs) (b .outputs) (b .vertices) side s x y ∷ left s) → Running b (progress table (tally .steps)) → Held b M table
+      → (table′ : List ℤ) (list′ words′ : List ℕ) (rich′ : List Bool) (tally′ : Tally)
       → Reaches (b .vertices) (λ s. tryShare (b .inputs) (b .outputs) (b .vertices) side s x y ∷ []) (progress table (tally .steps)) (progress table′ (tally′ .steps))
-      → Ready side b table′ list′ (tally′ .fresh) → Counted side b table′ rich′ → length scratch′ ≡ length scratch → drop (scratchCells (b .vertices)) scratch′ ≡ drop (scratchCells (b .vertices)) scratch
-      → Sharing b M side all table scratch (tally .steps) left table′ list′ scratch′ rich′ tally′
+      → Ready side b table′ list′ (tally′ .fresh) → Counted side b table′ rich′ → RowsKept side b table′ words′ (tally′ .made) → (side ≡ Inputs → list′ ≡ list)
+      → Sharing b M side all table list (tally .steps) left table′ list′ words′ rich′ tally′
   unfolding round
-  sharing-one x y all left e run held table′ list′ scratch′ rich′ tally′ reaches ready counted size past = record {
+  sharing-one x y all left e run held table′ list′ words′ rich′ tally′ reaches ready counted rows same = record {
     running = running-on b q p p′ gain reaches run;
     held = held-on b q p p′ gain reaches M held;
     ready = ready;
     counted = counted;
+    rows = rows;
     long = same-length-on b q p p′ gain reaches;
-    scratch-long = size;
-    past = past;
+    same = same;
     way = λ s room. ap (round (left s)) (sym (reaches s room)) ∙ ap (λ (qs : List Try). round qs p) (sym (e s));
   }
     where
@@ -82,27 +82,27 @@ module _ {b : Board} {M : List ℤ} {side : Side} {table scratch : List ℤ} (ta
       gain s = (share-try-gains (b .inputs) (b .outputs) (b .vertices) side s x y, tt)
 
 -- one way after another
-pub sharing-on : {b : Board} {M : List ℤ} {side : Side} {all left left′ : ℕ → List Try} {table₀ scratch₀ : List ℤ} {steps : ℕ} {table : List ℤ} {list : List ℕ} {scratch : List ℤ} {rich : List Bool} {tally : Tally}
-    {table′ : List ℤ} {list′ : List ℕ} {scratch′ : List ℤ} {rich′ : List Bool} {tally′ : Tally}
-    → Sharing b M side all table₀ scratch₀ steps left table list scratch rich tally → Sharing b M side left table scratch (tally .steps) left′ table′ list′ scratch′ rich′ tally′
-    → Sharing b M side all table₀ scratch₀ steps left′ table′ list′ scratch′ rich′ tally′
+pub sharing-on : {b : Board} {M : List ℤ} {side : Side} {all left left′ : ℕ → List Try} {table₀ : List ℤ} {list₀ : List ℕ} {steps : ℕ} {table : List ℤ} {list words : List ℕ} {rich : List Bool} {tally : Tally}
+    {table′ : List ℤ} {list′ words′ : List ℕ} {rich′ : List Bool} {tally′ : Tally}
+    → Sharing b M side all table₀ list₀ steps left table list words rich tally → Sharing b M side left table list (tally .steps) left′ table′ list′ words′ rich′ tally′
+    → Sharing b M side all table₀ list₀ steps left′ table′ list′ words′ rich′ tally′
 sharing-on h k = record {
   running = k .running;
   held = k .held;
   ready = k .ready;
   counted = k .counted;
+  rows = k .rows;
   long = k .long ∙ h .long;
-  scratch-long = k .scratch-long ∙ h .scratch-long;
-  past = k .past ∙ h .past;
+  same = λ is. k .same is ∙ h .same is;
   way = λ s room. k .way s room ∙ h .way s room;
 }
 
 -- the same state, under other names
-pub sharing-is : {b : Board} {M : List ℤ} {side : Side} {all left : ℕ → List Try} {table₀ scratch₀ : List ℤ} {steps : ℕ} {table table′ : List ℤ} {list list′ : List ℕ} {scratch scratch′ : List ℤ} {rich rich′ : List Bool} {tally tally′ : Tally}
-    → table ≡ table′ → list ≡ list′ → scratch ≡ scratch′ → rich ≡ rich′ → tally ≡ tally′ → Sharing b M side all table₀ scratch₀ steps left table′ list′ scratch′ rich′ tally′ → Sharing b M side all table₀ scratch₀ steps left table list scratch rich tally
-sharing-is {b} {M} {side} {all} {left} {table₀} {scratch₀} {steps} {table} {table′} {list} {list′} {scratch} {scratch′} {rich} {rich′} {tally} {tally′} t l s r c h =
-    subst (λ (x : List ℤ). Sharing b M side all table₀ scratch₀ steps left x list scratch rich tally) (sym t)
-    (subst (λ (x : List ℕ). Sharing b M side all table₀ scratch₀ steps left table′ x scratch rich tally) (sym l)
-    (subst (λ (x : List ℤ). Sharing b M side all table₀ scratch₀ steps left table′ list′ x rich tally) (sym s)
-    (subst (λ (x : List Bool). Sharing b M side all table₀ scratch₀ steps left table′ list′ scratch′ x tally) (sym r)
-    (subst (λ (x : Tally). Sharing b M side all table₀ scratch₀ steps left table′ list′ scratch′ rich′ x) (sym c) h))))
+pub sharing-is : {b : Board} {M : List ℤ} {side : Side} {all left : ℕ → List Try} {table₀ : List ℤ} {list₀ : List ℕ} {steps : ℕ} {table table′ : List ℤ} {list list′ words words′ : List ℕ} {rich rich′ : List Bool} {tally tally′ : Tally}
+    → table ≡ table′ → list ≡ list′ → words ≡ words′ → rich ≡ rich′ → tally ≡ tally′ → Sharing b M side all table₀ list₀ steps left table′ list′ words′ rich′ tally′ → Sharing b M side all table₀ list₀ steps left table list words rich tally
+sharing-is {b} {M} {side} {all} {left} {table₀} {list₀} {steps} {table} {table′} {list} {list′} {words} {words′} {rich} {rich′} {tally} {tally′} t l s r c h =
+    subst (λ (x : List ℤ). Sharing b M side all table₀ list₀ steps left x list words rich tally) (sym t)
+    (subst (λ (x : List ℕ). Sharing b M side all table₀ list₀ steps left table′ x words rich tally) (sym l)
+    (subst (λ (x : List ℕ). Sharing b M side all table₀ list₀ steps left table′ list′ x rich tally) (sym s)
+    (subst (λ (x : List Bool). Sharing b M side all table₀ list₀ steps left table′ list′ words′ x tally) (sym r)
+    (subst (λ (x : Tally). Sharing b M side all table₀ list₀ steps left table′ list′ words′ rich′ x) (sym c) h))))

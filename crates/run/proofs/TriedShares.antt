@@ -18,7 +18,8 @@ use Rattle.reduction.proofs.Steps.{plan-better}
 use Rattle.reduction.proofs.Kept.{put-back}
 use Rattle.reduction.proofs.Rounds.{All, Gains}
 use Rattle.paths.specs.declared.board.Board.{Board}
-use Rattle.steps.specs.Reduces.{newTable, Checked}
+use Rattle.plans.specs.OnBoards.{tableBy}
+use Rattle.paths.specs.Checked.{Checked}
 use Rattle.run.specs.declared.side.Side.{Side}
 use Rattle.run.specs.declared.side.Side.the-variants.{Inputs, Outputs}
 use Rattle.run.specs.Sides.{shareStep, isRich, tryShare}
@@ -59,7 +60,7 @@ module _ (board : Board) (t : List ℤ) (side : Side) (a b k : ℕ) where
   put v = v then (λ e. accepted (shared side a b k g e)) then λ g′. accepted (withGraph N g′ t)
 
   abbrev pub Trying : List ℤ → Bool → Type 0
-  Trying after r = Tries (newTable (shareStep side a b k) t (board .inputs) (board .outputs) (board .vertices) (graphOf (board .vertices) t)) t after r
+  Trying after r = Tries (tableBy board (shareStep side a b k) t) t after r
 
   known : (v : Verdict ℤ) → verdict ≡ v → (after : List ℤ) (r : Bool) → Tries (put v) t after r → Trying after r
   known v e after r h = subst (λ (y : Verdict (List ℤ)). Tries y t after r) (sym (ap (λ (y : Verdict Graph). y then λ g′. accepted (withGraph N g′ t)) (share-plan m n N side a b k g) ∙ ap put e)) h

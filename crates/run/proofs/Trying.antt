@@ -9,7 +9,7 @@ use Rattle.reduction.specs.Steps.{Step}
 use Rattle.reduction.specs.Run.{round, tryStep}
 use Rattle.reduction.proofs.Run.{step-gains}
 use Rattle.paths.specs.declared.board.Board.{Board}
-use Rattle.steps.specs.Reduces.{newTable}
+use Rattle.plans.specs.OnBoards.{tableBy}
 use Rattle.run.specs.Running.{progress, Running, Tries, Reaches}
 use Rattle.run.proofs.Moving.{gained, moves, running-on}
 
@@ -18,7 +18,7 @@ pub counts : {r x : Bool} (c : ℕ) {d : ℕ} → r ≡ x → d ≡ c + gained x
 counts c e q = q ∙ ap (λ (y : Bool). c + gained y) (sym e)
 
 module _ {b : Board} {t : List ℤ} {c : ℕ} (h : Running b (progress t c)) (q : Step) (after : List ℤ) (r : Bool)
-    (k : Tries (newTable q t (b .inputs) (b .outputs) (b .vertices) (graphOf (b .vertices) t)) t after r) (d : ℕ) (e : d ≡ c + gained r) where
+    (k : Tries (tableBy b q t) t after r) (d : ℕ) (e : d ≡ c + gained r) where
   pub try-reaches : Reaches (b .vertices) (λ s. tryStep (b .inputs) (b .outputs) (b .vertices) s q ∷ []) (progress t c) (progress after d)
   unfolding round
   try-reaches s room = moves (h .checked) q after r k s c room ∙ sym (ap (progress after) e)

@@ -1,5 +1,5 @@
 pub mod Sides
-pub mod Comparing
+pub mod Pairs
 pub mod Running
 pub mod Accepted
 pub mod VertexSteps

@@ -1,14 +1,11 @@
 -- What a run's answer means, and what becomes of the table.
-use mathlib.Core.Path.{_≡_}
 use mathlib.Core.List.{List}
 use Prim.Native.Nat.{ℕ}
 use lib.IntN.{ℤ}
-use Rattle.graph.specs.Count.{arcs}
-use Rattle.timing.specs.Refusal.{number, Verdict, refused, accepted}
-use Rattle.timing.specs.Table.{graphOf}
+use Rattle.timing.specs.Refusal.{number, Verdict, refused, accepted, Answers}
 use Rattle.reduction.specs.Outcome.{Reduced}
-use Rattle.reduction.specs.Run.{reduce}
-use Rattle.steps.specs.Reduces.{tableAfter}
+use Rattle.reduction.specs.Run.{wholeRun}
+use Rattle.paths.specs.declared.board.Board.{Board}
 use Rattle.run.specs.declared.answer.Ran.{Ran}
 use Rattle.run.specs.declared.answer.Ran.the-variants as R
 
@@ -17,12 +14,10 @@ abbrev pub ranMeaning : Ran → List ℤ → Verdict Reduced
 ranMeaning (R.Accepted c a) table = accepted (record { table = table; steps = c; arcsLeft = a })
 ranMeaning (R.Refused r) table = refused (number r)
 
--- r and the table afterwards are what verdict v says
-pub record Runs (v : Verdict Reduced) (before after : List ℤ) (r : Ran) : Type 0 where
-  pub answer : ranMeaning r after ≡ v
-  pub table : after ≡ tableAfter v before
+-- r and the table afterwards are what v says
+abbrev pub Runs : Verdict Reduced → List ℤ → List ℤ → Ran → Type 0
+Runs = Answers ranMeaning (λ x. x .table)
 
--- a run on table t, which has passed its checks, with a scratch of s cells
-abbrev pub runOn : ℕ → List ℤ → ℕ → ℕ → ℕ → Verdict Reduced
-runOn s t m n N =
-    accepted (record { table = reduce m n N s t .table; steps = reduce m n N s t .steps; arcsLeft = arcs N (graphOf N (reduce m n N s t .table)) })
+-- a run on a board's table, with a scratch of s cells
+abbrev pub runOn : Board → ℕ → List ℤ → Verdict Reduced
+runOn b s t = accepted (wholeRun (b .inputs) (b .outputs) (b .vertices) s t)

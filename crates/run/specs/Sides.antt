@@ -1,15 +1,17 @@
 -- The two sides of the delay matrix: share inputs compares its rows, share outputs its columns.
 use mathlib.Core.Bool.{Bool}
-use mathlib.Core.List.{List}
+use mathlib.Core.List.{List, [], _∷_}
 use Prim.Native.Nat.{ℕ, _+_, _-_, _*_, _≤_, _<_}
-use lib.Dec.{leb}
+use lib.IntN.{ℤ}
 use Rattle.graph.specs.Delay.{Delay}
 use Rattle.graph.specs.Graph.{Graph}
-use Rattle.graph.specs.Count.{fanIn, fanOut}
 use Rattle.timing.specs.Delays.{matrix, column}
+use Rattle.reduction.specs.ShareInputs.{enoughOut}
+use Rattle.reduction.specs.ShareOutputs.{enoughIn}
 use Rattle.reduction.specs.Steps.{Step, share-inputs, share-outputs}
 use Rattle.reduction.specs.Run.{Try, numbers, pairs, tryStep, tryShareInputs}
 use Rattle.paths.specs.declared.board.Board.{Board}
+use Rattle.paths.specs.Board.{graphIn}
 use Rattle.run.specs.declared.side.Side.{Side}
 use Rattle.run.specs.declared.side.Side.the-variants.{Inputs, Outputs}
 
@@ -46,8 +48,8 @@ shareStep Outputs a b k = share-outputs a b
 
 -- whether vertex v has arcs enough to be the second of a share
 abbrev pub isRich : Side → ℕ → Graph → ℕ → Bool
-isRich Inputs N g v = leb 3 (fanOut N g v)
-isRich Outputs N g v = leb 2 (fanIn N g v)
+isRich Inputs N g v = enoughOut N g v
+isRich Outputs N g v = enoughIn N g v
 
 -- its tries in a round
 abbrev pub tryShare : ℕ → ℕ → ℕ → Side → ℕ → ℕ → ℕ → Try
@@ -57,3 +59,17 @@ tryShare m n N Outputs s a b = tryStep m n N s (share-outputs a b)
 abbrev pub shareTries : ℕ → ℕ → ℕ → Side → ℕ → List Try
 shareTries m n N side s =
     pairs (tryShare m n N side s) (numbers (firstOf side m) (countOf side m n)) (numbers (firstOf side m) (countOf side m n))
+
+-- on a board: all of them, and the try of one pair
+abbrev pub sideTries : Board → Side → ℕ → List Try
+sideTries b side = shareTries (b .inputs) (b .outputs) (b .vertices) side
+
+abbrev pub pairTry : Board → Side → ℕ → ℕ → ℕ → List Try
+pairTry b side x y s = tryShare (b .inputs) (b .outputs) (b .vertices) side s x y ∷ []
+
+-- the side's vertices end before this number
+abbrev pub endOf : Board → Side → ℕ
+endOf b side = firstOf side (b .inputs) + countOf side (b .inputs) (b .outputs)
+
+abbrev pub richOn : Board → Side → List ℤ → ℕ → Bool
+richOn b side t v = isRich side (b .vertices) (graphIn b t) v

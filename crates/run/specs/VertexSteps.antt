@@ -3,6 +3,7 @@ use mathlib.Core.List.{List, map}
 use Prim.Native.Nat.{ℕ, _+_, _-_}
 use Rattle.reduction.specs.Steps.{Step, shrink, merge-back}
 use Rattle.reduction.specs.Run.{Try, numbers, tryStep}
+use Rattle.paths.specs.declared.board.Board.{Board}
 use Rattle.run.specs.declared.vertex_tries.VertexStep.{VertexStep}
 use Rattle.run.specs.declared.vertex_tries.VertexStep.the-variants.{Shrink, MergeBack}
 
@@ -21,3 +22,10 @@ vertexCount MergeBack m n N = n
 
 abbrev pub vertexTries : ℕ → ℕ → ℕ → VertexStep → ℕ → List Try
 vertexTries m n N kind s = map (λ v. tryStep m n N s (vertexStep kind v)) (numbers (firstVertex kind m n) (vertexCount kind m n N))
+
+-- on a board
+abbrev pub kindTries : Board → VertexStep → ℕ → List Try
+kindTries b kind = vertexTries (b .inputs) (b .outputs) (b .vertices) kind
+
+abbrev pub vertexEnd : Board → VertexStep → ℕ
+vertexEnd b kind = firstVertex kind (b .inputs) (b .outputs) + vertexCount kind (b .inputs) (b .outputs) (b .vertices)

@@ -5,36 +5,37 @@ use paths::Board;
 use paths::board::Made;
 use paths::cells;
 use paths::checks;
-use paths::order;
+use paths::order::Order;
 use paths::queries;
+use paths::room;
 ghost use mathlib.Core.Path.{_≡_};
-ghost use Prim.Native.Nat.{_≤_};
-ghost use lib.ListN.{length, drop};
-ghost use Rattle.timing.specs.Limits.{maxVertices, scratchCells};
+ghost use lib.ListN.{length};
+ghost use Rattle.laws.specs.Lent.{was};
+ghost use Rattle.timing.specs.Limits.{maxVertices};
 ghost use Rattle.reduction.specs.Run.{runCall};
-ghost use Rattle.paths.specs.Arrivals.{Passable};
+ghost use Rattle.paths.specs.Checked.{Passable};
 ghost use Rattle.paths.specs.Queries.{ScratchAfter};
+ghost use Rattle.paths.specs.Board.{ScratchRoom, PastScratch};
 ghost use Rattle.run.specs.Runs.{Runs, runOn};
 
 // Rounds until one accepts nothing. Each accepted step costs an arc, so that there is such a round.
-fn rounds(
-    board: Board,
-    table: &mut [i32],
-    list: &mut [u8; Board::MAX_VERTICES],
-    scratch: &mut [i64],
-) -> Ran
-    requires { ⌜ Passable board (now table) (now list) × (length (now list) ≡ maxVertices) × (scratchCells (board .vertices) ≤ length (now scratch)) ⌝ }
-    ensures { λ r. ⌜ Runs (runOn (length (now (scratch .entry))) (now (table .entry)) (board .inputs) (board .outputs) (board .vertices)) (now (table .entry)) (now (table .exit)) r ⌝ }
-    ensures { λ _. ⌜ drop (scratchCells (board .vertices)) (now (scratch .exit)) ≡ drop (scratchCells (board .vertices)) (now (scratch .entry)) ⌝ }
+fn rounds(board: Board, table: &mut [i32], order: &mut Order, scratch: &mut [i64]) -> Ran
+    requires { ⌜ Passable board (now table) (now order) ⌝ }
+    requires { ⌜ length (now order) ≡ maxVertices ⌝ }
+    requires { ⌜ ScratchRoom board (now scratch) ⌝ }
+    ensures { λ r. ⌜ Runs (runOn board (length (was scratch)) (was table)) (was table) (now (table .exit)) r ⌝ }
+    ensures { λ _. ⌜ PastScratch board (was scratch) (now (scratch .exit)) ⌝ }
 {
     let mut matrix = [0i64; Board::MAX_PAIRS];
-    queries::fill_matrix(board, table, list, scratch, &mut matrix);
+    queries::fill_matrix(board, table, order, scratch, &mut matrix);
     let mut steps = 0;
     let mut more = true;
+    let mut sorted = true;
     while more {
-        let after = round::round(board, table, list, scratch, &matrix, steps);
+        let after = round::round(board, table, order, scratch, &matrix, sorted, steps);
         more = after != steps;
         steps = after;
+        sorted = false;
     }
     let left = cells::arcs(board, table);
     Ran::Accepted(steps, left)
@@ -48,13 +49,13 @@ pub fn run(
     table: &mut [i32],
     scratch: &mut [i64],
 ) -> Ran
-    ensures { λ r. ⌜ Runs (runCall inputs outputs vertices (length (now (scratch .entry))) (now (table .entry))) (now (table .entry)) (now (table .exit)) r ⌝ }
-    ensures { λ _. ⌜ ScratchAfter inputs outputs vertices (now (table .entry)) (now (scratch .entry)) (now (scratch .exit)) ⌝ }
+    ensures { λ r. ⌜ Runs (runCall inputs outputs vertices (length (was scratch)) (was table)) (was table) (now (table .exit)) r ⌝ }
+    ensures { λ _. ⌜ ScratchAfter inputs outputs vertices (was table) (was scratch) (now (scratch .exit)) ⌝ }
 {
-    let mut list = order::bytes();
-    let lent = checks::checked(inputs, outputs, vertices, table, scratch.len(), &mut list);
+    let mut order = room::vertex_bytes();
+    let lent = checks::checked(inputs, outputs, vertices, table, scratch.len(), &mut order);
     match lent {
-        Made::Board(board) => rounds(board, table, &mut list, scratch),
+        Made::Board(board) => rounds(board, table, &mut order, scratch),
         Made::Refused(r) => Ran::Refused(r),
     }
 }

@@ -6,41 +6,54 @@ use crate::share_tries::Tally;
 use crate::side;
 use crate::side::Side;
 use paths::Board;
+use paths::order::Order;
 use plans::common;
 use plans::common::Seen;
 use plans::verdict::Difference;
 use timing::Refusal;
 ghost use mathlib.Core.Path.{_≡_};
-ghost use Prim.Native.Nat.{_≤_};
-ghost use lib.ListN.{length, drop};
-ghost use Rattle.timing.specs.Limits.{maxVertices, scratchCells};
-ghost use Rattle.paths.specs.Arrivals.{Passable};
-ghost use Rattle.run.specs.declared.side.Side.the-variants.{Outputs};
-ghost use Rattle.run.specs.Sides.{shareTries};
-ghost use Rattle.run.specs.Running.{progress, Running, Held, Reaches};
+ghost use mathlib.Core.Bool.{true};
+ghost use lib.ListN.{length};
+ghost use Rattle.laws.specs.Lent.{was};
+ghost use Rattle.timing.specs.Limits.{maxVertices};
+ghost use Rattle.paths.specs.Checked.{Passable};
+ghost use Rattle.run.specs.declared.side.Side.the-variants.{Inputs, Outputs};
+ghost use Rattle.run.specs.Running.{progress, Running, Held, Leads};
+ghost use Rattle.run.specs.Sides.{sideTries};
 
 // All tries of a side, each on the table as it then is. Too few arcs at b refuse a pair before anything is compared; then the first entry at which
-// the difference is another settles it.
+// the difference is another settles it. `still`: the order is one of the table's.
 pub fn shares(
     board: Board,
     table: &mut [i32],
-    list: &mut [u8; Board::MAX_VERTICES],
-    scratch: &mut [i64],
+    order: &mut Order,
     matrix: &[i64],
     side: Side,
+    still: bool,
     steps: usize,
 ) -> usize
-    requires { ⌜ Running board (progress (now table) steps) × Held board (now matrix) (now table) × (length (now list) ≡ maxVertices) × (scratchCells (board .vertices) ≤ length (now scratch)) ⌝ }
-    ensures { λ r. ⌜ Reaches (board .vertices) (shareTries (board .inputs) (board .outputs) (board .vertices) side) (progress (now (table .entry)) steps) (progress (now (table .exit)) r) ⌝ }
-    ensures { λ _. ⌜ (length (now (list .exit)) ≡ maxVertices) × (side ≡ Outputs → Passable board (now (table .exit)) (now (list .exit))) ⌝ }
-    ensures { λ _. ⌜ drop (scratchCells (board .vertices)) (now (scratch .exit)) ≡ drop (scratchCells (board .vertices)) (now (scratch .entry)) ⌝ }
+    requires { ⌜ Running board (progress (now table) steps) ⌝ }
+    requires { ⌜ Held board (now matrix) (now table) ⌝ }
+    requires { ⌜ length (now order) ≡ maxVertices ⌝ }
+    requires { ⌜ (still ≡ true → side ≡ Outputs → Passable board (now table) (now order)) ⌝ }
+    ensures { λ r. ⌜ Leads board (sideTries board side) (was table) steps (now (table .exit)) r ⌝ }
+    ensures { λ _. ⌜ (length (now (order .exit)) ≡ maxVertices) × (side ≡ Outputs → Passable board (now (table .exit)) (now (order .exit))) ⌝ }
+    ensures { λ _. ⌜ (side ≡ Inputs → now (order .exit) ≡ was order) ⌝ }
 {
     let from = side::first(board, side);
     let end = side::end(board, side);
     let across = side::across(board, side);
-    let fresh = fresh::renew(board, table, list, side, false);
+    let fresh = fresh::renew(board, table, order, side, still);
+    if fresh::is_full(board, side, fresh) {
+        return steps;
+    }
     let mut rich = counts::rich_ones(board, table, side);
-    let mut tally = Tally { steps, fresh };
+    let mut words = reach::words();
+    let mut tally = Tally {
+        steps,
+        fresh,
+        made: false,
+    };
     let mut a = from;
     'firsts: while a < end {
         let mut b = from;
@@ -64,9 +77,9 @@ pub fn shares(
                     tally = share_tries::try_share(
                         board,
                         table,
-                        list,
+                        order,
                         &mut rich,
-                        scratch,
+                        &mut words,
                         side,
                         a,
                         b,

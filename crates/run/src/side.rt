@@ -1,9 +1,9 @@
 // The two sides of the delay matrix: share inputs compares its rows, share outputs its columns.
 use paths::Board;
 ghost use mathlib.Core.Path.{_≡_};
-ghost use Prim.Native.Nat.{_+_, _<_};
+ghost use Prim.Native.Nat.{_<_};
 ghost use Rattle.paths.specs.Board.{Sized};
-ghost use Rattle.run.specs.Sides.{OnSide, firstOf, countOf, acrossOf, placeOf};
+ghost use Rattle.run.specs.Sides.{OnSide, firstOf, acrossOf, placeOf, endOf};
 
 pub enum Side {
     Inputs,
@@ -23,7 +23,7 @@ pub fn first(board: Board, side: Side) -> usize
 // The number after its last.
 pub fn end(board: Board, side: Side) -> usize
     requires { ⌜ Sized board ⌝ }
-    ensures { λ r. ⌜ r ≡ firstOf side (board .inputs) + countOf side (board .inputs) (board .outputs) ⌝ }
+    ensures { λ r. ⌜ r ≡ endOf board side ⌝ }
 {
     match side {
         Side::Inputs => board.inputs,
@@ -43,7 +43,9 @@ pub fn across(board: Board, side: Side) -> usize
 
 // Where the matrix has the j-th entry of vertex v.
 pub fn place(board: Board, side: Side, v: usize, j: usize) -> usize
-    requires { ⌜ Sized board × OnSide board side v × (j < acrossOf side (board .inputs) (board .outputs)) ⌝ }
+    requires { ⌜ Sized board ⌝ }
+    requires { ⌜ OnSide board side v ⌝ }
+    requires { ⌜ j < acrossOf side (board .inputs) (board .outputs) ⌝ }
     ensures { λ r. ⌜ r ≡ placeOf side (board .inputs) (board .outputs) v j ⌝ }
 {
     let m = board.inputs;

@@ -3,12 +3,11 @@ use crate::accepted;
 use paths::Board;
 use steps::apply;
 ghost use mathlib.Core.Path.{_≡_};
-ghost use Prim.Native.Nat.{_+_};
-ghost use Rattle.timing.specs.Table.{graphOf};
+ghost use Rattle.laws.specs.Lent.{was};
 ghost use Rattle.paths.specs.Board.{Sized};
-ghost use Rattle.steps.specs.Reduces.{newTable, Checked};
-ghost use Rattle.run.specs.Running.{progress, Running, Tries, Reaches};
-ghost use Rattle.run.specs.VertexSteps.{vertexStep, firstVertex, vertexCount, vertexTries};
+ghost use Rattle.paths.specs.Checked.{Checked};
+ghost use Rattle.run.specs.Running.{progress, Running, TriesStep, Leads};
+ghost use Rattle.run.specs.VertexSteps.{vertexStep, firstVertex, kindTries, vertexEnd};
 
 pub enum VertexStep {
     Shrink,
@@ -27,7 +26,7 @@ fn first(board: Board, kind: VertexStep) -> usize
 
 fn end(board: Board, kind: VertexStep) -> usize
     requires { ⌜ Sized board ⌝ }
-    ensures { λ r. ⌜ r ≡ firstVertex kind (board .inputs) (board .outputs) + vertexCount kind (board .inputs) (board .outputs) (board .vertices) ⌝ }
+    ensures { λ r. ⌜ r ≡ vertexEnd board kind ⌝ }
 {
     match kind {
         VertexStep::Shrink => board.vertices,
@@ -37,7 +36,7 @@ fn end(board: Board, kind: VertexStep) -> usize
 
 fn try_vertex(board: Board, table: &mut [i32], kind: VertexStep, v: usize) -> bool
     requires { ⌜ Checked board (now table) ⌝ }
-    ensures { λ r. ⌜ Tries (newTable (vertexStep kind v) (now (table .entry)) (board .inputs) (board .outputs) (board .vertices) (graphOf (board .vertices) (now (table .entry)))) (now (table .entry)) (now (table .exit)) r ⌝ }
+    ensures { λ r. ⌜ TriesStep board (vertexStep kind v) (was table) (now (table .exit)) r ⌝ }
 {
     match kind {
         VertexStep::Shrink => accepted::accepted(apply::apply_shrink(board, table, v)),
@@ -48,7 +47,7 @@ fn try_vertex(board: Board, table: &mut [i32], kind: VertexStep, v: usize) -> bo
 // All tries of a kind, each on the table as it then is.
 pub fn vertex_tries(board: Board, table: &mut [i32], kind: VertexStep, steps: usize) -> usize
     requires { ⌜ Running board (progress (now table) steps) ⌝ }
-    ensures { λ r. ⌜ Reaches (board .vertices) (vertexTries (board .inputs) (board .outputs) (board .vertices) kind) (progress (now (table .entry)) steps) (progress (now (table .exit)) r) ⌝ }
+    ensures { λ r. ⌜ Leads board (kindTries board kind) (was table) steps (now (table .exit)) r ⌝ }
 {
     let end = end(board, kind);
     let mut done = steps;

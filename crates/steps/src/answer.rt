@@ -4,6 +4,7 @@ use paths::cells;
 use plans::verdict::Fit;
 use timing::Refusal;
 ghost use mathlib.Core.Path.{_≡_};
+ghost use Rattle.laws.specs.Lent.{was};
 ghost use Rattle.paths.specs.Board.{Lent};
 ghost use Rattle.steps.specs.Reduces.{counted};
 
@@ -16,7 +17,7 @@ pub enum Answer {
 // The answer to a step that left this table.
 pub fn counted(board: Board, table: &[i32], fit: Fit) -> Answer
     requires { ⌜ Lent board (now table) ⌝ }
-    ensures { λ r. ⌜ r ≡ counted (board .vertices) fit (now (table .entry)) ⌝ }
+    ensures { λ r. ⌜ r ≡ counted (board .vertices) fit (was table) ⌝ }
 {
     match fit {
         Fit::Accepted => Answer::Left(cells::arcs(board, table)),

@@ -1,31 +1,31 @@
 // Each step on a table that has passed its checks: its conditions, then its new table. No arc is counted here.
 use paths::Board;
 use paths::cells;
+use paths::order::Order;
 use plans::merge_back;
-use plans::share;
+use plans::rewrite;
+use plans::rewrite::Rewriting;
+use plans::share_inputs;
+use plans::share_outputs;
 use plans::shrink;
-use plans::star;
 use plans::verdict::Difference;
 use plans::verdict::Driven;
 use plans::verdict::Fit;
-use pruning::prune;
-ghost use mathlib.Core.Path.{_≡_};
-ghost use Prim.Native.Nat.{_≤_};
-ghost use lib.ListN.{length, drop};
-ghost use Rattle.timing.specs.Limits.{scratchCells};
-ghost use Rattle.timing.specs.Table.{graphOf};
-ghost use Rattle.reduction.specs.Steps.{shrink, share-inputs, share-outputs, prune, merge-back, star};
-ghost use Rattle.paths.specs.Arrivals.{Passable};
-ghost use Rattle.steps.specs.Reduces.{Applies, newTable, Checked};
+use stars::star;
+ghost use Rattle.laws.specs.Lent.{was};
+ghost use Rattle.reduction.specs.Steps.{shrink, share-inputs, share-outputs, merge-back, star};
+ghost use Rattle.paths.specs.Checked.{Passable, Checked};
+ghost use Rattle.paths.specs.Board.{ScratchRoom, PastScratch};
+ghost use Rattle.plans.specs.OnBoards.{Applies};
 
 pub fn apply_shrink(board: Board, table: &mut [i32], k: usize) -> Fit
     requires { ⌜ Checked board (now table) ⌝ }
-    ensures { λ r. ⌜ Applies (newTable (shrink k) (now (table .entry)) (board .inputs) (board .outputs) (board .vertices) (graphOf (board .vertices) (now (table .entry)))) (now (table .entry)) (now (table .exit)) r ⌝ }
+    ensures { λ r. ⌜ Applies board (shrink k) (was table) (now (table .exit)) r ⌝ }
 {
     let fit = shrink::shrink_verdict(board, table, k);
     match fit {
         Fit::Accepted => {
-            shrink::shrink_apply(board, table, k);
+            rewrite::rewrite(board, table, Rewriting::Shrink(k));
             Fit::Accepted
         }
         Fit::Refused(r) => Fit::Refused(r),
@@ -34,12 +34,12 @@ pub fn apply_shrink(board: Board, table: &mut [i32], k: usize) -> Fit
 
 pub fn apply_merge_back(board: Board, table: &mut [i32], o: usize) -> Fit
     requires { ⌜ Checked board (now table) ⌝ }
-    ensures { λ r. ⌜ Applies (newTable (merge-back o) (now (table .entry)) (board .inputs) (board .outputs) (board .vertices) (graphOf (board .vertices) (now (table .entry)))) (now (table .entry)) (now (table .exit)) r ⌝ }
+    ensures { λ r. ⌜ Applies board (merge-back o) (was table) (now (table .exit)) r ⌝ }
 {
     let driven = merge_back::merge_back_verdict(board, table, o);
     match driven {
         Driven::By(v, d) => {
-            merge_back::merge_back_apply(board, table, v, o, d);
+            rewrite::rewrite(board, table, Rewriting::MergeBack(v, o, d));
             Fit::Accepted
         }
         Driven::Refused(r) => Fit::Refused(r),
@@ -54,7 +54,7 @@ pub fn apply_star(
     k: usize,
 ) -> Fit
     requires { ⌜ Checked board (now table) ⌝ }
-    ensures { λ r. ⌜ Applies (newTable (star (now (sources .entry)) (now (targets .entry)) k) (now (table .entry)) (board .inputs) (board .outputs) (board .vertices) (graphOf (board .vertices) (now (table .entry)))) (now (table .entry)) (now (table .exit)) r ⌝ }
+    ensures { λ r. ⌜ Applies board (star (was sources) (was targets) k) (was table) (now (table .exit)) r ⌝ }
 {
     let fit = star::star_verdict(board, table, sources, targets, k);
     match fit {
@@ -69,20 +69,21 @@ pub fn apply_star(
 pub fn apply_share_inputs(
     board: Board,
     table: &mut [i32],
-    list: &[u8; Board::MAX_VERTICES],
+    order: &Order,
     scratch: &mut [i64],
     a: usize,
     b: usize,
     k: usize,
 ) -> Fit
-    requires { ⌜ Passable board (now table) (now list) × (scratchCells (board .vertices) ≤ length (now scratch)) ⌝ }
-    ensures { λ r. ⌜ Applies (newTable (share-inputs a b k) (now (table .entry)) (board .inputs) (board .outputs) (board .vertices) (graphOf (board .vertices) (now (table .entry)))) (now (table .entry)) (now (table .exit)) r ⌝ }
-    ensures { λ _. ⌜ drop (scratchCells (board .vertices)) (now (scratch .exit)) ≡ drop (scratchCells (board .vertices)) (now (scratch .entry)) ⌝ }
+    requires { ⌜ Passable board (now table) (now order) × (ScratchRoom board (now scratch)) ⌝ }
+    ensures { λ r. ⌜ Applies board (share-inputs a b k) (was table) (now (table .exit)) r ⌝ }
+    ensures { λ _. ⌜ PastScratch board (was scratch) (now (scratch .exit)) ⌝ }
 {
-    let difference = share::share_inputs_verdict(board, table, list, scratch, a, b, k);
+    let difference = share_inputs::share_inputs_verdict(board, table, order, scratch, a, b, k);
     match difference {
         Difference::Common(e) => {
-            share::share_inputs_apply(board, table, a, b, k, cells::narrow(e));
+            let d = cells::narrow(e);
+            rewrite::rewrite(board, table, Rewriting::ShareInputs(a, b, k, d));
             Fit::Accepted
         }
         Difference::Refused(r) => Fit::Refused(r),
@@ -92,34 +93,22 @@ pub fn apply_share_inputs(
 pub fn apply_share_outputs(
     board: Board,
     table: &mut [i32],
-    list: &[u8; Board::MAX_VERTICES],
+    order: &Order,
     scratch: &mut [i64],
     a: usize,
     b: usize,
 ) -> Fit
-    requires { ⌜ Passable board (now table) (now list) × (scratchCells (board .vertices) ≤ length (now scratch)) ⌝ }
-    ensures { λ r. ⌜ Applies (newTable (share-outputs a b) (now (table .entry)) (board .inputs) (board .outputs) (board .vertices) (graphOf (board .vertices) (now (table .entry)))) (now (table .entry)) (now (table .exit)) r ⌝ }
-    ensures { λ _. ⌜ drop (scratchCells (board .vertices)) (now (scratch .exit)) ≡ drop (scratchCells (board .vertices)) (now (scratch .entry)) ⌝ }
+    requires { ⌜ Passable board (now table) (now order) × (ScratchRoom board (now scratch)) ⌝ }
+    ensures { λ r. ⌜ Applies board (share-outputs a b) (was table) (now (table .exit)) r ⌝ }
+    ensures { λ _. ⌜ PastScratch board (was scratch) (now (scratch .exit)) ⌝ }
 {
-    let difference = share::share_outputs_verdict(board, table, list, scratch, a, b);
+    let difference = share_outputs::share_outputs_verdict(board, table, order, scratch, a, b);
     match difference {
         Difference::Common(e) => {
-            share::share_outputs_apply(board, table, a, b, cells::narrow(e));
+            let d = cells::narrow(e);
+            rewrite::rewrite(board, table, Rewriting::ShareOutputs(a, b, d));
             Fit::Accepted
         }
         Difference::Refused(r) => Fit::Refused(r),
     }
-}
-
-pub fn apply_prune(
-    board: Board,
-    table: &mut [i32],
-    list: &[u8; Board::MAX_VERTICES],
-    scratch: &mut [i64],
-) -> Fit
-    requires { ⌜ Passable board (now table) (now list) × (scratchCells (board .vertices) ≤ length (now scratch)) ⌝ }
-    ensures { λ r. ⌜ Applies (newTable prune (now (table .entry)) (board .inputs) (board .outputs) (board .vertices) (graphOf (board .vertices) (now (table .entry)))) (now (table .entry)) (now (table .exit)) r ⌝ }
-    ensures { λ _. ⌜ drop (scratchCells (board .vertices)) (now (scratch .exit)) ≡ drop (scratchCells (board .vertices)) (now (scratch .entry)) ⌝ }
-{
-    prune::prune_step(board, table, list, scratch)
 }

@@ -6,10 +6,10 @@ use crate::step;
 use crate::step::Step;
 use paths::board::Made;
 use paths::checks;
-use paths::order;
-ghost use lib.ListN.{length};
-ghost use Rattle.paths.specs.Queries.{ScratchAfter};
+use paths::room;
+ghost use Rattle.laws.specs.Lent.{was, size};
 ghost use Rattle.reduction.specs.Steps.{shrink, share-inputs, share-outputs, prune, merge-back, star, stepCall};
+ghost use Rattle.paths.specs.Queries.{ScratchAfter};
 ghost use Rattle.steps.specs.Reduces.{Reduces, stepMeaning};
 
 // The checks, then one of the five steps of the automatic run.
@@ -21,14 +21,14 @@ pub fn reduce(
     scratch: &mut [i64],
     step: Step,
 ) -> Answer
-    ensures { λ r. ⌜ Reduces (stepCall inputs outputs vertices (length (now (scratch .entry))) (stepMeaning step) (now (table .entry))) (now (table .entry)) (now (table .exit)) r ⌝ }
-    ensures { λ _. ⌜ ScratchAfter inputs outputs vertices (now (table .entry)) (now (scratch .entry)) (now (scratch .exit)) ⌝ }
+    ensures { λ r. ⌜ Reduces (stepCall inputs outputs vertices (size scratch) (stepMeaning step) (was table)) (was table) (now (table .exit)) r ⌝ }
+    ensures { λ _. ⌜ ScratchAfter inputs outputs vertices (was table) (was scratch) (now (scratch .exit)) ⌝ }
 {
-    let mut list = order::bytes();
-    let lent = checks::checked(inputs, outputs, vertices, table, scratch.len(), &mut list);
+    let mut order = room::vertex_bytes();
+    let lent = checks::checked(inputs, outputs, vertices, table, scratch.len(), &mut order);
     match lent {
         Made::Board(board) => {
-            let fit = step::apply_step(board, table, &list, scratch, step);
+            let fit = step::apply_step(board, table, &order, scratch, step);
             answer::counted(board, table, fit)
         }
         Made::Refused(r) => Answer::Refused(r),
@@ -44,8 +44,8 @@ pub fn shrink(
     scratch: &mut [i64],
     k: usize,
 ) -> Answer
-    ensures { λ r. ⌜ Reduces (stepCall inputs outputs vertices (length (now (scratch .entry))) (shrink k) (now (table .entry))) (now (table .entry)) (now (table .exit)) r ⌝ }
-    ensures { λ _. ⌜ ScratchAfter inputs outputs vertices (now (table .entry)) (now (scratch .entry)) (now (scratch .exit)) ⌝ }
+    ensures { λ r. ⌜ Reduces (stepCall inputs outputs vertices (size scratch) (shrink k) (was table)) (was table) (now (table .exit)) r ⌝ }
+    ensures { λ _. ⌜ ScratchAfter inputs outputs vertices (was table) (was scratch) (now (scratch .exit)) ⌝ }
 {
     reduce(inputs, outputs, vertices, table, scratch, Step::Shrink(k))
 }
@@ -61,8 +61,8 @@ pub fn share_inputs(
     b: usize,
     k: usize,
 ) -> Answer
-    ensures { λ r. ⌜ Reduces (stepCall inputs outputs vertices (length (now (scratch .entry))) (share-inputs a b k) (now (table .entry))) (now (table .entry)) (now (table .exit)) r ⌝ }
-    ensures { λ _. ⌜ ScratchAfter inputs outputs vertices (now (table .entry)) (now (scratch .entry)) (now (scratch .exit)) ⌝ }
+    ensures { λ r. ⌜ Reduces (stepCall inputs outputs vertices (size scratch) (share-inputs a b k) (was table)) (was table) (now (table .exit)) r ⌝ }
+    ensures { λ _. ⌜ ScratchAfter inputs outputs vertices (was table) (was scratch) (now (scratch .exit)) ⌝ }
 {
     reduce(
         inputs,
@@ -84,8 +84,8 @@ pub fn share_outputs(
     a: usize,
     b: usize,
 ) -> Answer
-    ensures { λ r. ⌜ Reduces (stepCall inputs outputs vertices (length (now (scratch .entry))) (share-outputs a b) (now (table .entry))) (now (table .entry)) (now (table .exit)) r ⌝ }
-    ensures { λ _. ⌜ ScratchAfter inputs outputs vertices (now (table .entry)) (now (scratch .entry)) (now (scratch .exit)) ⌝ }
+    ensures { λ r. ⌜ Reduces (stepCall inputs outputs vertices (size scratch) (share-outputs a b) (was table)) (was table) (now (table .exit)) r ⌝ }
+    ensures { λ _. ⌜ ScratchAfter inputs outputs vertices (was table) (was scratch) (now (scratch .exit)) ⌝ }
 {
     reduce(
         inputs,
@@ -105,8 +105,8 @@ pub fn prune(
     table: &mut [i32],
     scratch: &mut [i64],
 ) -> Answer
-    ensures { λ r. ⌜ Reduces (stepCall inputs outputs vertices (length (now (scratch .entry))) prune (now (table .entry))) (now (table .entry)) (now (table .exit)) r ⌝ }
-    ensures { λ _. ⌜ ScratchAfter inputs outputs vertices (now (table .entry)) (now (scratch .entry)) (now (scratch .exit)) ⌝ }
+    ensures { λ r. ⌜ Reduces (stepCall inputs outputs vertices (size scratch) prune (was table)) (was table) (now (table .exit)) r ⌝ }
+    ensures { λ _. ⌜ ScratchAfter inputs outputs vertices (was table) (was scratch) (now (scratch .exit)) ⌝ }
 {
     reduce(inputs, outputs, vertices, table, scratch, Step::Prune)
 }
@@ -120,8 +120,8 @@ pub fn merge_back(
     scratch: &mut [i64],
     o: usize,
 ) -> Answer
-    ensures { λ r. ⌜ Reduces (stepCall inputs outputs vertices (length (now (scratch .entry))) (merge-back o) (now (table .entry))) (now (table .entry)) (now (table .exit)) r ⌝ }
-    ensures { λ _. ⌜ ScratchAfter inputs outputs vertices (now (table .entry)) (now (scratch .entry)) (now (scratch .exit)) ⌝ }
+    ensures { λ r. ⌜ Reduces (stepCall inputs outputs vertices (size scratch) (merge-back o) (was table)) (was table) (now (table .exit)) r ⌝ }
+    ensures { λ _. ⌜ ScratchAfter inputs outputs vertices (was table) (was scratch) (now (scratch .exit)) ⌝ }
 {
     reduce(
         inputs,
@@ -144,11 +144,11 @@ pub fn star(
     targets: &[usize],
     k: usize,
 ) -> Answer
-    ensures { λ r. ⌜ Reduces (stepCall inputs outputs vertices (length (now (scratch .entry))) (star (now (sources .entry)) (now (targets .entry)) k) (now (table .entry))) (now (table .entry)) (now (table .exit)) r ⌝ }
-    ensures { λ _. ⌜ ScratchAfter inputs outputs vertices (now (table .entry)) (now (scratch .entry)) (now (scratch .exit)) ⌝ }
+    ensures { λ r. ⌜ Reduces (stepCall inputs outputs vertices (size scratch) (star (was sources) (was targets) k) (was table)) (was table) (now (table .exit)) r ⌝ }
+    ensures { λ _. ⌜ ScratchAfter inputs outputs vertices (was table) (was scratch) (now (scratch .exit)) ⌝ }
 {
-    let mut list = order::bytes();
-    let lent = checks::checked(inputs, outputs, vertices, table, scratch.len(), &mut list);
+    let mut order = room::vertex_bytes();
+    let lent = checks::checked(inputs, outputs, vertices, table, scratch.len(), &mut order);
     match lent {
         Made::Board(board) => {
             let fit = apply::apply_star(board, table, sources, targets, k);

@@ -1,5 +1,4 @@
 // Reads a board file from standard input, runs the automatic run on it, and prints the board, its arcs and the counts, or the refusal.
-use files::text;
 
 fn main() {
     // No more than these bytes are read; a failed read counts as the end.

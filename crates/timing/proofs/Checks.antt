@@ -1,5 +1,5 @@
--- A graph that has passed the checks, as facts: `Sound`. The checks give it, and it gives the checks.
-use mathlib.Core.Path.{_≡_, sym, _∙_}
+-- The checks give `Sound`, and it gives the checks.
+use mathlib.Core.Path.{_≡_, sym, ap, _∙_}
 use mathlib.Core.Logic.{_⊎_, inl, inr}
 use mathlib.Core.Bool.{Bool, true, false, not, _&&_}
 use mathlib.Core.List.{List}
@@ -10,31 +10,20 @@ use lib.IntN.{ℤ}
 use Rattle.laws.specs.Bounded.{every}
 use Rattle.laws.proofs.Booleans.{and-i, and-e}
 use Rattle.laws.proofs.Bounded.{every-at, every-all}
-use Rattle.graph.specs.Delay.{Delay, absent, present}
+use Rattle.graph.specs.Delay.{absent, present}
 use Rattle.graph.specs.Graph.{Graph, Acyclic, longest}
 use Rattle.graph.proofs.Presence.{absent-or, absent-unless, not-present}
 use Rattle.graph.proofs.Longest.{Within}
 use Rattle.graph.proofs.Cycle.{test-acyclic, acyclic-test}
 use Rattle.timing.specs.declared.Refusal.the-variants.{Sizes, TableShort, ScratchShort, OddCell, ArcIntoInput, Cycle}
 use Rattle.timing.specs.Limits.{maxVertices, delayLimit, fits}
-use Rattle.timing.specs.Refusal.{accepted}
+use Rattle.timing.specs.Refusal.{Verdict, accepted, require, _then_}
 use Rattle.timing.specs.Table.{graphOf}
-use Rattle.timing.specs.Checks.{sizesFit, tableFits, scratchFits, cellsFit, noArcIntoInput, noCycle, checked, passes}
-use Rattle.timing.proofs.Verdict.{require-accepted, accepted-require, same-accepted}
+use Rattle.timing.specs.Sound.{LegalArc, Sound}
+use Rattle.timing.specs.Checks.{sizesFit, tableFits, scratchFits, cellsFit, noArcIntoInput, noCycle, memoryChecked, arcsChecked, checked, passes}
+use Rattle.timing.proofs.Verdict.{require-accepted, accepted-require, then-accepted, same-accepted}
 use Rattle.timing.proofs.Limits.{fits-absent}
 use Rattle.timing.proofs.Table.{graphOf-within}
-
--- an arc that a table may have
-pub record LegalArc (m N u v : ℕ) (d : Delay) : Type 0 where
-  pub from-below : u < N
-  pub to-below : v < N
-  pub not-input : m ≤ v
-  pub in-range : T (fits delayLimit d)
-
-pub record Sound (m n N : ℕ) (g : Graph) : Type 0 where
-  pub legal : (u v : ℕ) → T (present (g u v)) → LegalArc m N u v (g u v)
-  pub acyclic : Acyclic g
-  pub room : m + n ≤ N
 
 module _ {m n N : ℕ} {g : Graph} (s : Sound m n N g) where
   pub sound-within : Within N g
@@ -115,16 +104,16 @@ unfolding noCycle
 acyclic-noCycle N g a = every-all N (λ v. not (present (longest g N v v))) (λ v _. not-T (present (longest g N v v)) (not-present (longest g N v v) (acyclic-test N a v)))
 
 module _ {m n N : ℕ} {g : Graph} (s : Sound m n N g) where
-  sound-cells : T (cellsFit N g)
+  pub sound-cells : T (cellsFit N g)
   unfolding cellsFit
   sound-cells = every-all N (λ u. every N (λ v. fits delayLimit (g u v))) (λ u _. every-all N (λ v. fits delayLimit (g u v)) (λ v _. sound-fits s u v))
 
-  sound-noArc : T (noArcIntoInput m N g)
+  pub sound-noArc : T (noArcIntoInput m N g)
   unfolding noArcIntoInput
   sound-noArc = every-all N (λ u. every m (λ i. not (present (g u i)))) (λ u _. every-all m (λ i. not (present (g u i)))
       (λ i l. not-T (present (g u i)) (not-present (g u i) (sound-inputs s u i l))))
 
-  sound-noCycle : T (noCycle N g)
+  pub sound-noCycle : T (noCycle N g)
   sound-noCycle = acyclic-noCycle N g (s .acyclic)
 
 pub passed-passes : {m n N : ℕ} {t : List ℤ} → Passed m n N t → T (passes m n N t)
@@ -136,7 +125,39 @@ passed-passes {m} {n} {N} {t} p =
     (and-i (sizesFit m n N && tableFits N t) (cellsFit N g)
     (and-i (sizesFit m n N) (tableFits N t) (p .sizes) (p .table)) (sound-cells (p .sound))) (sound-noArc (p .sound))) (sound-noCycle (p .sound))
 
--- ---- the verdict
+-- ---- the verdicts
+
+pub record MemoryFits (m n N s : ℕ) (t : List ℤ) : Type 0 where
+  pub sizes : T (sizesFit m n N)
+  pub table : T (tableFits N t)
+  pub scratch : T (scratchFits N s)
+
+pub memory-accepted : (m n N s : ℕ) (t : List ℤ) (x : Unit {0}) → memoryChecked m n N s t ≡ accepted x → MemoryFits m n N s t
+memory-accepted m n N s t x e =
+    let p1 = require-accepted (sizesFit m n N) Sizes _ x e in
+    let p2 = require-accepted (tableFits N t) TableShort _ x (p1 .1) in
+    let p3 = require-accepted (scratchFits N s) ScratchShort _ x (p2 .1) in
+    record { sizes = p1 .0; table = p2 .0; scratch = p3 .0 }
+
+pub memory-passed : (m n N s : ℕ) (t : List ℤ) → T (sizesFit m n N) → T (tableFits N t) → T (scratchFits N s) → memoryChecked m n N s t ≡ accepted tt
+memory-passed m n N s t sizes table scratch =
+    accepted-require (sizesFit m n N) Sizes _ sizes
+    ∙ accepted-require (tableFits N t) TableShort _ table
+    ∙ accepted-require (scratchFits N s) ScratchShort _ scratch
+
+pub record ArcsFit (m N : ℕ) (g h : Graph) : Type 0 where
+  pub inputs : T (noArcIntoInput m N g)
+  pub cycle : T (noCycle N g)
+  pub same : g ≡ h
+
+pub arcs-accepted : (m N : ℕ) (g h : Graph) → arcsChecked m N g ≡ accepted h → ArcsFit m N g h
+arcs-accepted m N g h e =
+    let p5 = require-accepted (noArcIntoInput m N g) ArcIntoInput _ h e in
+    let p6 = require-accepted (noCycle N g) Cycle _ h (p5 .1) in
+    record { inputs = p5 .0; cycle = p6 .0; same = same-accepted (p6 .1) }
+
+pub arcs-passed : (m N : ℕ) (g : Graph) → T (noArcIntoInput m N g) → T (noCycle N g) → arcsChecked m N g ≡ accepted g
+arcs-passed m N g inputs cycle = accepted-require (noArcIntoInput m N g) ArcIntoInput _ inputs ∙ accepted-require (noCycle N g) Cycle _ cycle
 
 -- what a call that gets past its checks knows
 pub record Checked (m n N s : ℕ) (t : List ℤ) (g : Graph) : Type 0 where
@@ -148,24 +169,20 @@ pub checked-accepted : (m n N s : ℕ) (t : List ℤ) (g : Graph) → checked m 
 unfolding checked
 checked-accepted m n N s t g e =
     let h : Graph = graphOf N t in
-    let p1 = require-accepted (sizesFit m n N) Sizes _ g e in
-    let p2 = require-accepted (tableFits N t) TableShort _ g (p1 .1) in
-    let p3 = require-accepted (scratchFits N s) ScratchShort _ g (p2 .1) in
-    let p4 = require-accepted (cellsFit N h) OddCell _ g (p3 .1) in
-    let p5 = require-accepted (noArcIntoInput m N h) ArcIntoInput _ g (p4 .1) in
-    let p6 = require-accepted (noCycle N h) Cycle _ g (p5 .1) in
+    let p = then-accepted (memoryChecked m n N s t) _ g e in
+    let fit = memory-accepted m n N s t (p .0) (p .1) in
+    let p4 = require-accepted (cellsFit N h) OddCell _ g (p .2) in
+    let arcs = arcs-accepted m N h g (p4 .1) in
     record {
-      good = record { sizes = p1 .0; table = p2 .0; sound = sound-of m n N h (graphOf-within N t) (p1 .0) (p4 .0) (p5 .0) (p6 .0) };
-      scratch = p3 .0;
-      graph = sym (same-accepted (p6 .1));
+      good = record { sizes = fit .sizes; table = fit .table; sound = sound-of m n N h (graphOf-within N t) (fit .sizes) (p4 .0) (arcs .inputs) (arcs .cycle) };
+      scratch = fit .scratch;
+      graph = sym (arcs .same);
     }
 
 pub checked-passed : {m n N : ℕ} (s : ℕ) {t : List ℤ} → Passed m n N t → T (scratchFits N s) → checked m n N s t ≡ accepted (graphOf N t)
 unfolding checked
 checked-passed {m} {n} {N} s {t} p r =
-    accepted-require (sizesFit m n N) Sizes _ (p .sizes)
-    ∙ accepted-require (tableFits N t) TableShort _ (p .table)
-    ∙ accepted-require (scratchFits N s) ScratchShort _ r
-    ∙ accepted-require (cellsFit N (graphOf N t)) OddCell _ (sound-cells (p .sound))
-    ∙ accepted-require (noArcIntoInput m N (graphOf N t)) ArcIntoInput _ (sound-noArc (p .sound))
-    ∙ accepted-require (noCycle N (graphOf N t)) Cycle _ (sound-noCycle (p .sound))
+    let g : Graph = graphOf N t in
+    ap (λ (v : Verdict (Unit {0})). v then λ _. require (cellsFit N g) OddCell (arcsChecked m N g)) (memory-passed m n N s t (p .sizes) (p .table) r)
+    ∙ accepted-require (cellsFit N g) OddCell _ (sound-cells (p .sound))
+    ∙ arcs-passed m N g (sound-noArc (p .sound)) (sound-noCycle (p .sound))

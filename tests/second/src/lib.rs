@@ -7,6 +7,7 @@
 pub mod board;
 pub mod delays;
 pub mod file;
+pub mod literal;
 pub mod order;
 pub mod refusal;
 pub mod run;

@@ -1,8 +1,8 @@
-//! Document 01's boards for checking, on the second implementation.
+//! Document 01's boards for checking, and one for the run, on the second implementation.
 
 use second::board::{Board, Sizes};
 use second::file::{read, RefusedRead};
-use second::{delays, run, steps, thin};
+use second::{delays, literal, run, steps, thin};
 
 const SCRATCH: usize = 8_100;
 
@@ -91,9 +91,33 @@ fn p8_shrinks_up_to_the_limit() {
 #[test]
 fn ninety_vertices_are_the_most() {
     let mut cells = table(91, &[]);
-    let none = run::Outcome { steps: 0, arcs: 0 };
-    assert_eq!(run::run(sizes(1, 1, 90), &mut cells, SCRATCH), Ok(none));
+    let outcome = run::Outcome { steps: 0, arcs: 0 };
+    let ran = literal::Ran { outcome, rounds: 0 };
+    assert_eq!(run::run(sizes(1, 1, 90), &mut cells, SCRATCH), Ok(outcome));
     assert_eq!(run::run(sizes(1, 1, 91), &mut cells, 91 * 91), Err(1));
+    assert_eq!(literal::run(sizes(1, 1, 90), &mut cells, SCRATCH), Ok(ran));
+    assert_eq!(literal::run(sizes(1, 1, 91), &mut cells, 91 * 91), Err(1));
+}
+
+/// The first round shares 0 and 1 at 8 and shrinks 7, which gives 2 a third arc; the second shares 0 and
+/// 2 at 7 and shrinks 7 again. Input 3 keeps the outputs apart.
+#[test]
+fn a_shrink_opens_a_share() {
+    let odd = [(3, 4, 1), (3, 5, 2), (3, 6, 4)];
+    let shared = [(0, 4, 1), (0, 5, 1), (0, 6, 1), (1, 4, 1), (1, 5, 1), (1, 7, 0)];
+    let opened = [(2, 4, 1), (2, 7, 0), (7, 5, 1), (7, 6, 1)];
+    let first = table(9, &[&odd[..], &shared, &opened].concat());
+    let hub = [(0, 8, 0), (1, 8, 0), (2, 8, 0), (8, 4, 1), (8, 5, 1), (8, 6, 1)];
+    let last = table(9, &[&odd[..], &hub].concat());
+    let outcome = run::Outcome { steps: 4, arcs: 9 };
+
+    let mut cells = first.clone();
+    let ran = literal::Ran { outcome, rounds: 2 };
+    assert_eq!(literal::run(sizes(4, 3, 9), &mut cells, SCRATCH), Ok(ran));
+    assert_eq!(cells, last);
+    let mut cells = first;
+    assert_eq!(run::run(sizes(4, 3, 9), &mut cells, SCRATCH), Ok(outcome));
+    assert_eq!(cells, last);
 }
 
 #[test]

@@ -13,7 +13,7 @@ number-requires c κs = search needs
 of-pattern-requires : tie.Need-of-pattern-requires
 of-pattern-requires c κs =
     let a = c .before .before .args in
-    (c .before .before .pre .some, c .before .before .pre .few, rw (c .number .ensures) (read-below (a .bytes .now) (a .at) (a .width) (c .before .shared-slice-known .given)))
+    (c .before .before .pre .some, (c .before .before .pre .few, rw (c .number .ensures) (read-below (a .bytes .now) (a .at) (a .width) (c .before .shared-slice-known .given))))
 
 returns : tie.Need-returns
 returns c = back w64 _ (c .of-pattern .ok) ∙ c .of-pattern .ensures ∙ ap (twos (c .before .before .before .args .width)) (c .before .number .ensures)

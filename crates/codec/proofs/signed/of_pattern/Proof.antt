@@ -20,7 +20,7 @@ cast-result c = search needs
 returns : tie.Need-returns
 returns c =
     let s = c .before .before in
-    toZ-pos w64 (omega (arith, power-fits (s .args .width) (s .pre .1))) ∙ sym (twos-low (s .args .width) (s .args .x) (omega arith))
+    toZ-pos w64 (omega (arith, power-fits (s .args .width) (s .pre .1 .0))) ∙ sym (twos-low (s .args .width) (s .args .x) (omega arith))
 
 sub-result : tie.Need-sub-result
 sub-result c = search needs
@@ -36,7 +36,7 @@ returns-2 c =
     let k = c .before .greatest .result - x in
     let e : k ≡ 256 ^ w - suc x = omega arith in
     let flipped : 2 ^ 64 - 1 - k ≡ 2 ^ 64 - suc k = omega arith in
-    ap (toZ w64) flipped ∙ toZ-neg w64 k (omega (arith, power-fits w (s .pre .1))) ∙ ap negsuc e ∙ sym (twos-high w x (omega arith))
+    ap (toZ w64) flipped ∙ toZ-neg w64 k (omega (arith, power-fits w (s .pre .1 .0))) ∙ ap negsuc e ∙ sym (twos-high w x (omega arith))
 
 pub of-pattern-spec : {M : Type 1} → statement M
 of-pattern-spec =

@@ -39,7 +39,7 @@ stays w (pos n) f e = (tt, record { fits = omega (arith, f .sfits) }, refl)
 stays w (negsuc n) f e = let z : _≡_ {A = ℕ} 0 1 = cc in absurd (omega arith)
 
 below : (c : tie.Then1) → Flipped (c .before .args .width) (c .before .args .x)
-below c = flips _ _ (c .before .fits .x) (c .before .pre .2) (rw (toZ-ofZ {w = w64} (c .before .fits .x)) at (c .if1 .taken))
+below c = flips _ _ (c .before .fits .x) (c .before .pre .1 .1) (rw (toZ-ofZ {w = w64} (c .before .fits .x)) at (c .if1 .taken))
 
 above : (c : tie.Else1) → let x = c .before .args .x in T (nonNeg x) × Fits w64 (natAbs x) × (natAbs x ≡ pattern (c .before .args .width) x)
 above c = stays _ _ (c .before .fits .x) (rw (toZ-ofZ {w = w64} (c .before .fits .x)) at (c .if1 .left))
@@ -50,7 +50,7 @@ greatest-requires c κs = search needs
 cast-result : tie.Need-cast-result
 cast-result c =
     let b = below (c .before) in
-    simp (b .flipped) (tt, record { fits = omega (arith, b .small, power-fits (c .before .before .args .width) (c .before .before .pre .1)) })
+    simp (b .flipped) (tt, record { fits = omega (arith, b .small, power-fits (c .before .before .args .width) (c .before .before .pre .1 .0)) })
 
 sub-result : tie.Need-sub-result
 sub-result c = let b = below (c .before) in simp (b .flipped) (omega (arith, b .small))

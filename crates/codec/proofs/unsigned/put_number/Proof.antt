@@ -19,23 +19,11 @@ loop-holds : tie.Need-loop-holds Inv-loop μ-loop
 unfolding withNumber
 loop-holds c = (omega arith, sym (div-one _), refl)
 
-low-requires : tie.Need-low-requires Inv-loop μ-loop
-low-requires c κs = tt
-
-add-bytes : tie.Need-add-bytes Inv-loop μ-loop
-add-bytes c = omega arith
-
 kept : (c : tie.At-loop Inv-loop μ-loop) → length (c .loop .bytes) ≡ length (c .before .before .args .bytes .now)
 kept c = let a = c .before .before .args in ap length (c .loop .inv .2) ∙ length-with (a .bytes .now) (a .at) (a .x) (c .loop .i)
 
 slice-write-bytes : tie.Need-slice-write-bytes Inv-loop μ-loop
 slice-write-bytes c = omega (arith, kept (c .before .before))
-
-add-i : tie.Need-add-i Inv-loop μ-loop
-add-i c = omega arith
-
-loop-less : tie.Need-loop-less Inv-loop μ-loop
-loop-less c = omega arith
 
 loop-again : tie.Need-loop-again Inv-loop μ-loop
 loop-again c =
@@ -60,15 +48,4 @@ returns c =
 pub put-number-spec : {M : Type 1} → statement M
 put-number-spec =
     tie.close
-    (tie.spec
-    Inv-loop
-    μ-loop
-    loop-holds
-    low-requires
-    add-bytes
-    slice-write-bytes
-    add-i
-    loop-less
-    loop-again
-    same-length
-    returns)
+    (tie.spec Inv-loop μ-loop loop-holds (λ c κs. tt) (λ c. omega arith) slice-write-bytes (λ c. omega arith) (λ c. omega arith) loop-again same-length returns)

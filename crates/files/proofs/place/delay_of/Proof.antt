@@ -8,8 +8,8 @@ use Rattle.timing.specs.Refusal.{Verdict}
 use Rattle.timing.specs.Table.{writeCell}
 use Rattle.format.specs.declared.Record.{Record}
 use Rattle.format.specs.Records.{delayOf, valueOf}
-use Rattle.files.specs.declared.records.Ticks.{Ticks}
-use Rattle.files.specs.Records.{ticksMeaning}
+use Rattle.records.specs.declared.parse.Ticks.{Ticks}
+use Rattle.records.specs.Records.{ticksMeaning}
 use Rattle.files.proofs.place.delay_of.Statement.{statement}
 use Rattle.files.proofs.place.delay_of.Tie as tie
 

@@ -8,7 +8,7 @@ use Rattle.timing.specs.Refusal.{accepted}
 use Rattle.timing.specs.Table.{writeCell}
 use Rattle.format.specs.declared.Record.{Record}
 use Rattle.format.specs.Records.{delayOf, recordAt}
-use Rattle.files.specs.Records.{foundMeaning}
+use Rattle.records.specs.Records.{foundMeaning}
 use Rattle.files.proofs.NextArcs.{arc-steps, cell-steps, end-steps, refused-steps}
 use Rattle.files.proofs.place.next_arc.Statement.{statement}
 use Rattle.files.proofs.place.next_arc.Tie as tie

@@ -48,7 +48,7 @@ returns : tie.Need-returns Inv-loop μ-loop
 returns c =
     let a = c .before .before in
     let h = steps a _ (c .enum-told .given .1) in
-    (placing-graph _ _ _ _ _ (a .before .loop .inv) h, placing-table _ _ _ _ _ (a .before .loop .inv) (start a .pre .2) h)
+    (placing-graph _ _ _ _ _ (a .before .loop .inv) h, placing-table _ _ _ _ _ (a .before .loop .inv) (start a .pre .1 .1) h)
 
 -- the record is an arc
 module _ (c : tie.After-known-told Inv-loop μ-loop) where
@@ -77,13 +77,13 @@ module _ (c : tie.After-known-told Inv-loop μ-loop) where
   delay-is = search needs
 
   room : n * n ≤ length (asked .before .loop .table)
-  room = omega (arith, start asked .pre .2, asked .before .loop .inv .size)
+  room = omega (arith, start asked .pre .1 .1, asked .before .loop .inv .size)
 
 cell-of-requires : tie.Need-cell-of-requires Inv-loop μ-loop
-cell-of-requires c κs = (start (asked c) .pre .1, arc c .1 .0, arc c .1 .1)
+cell-of-requires c κs = (start (asked c) .pre .1 .0, (arc c .1 .0, arc c .1 .1))
 
 mul-d : tie.Need-mul-d Inv-loop μ-loop
-mul-d o = let c = o .before in omega (arith, o .cell-of .ensures .1, area (n c) maxVertices (start (asked c) .pre .1))
+mul-d o = let c = o .before in omega (arith, o .cell-of .ensures .1, area (n c) maxVertices (start (asked c) .pre .1 .0))
 
 slice-set-from-d : tie.Need-slice-set-from-d Inv-loop μ-loop
 slice-set-from-d o = omega (arith, o .cell-of .ensures .1, room (o .before))
@@ -95,7 +95,7 @@ loop-again : tie.Need-loop-again Inv-loop μ-loop
 loop-again o =
     let c = o .before in
     let l = asked c .before in
-    simp (o .cell-of .ensures .0, delay-is c) (placing-turn _ _ _ (l .loop .table) (l .loop .at) (l .loop .inv) (start (asked c) .pre .2) (u c) (v c) (after c) (d c) (arc c))
+    simp (o .cell-of .ensures .0, delay-is c) (placing-turn _ _ _ (l .loop .table) (l .loop .at) (l .loop .inv) (start (asked c) .pre .1 .1) (u c) (v c) (after c) (d c) (arc c))
 
 pub place-spec : {M : Type 1} → statement M
 place-spec =

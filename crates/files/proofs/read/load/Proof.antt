@@ -19,7 +19,7 @@ fill-requires : tie.Need-fill-requires
 fill-requires c κs =
     let b = c .before .before .before .before .before in
     let s = b .before .before .before in
-    (blank-lent _ _ _ (s .pre .0) (b .blank .ensures), s .pre .1, ap (graphOf (s .args .board .vertices)) (b .blank .ensures) ∙ blank-graph _ _)
+    (blank-lent _ _ _ (s .pre .0) (b .blank .ensures), (s .pre .1, ap (graphOf (s .args .board .vertices)) (b .blank .ensures) ∙ blank-graph _ _))
 
 same-length : tie.Need-same-length
 same-length c = search needs

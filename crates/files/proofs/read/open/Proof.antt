@@ -1,8 +1,8 @@
 use borrow.Author.Needs.{needs}
-use mathlib.Core.Path.{_≡_, sym, ap, _∙_, subst}
-use Rattle.format.specs.Reading.{Reading, BoardSizes, header}
+use mathlib.Core.Path.{_≡_, sym, ap, _∙_}
+use Rattle.format.specs.Reading.{header}
 use Rattle.files.specs.declared.read.Header.{Header}
-use Rattle.files.specs.Read.{headerMeaning, Fits}
+use Rattle.files.specs.Read.{headerMeaning}
 use Rattle.files.proofs.Opening.{refusal, opened-on, opened-off}
 use Rattle.files.proofs.read.open.Statement.{statement}
 use Rattle.files.proofs.read.open.Tie as tie
@@ -13,8 +13,8 @@ first-record-requires c κs = search needs
 enum-known-header : tie.Need-enum-known-header
 enum-known-header c = search needs
 
-fit-requires : tie.Need-fit-requires
-fit-requires c κs = search needs
+memory-checked-requires : tie.Need-memory-checked-requires
+memory-checked-requires c κs = search needs
 
 enum-known-header-2 : tie.Need-enum-known-header-2
 enum-known-header-2 c = search needs
@@ -25,7 +25,7 @@ header-is c x e = sym (c .first-record .ensures) ∙ ap headerMeaning e
 returns : tie.Need-returns
 returns c =
     let a = c .before .before .before .before in
-    subst (λ (x : Reading BoardSizes). Fits x (a .before .before .args .table .now) (c .fit .result)) (sym (opened-on _ _ _ _ (header-is a _ (c .before .before .header .given .1)))) (c .fit .ensures)
+    opened-on _ _ _ _ _ _ (header-is a _ (c .before .before .header .given .1)) _ (c .memory-checked .ensures)
 
 returns-2 : tie.Need-returns-2
 returns-2 c = refusal _ (opened-off _ _ _ _ _ (header-is (c .before .before .before) _ (c .before .header2 .given .1)))
@@ -36,7 +36,7 @@ open-spec =
     (tie.spec
     first-record-requires
     enum-known-header
-    fit-requires
+    memory-checked-requires
     enum-known-header-2
     returns
     returns-2)

@@ -35,7 +35,7 @@ returns-2 c =
     let cell = o .cell-of .result in
     goes-on (record { at = a .after; low = cell + 1; count = a .cursor .count + 1 })
     (λ onward. simp (sym (o .cell-of .ensures .0), le-leb (a .cursor .low) cell (e .if1 .left), add-one cell, add-one (a .cursor .count)))
-    (s .pre .3)
+    (s .pre .1 .1 .1 .0)
     (record { inside = omega arith; few = omega arith })
 
 pub arc-turn-spec : {M : Type 1} → statement M

@@ -2,14 +2,14 @@ use borrow.Author.Needs.{needs}
 use mathlib.Core.Path.{_≡_, subst}
 use native.Mathlib.Omega.{arith}
 use Rattle.format.specs.declared.Record.{Record}
-use Rattle.files.specs.Records.{Legal}
+use Rattle.records.specs.Records.{LegalRecord}
 use Rattle.files.proofs.Turning.{record-is}
 use Rattle.files.proofs.scan.record_turn.Statement.{statement}
 use Rattle.files.proofs.scan.record_turn.Tie as tie
 
 -- the record that stands there, once it is known
-known : (c : tie.Start) (x : Record) → c .args .item ≡ x → Legal (c .args .n) (c .args .bytes .now) (c .args .cursor .at) x
-known c x e = subst (Legal (c .args .n) (c .args .bytes .now) (c .args .cursor .at)) e (c .pre .2)
+known : (c : tie.Start) (x : Record) → c .args .item ≡ x → LegalRecord (c .args .n) (c .args .bytes .now) (c .args .cursor .at) x
+known c x e = subst (LegalRecord (c .args .n) (c .args .bytes .now) (c .args .cursor .at)) e (c .pre .1 .1)
 
 enum-known-item : tie.Need-enum-known-item
 enum-known-item c = search needs
@@ -22,7 +22,7 @@ arc-turn-requires c κs =
     let i = c .before .before in
     let s = i .before .before .before in
     let l = known s _ (i .item .given .1) in
-    (s .pre .0, l .1, l .2, omega arith, s .pre .1 .few)
+    (s .pre .0, (l .1, (l .2, (omega arith, s .pre .1 .0 .few))))
 
 enum-known-item-2 : tie.Need-enum-known-item-2
 enum-known-item-2 c = search needs
@@ -35,7 +35,7 @@ arc-turn-requires-2 c κs =
     let i = c .before .before in
     let s = i .before .before .before in
     let l = known s _ (i .item2 .given .1) in
-    (s .pre .0, l .1, l .2, omega arith, s .pre .1 .few)
+    (s .pre .0, (l .1, (l .2, (omega arith, s .pre .1 .0 .few))))
 
 enum-known-item-3 : tie.Need-enum-known-item-3
 enum-known-item-3 c = search needs

@@ -1,8 +1,8 @@
 use borrow.Author.Needs.{needs}
 use mathlib.Core.Path.{refl}
-use Rattle.steps.proofs.Reducing.{said}
-use Rattle.files.specs.Records.{foundMeaning}
-use Rattle.files.proofs.AcceptedRecords.{legal}
+use Rattle.timing.proofs.Verdict.{said}
+use Rattle.records.specs.Records.{foundMeaning}
+use Rattle.records.proofs.AcceptedRecords.{legal}
 use Rattle.files.proofs.Turning.{refuses, found-is}
 use Rattle.files.proofs.scan.turn.Statement.{statement}
 use Rattle.files.proofs.scan.turn.Tie as tie
@@ -18,7 +18,7 @@ record-turn-requires c κs =
     let f = c .before in
     let r = f .before .before in
     let s = r .before .before in
-    (s .pre .0, s .pre .1, legal (s .args .n) (s .args .bytes .now) (s .args .cursor .at) _ (said foundMeaning (r .record-at .ensures) (f .found .given .1)))
+    (s .pre .0, (s .pre .1, legal (s .args .n) (s .args .bytes .now) (s .args .cursor .at) _ (said foundMeaning (r .record-at .ensures) (f .found .given .1))))
 
 enum-known-found-2 : tie.Need-enum-known-found-2
 enum-known-found-2 c = search needs

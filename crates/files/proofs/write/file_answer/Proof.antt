@@ -48,7 +48,7 @@ put-file-requires c κs =
     let e = c .before in
     let a = e .before in
     let s = a .before .before in
-    (s .pre, a .arcs .ensures, omega (arith, e .if1 .left, a .arcs .ensures, long s))
+    (s .pre, (a .arcs .ensures, omega (arith, e .if1 .left, a .arcs .ensures, long s)))
 
 same-length : tie.Need-same-length
 same-length c = search needs

@@ -11,8 +11,8 @@ use Rattle.laws.proofs.Signed.{handed, widens}
 use Rattle.codec.specs.Bytes.{byteOf, pattern, inWidth}
 use Rattle.codec.proofs.Patterns.{fits-in-width}
 use Rattle.format.specs.Writing.{arcRecord}
-use Rattle.files.specs.Appending.{Appends}
-use Rattle.files.proofs.Appending.{appends-more}
+use Rattle.records.specs.Appending.{Appends}
+use Rattle.records.proofs.Appending.{appends-more}
 use Rattle.files.proofs.write.put_arc.Statement.{statement}
 use Rattle.files.proofs.write.put_arc.Tie as tie
 
@@ -52,7 +52,7 @@ put-signed-requires c κs = (
   record {
     some = omega arith;
     few = omega arith;
-    inside = omega (arith, start c .pre .2, length-tabulate (byteOf (pattern 4 (delay c))) 4, mark c .put-mark .ensures .end, mark c .put-mark .kept .0, from c .put-small .ensures .end, from c .put-small .kept .0, to c .put-small2 .ensures .end, to c .put-small2 .kept .0);
+    inside = omega (arith, start c .pre .1 .1, length-tabulate (byteOf (pattern 4 (delay c))) 4, mark c .put-mark .ensures .end, mark c .put-mark .kept .0, from c .put-small .ensures .end, from c .put-small .kept .0, to c .put-small2 .ensures .end, to c .put-small2 .kept .0);
   },
   subst (λ (z : ℤ). T (inWidth 4 z)) (sym (widened c)) (fits-in-width w32 4 (omega arith) (start c .fits .delay)),
 )

@@ -6,7 +6,7 @@ use Rattle.graph.specs.Graph.{Graph}
 use Rattle.timing.specs.Table.{graphOf}
 use Rattle.format.specs.Arcs.{Arc, rowArcs, arcsBetween, arcsOf}
 use Rattle.files.specs.Forms.{arcsAs}
-use Rattle.files.proofs.Remaining.{Remains, remains-all, remains-length, remains-fits, remains-next, remains-none}
+use Rattle.records.proofs.Remaining.{Remains, remains-all, remains-length, remains-fits, remains-next, remains-none}
 use Rattle.files.proofs.Turns.{left, left-all, left-next, left-none}
 use Rattle.files.proofs.ArcParts.{rows-parts}
 use Rattle.files.proofs.ArcForms.{arcs-join}
@@ -49,7 +49,7 @@ module _ (c : tie.In-loop Inv-loop μ-loop) where
 put-row-requires : tie.Need-put-row-requires Inv-loop μ-loop
 put-row-requires c κs =
     let i = c .before in
-    (s i .pre .0, i .loop-test .taken, remains-fits (head i .loop .inv .1) (s i .pre .1) (as-form i (rowArcs (g i) (u i) 0 (n i))) (left (as-form i) (arcsBetween (n i) (g i)) (n i) (u i + 1)) (next-left i))
+    (s i .pre .0, (i .loop-test .taken, remains-fits (head i .loop .inv .1) (s i .pre .1) (as-form i (rowArcs (g i) (u i) 0 (n i))) (left (as-form i) (arcsBetween (n i) (g i)) (n i) (u i + 1)) (next-left i)))
 
 add-u : tie.Need-add-u Inv-loop μ-loop
 add-u c = omega arith

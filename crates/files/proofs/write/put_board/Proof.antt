@@ -1,5 +1,5 @@
 use borrow.Author.Needs.{needs}
-use Rattle.files.proofs.Appending.{appends-more}
+use Rattle.records.proofs.Appending.{appends-more}
 use Rattle.files.proofs.write.put_board.Statement.{statement}
 use Rattle.files.proofs.write.put_board.Tie as tie
 

@@ -15,9 +15,9 @@ use Rattle.paths.proofs.ReadCells.{arc-cell}
 use Rattle.format.specs.Arcs.{Arc, arcIn}
 use Rattle.files.specs.declared.write.Form.{Form}
 use Rattle.files.specs.declared.write.Form.the-variants as F
-use Rattle.files.specs.Lines.{Legal}
+use Rattle.records.specs.Lines.{DelayInRange}
 use Rattle.files.specs.Forms.{arcAs, arcsAs}
-use Rattle.files.proofs.Appending.{appends-none, appends-same}
+use Rattle.records.proofs.Appending.{appends-none, appends-same}
 use Rattle.files.proofs.ArcForms.{cell-arc, cell-none}
 use Rattle.files.proofs.write.put_cell.Statement.{statement}
 use Rattle.files.proofs.write.put_cell.Tie as tie
@@ -47,8 +47,8 @@ module _ (c : tie.Then1) where
   abbrev handed : Arc
   handed = record { from = s .args .u; to = s .args .v; delay = toZ w32 (ofZ w32 (s .args .cell)) }
 
-  legal : Legal (toZ w32 (ofZ w32 (s .args .cell)))
-  legal = subst (λ (d : Delay). T (fits delayLimit d)) (arc-cell (s .args .cell) is-arc ∙ ap (λ (z : ℤ). at z) (sym (held (c .before)))) (s .pre .2)
+  legal : DelayInRange (toZ w32 (ofZ w32 (s .args .cell)))
+  legal = subst (λ (d : Delay). T (fits delayLimit d)) (arc-cell (s .args .cell) is-arc ∙ ap (λ (z : ℤ). at z) (sym (held (c .before)))) (s .pre .1 .1 .0)
 
   arc-as : (f : Form) → s .args .form ≡ f → arcAs f handed ≡ arcsAs (s .args .form) (arcIn (s .args .u) (s .args .v) (readCell absentCell (s .args .cell)))
   arc-as f e =
@@ -66,7 +66,7 @@ put-arc-requires : tie.Need-put-arc-requires
 put-arc-requires c κs =
     let k = c .before in
     let t = k .before .before in
-    (s t .pre .0, s t .pre .1, omega (arith, s t .pre .3, ap length (arc-as t F.Record (k .enum-told .given .1))))
+    (s t .pre .0, (s t .pre .1 .0, omega (arith, s t .pre .1 .1 .1, ap length (arc-as t F.Record (k .enum-told .given .1)))))
 
 enum-told-2 : tie.Need-enum-told-2
 enum-told-2 c = search needs
@@ -75,7 +75,7 @@ arc-line-requires : tie.Need-arc-line-requires
 arc-line-requires c κs =
     let k = c .before in
     let t = k .before .before in
-    (s t .pre .0, s t .pre .1, legal t, omega (arith, s t .pre .3, ap length (arc-as t F.Line (k .enum-told2 .given .1))))
+    (s t .pre .0, (s t .pre .1 .0, (legal t, omega (arith, s t .pre .1 .1 .1, ap length (arc-as t F.Line (k .enum-told2 .given .1))))))
 
 same-length : tie.Need-same-length
 same-length c = search needs

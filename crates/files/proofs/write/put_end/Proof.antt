@@ -2,7 +2,7 @@ use borrow.Author.Needs.{needs}
 use native.Mathlib.Omega.{arith}
 use Rattle.laws.proofs.Lists.{length-tabulate}
 use Rattle.codec.specs.Bytes.{byteOf}
-use Rattle.files.proofs.Appending.{appends-more}
+use Rattle.records.proofs.Appending.{appends-more}
 use Rattle.files.proofs.write.put_end.Statement.{statement}
 use Rattle.files.proofs.write.put_end.Tie as tie
 

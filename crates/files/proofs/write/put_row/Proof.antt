@@ -17,8 +17,8 @@ use Rattle.timing.proofs.Checks.{sound-fits}
 use Rattle.paths.proofs.Sizes.{board-area}
 use Rattle.format.specs.Arcs.{Arc, arcIn, rowArcs}
 use Rattle.files.specs.Forms.{arcsAs}
-use Rattle.files.proofs.Appending.{appends-same}
-use Rattle.files.proofs.Remaining.{Remains, remains-all, remains-length, remains-fits, remains-next, remains-none}
+use Rattle.records.proofs.Appending.{appends-same}
+use Rattle.records.proofs.Remaining.{Remains, remains-all, remains-length, remains-fits, remains-next, remains-none}
 use Rattle.files.proofs.Turns.{left, left-all, left-next, left-none}
 use Rattle.files.proofs.ArcParts.{row-parts}
 use Rattle.files.proofs.ArcForms.{arcs-join}
@@ -61,19 +61,19 @@ module _ (c : tie.In-loop Inv-loop μ-loop) where
   z = getD t (n * u + v) (pos 0)
 
   small : n * u + n ≤ 8100
-  small = omega (arith, row-in n u (s .pre .1), board-area (s .args .board) (s .pre .0 .lent .sized))
+  small = omega (arith, row-in n u (s .pre .1 .0), board-area (s .args .board) (s .pre .0 .lent .sized))
 
   inside : n * u + v < length t
-  inside = omega (arith, row-in n u (s .pre .1), s .pre .0 .lent .room, c .loop-test .taken)
+  inside = omega (arith, row-in n u (s .pre .1 .0), s .pre .0 .lent .room, c .loop-test .taken)
 
   -- the cell's arc, and what is left after it
   next-left : left as-form (rowArcs (graphOf n t) u) n v ≡ as-form (arcIn u v (readCell absentCell z)) ++ left as-form (rowArcs (graphOf n t) u) n (v + 1)
   next-left =
       left-next (arcs-join (s .args .form)) (row-parts (graphOf n t) u) n v (c .loop-test .taken)
-      ∙ ap (λ (d : Delay). as-form (arcIn u v d) ++ left as-form (rowArcs (graphOf n t) u) n (v + 1)) (graphOf-at n t u v (s .pre .1) (c .loop-test .taken))
+      ∙ ap (λ (d : Delay). as-form (arcIn u v d) ++ left as-form (rowArcs (graphOf n t) u) n (v + 1)) (graphOf-at n t u v (s .pre .1 .0) (c .loop-test .taken))
 
   fits-cell : T (fits delayLimit (readCell absentCell z))
-  fits-cell = subst (λ (d : Delay). T (fits delayLimit d)) (graphOf-at n t u v (s .pre .1) (c .loop-test .taken)) (sound-fits (s .pre .0 .sound) u v)
+  fits-cell = subst (λ (d : Delay). T (fits delayLimit d)) (graphOf-at n t u v (s .pre .1 .0) (c .loop-test .taken)) (sound-fits (s .pre .0 .sound) u v)
 
 mul-cell : tie.Need-mul-cell Inv-loop μ-loop
 mul-cell c = omega (arith, small c)
@@ -94,12 +94,10 @@ handed-on c = let i = c .before .before in ap (λ (x : ℤ). as-form i (arcIn (u
 put-cell-requires : tie.Need-put-cell-requires Inv-loop μ-loop
 put-cell-requires c κs =
     let i = c .before .before in
-    let few = s i .pre .0 .lent .sized .few in (
-      omega (arith, few, s i .pre .1),
-      omega (arith, few, i .loop-test .taken),
-      subst (λ (x : ℤ). T (fits delayLimit (readCell absentCell x))) (sym (back w32 (z i) (c .put-cell-arg2 .given))) (fits-cell i),
-      omega (arith, remains-fits (head i .loop .inv .1) (s i .pre .2) (as-form i (arcIn (u i) (v i) (readCell absentCell (z i)))) (left (as-form i) (rowArcs (graphOf (n i) (t i)) (u i)) (n i) (v i + 1)) (next-left i), ap length (handed-on c)),
-    )
+    let few = s i .pre .0 .lent .sized .few in
+    let fits-handed = subst (λ (x : ℤ). T (fits delayLimit (readCell absentCell x))) (sym (back w32 (z i) (c .put-cell-arg2 .given))) (fits-cell i) in
+    let room = remains-fits (head i .loop .inv .1) (s i .pre .1 .1) (as-form i (arcIn (u i) (v i) (readCell absentCell (z i)))) (left (as-form i) (rowArcs (graphOf (n i) (t i)) (u i)) (n i) (v i + 1)) (next-left i) in
+    (omega (arith, few, s i .pre .1 .0), (omega (arith, few, i .loop-test .taken), (fits-handed, omega (arith, room, ap length (handed-on c)))))
 
 add-v : tie.Need-add-v Inv-loop μ-loop
 add-v c = omega arith

@@ -3,8 +3,8 @@ use Rattle.files.proofs.FileAnswers.{call-written, call-stopped}
 use Rattle.files.proofs.write.write.Statement.{statement}
 use Rattle.files.proofs.write.write.Tie as tie
 
-bytes-requires : tie.Need-bytes-requires
-bytes-requires c κs = search needs
+vertex-bytes-requires : tie.Need-vertex-bytes-requires
+vertex-bytes-requires c κs = search needs
 
 checked-requires : tie.Need-checked-requires
 checked-requires c κs = search needs
@@ -16,7 +16,7 @@ file-answer-requires : tie.Need-file-answer-requires
 file-answer-requires c κs =
     let k = c .before .before in
     let p = k .before .before .checked .ensures .passable _ (k .lent .given .1) .0 in
-    record { lent = p .lent; sound = p .sound }
+    p .checked
 
 enum-known-lent-2 : tie.Need-enum-known-lent-2
 enum-known-lent-2 c = search needs
@@ -37,7 +37,7 @@ pub write-spec : {M : Type 1} → statement M
 write-spec =
     tie.close
     (tie.spec
-    bytes-requires
+    vertex-bytes-requires
     checked-requires
     enum-known-lent
     file-answer-requires

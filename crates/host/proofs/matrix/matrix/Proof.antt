@@ -29,8 +29,8 @@ module _ (c : tie.After-wide-cells2) where
   abbrev s : tie.Start
   s = count .before .before .before .before
 
-  cells-shown : length (take (count .shown .result) (c .before .before .table-cells .result)) ≡ shown (s .args .vertices) (s .args .vertices) (wholeCells 4 (s .args .table .now))
-  cells-shown = part-shown _ _ (c .before .before .table-cells .ensures) _ _ _ (count .shown .ensures)
+  cells-shown : length (take (count .shown .result) (c .before .before .cells .result)) ≡ shown (s .args .vertices) (s .args .vertices) (wholeCells 4 (s .args .table .now))
+  cells-shown = part-shown _ _ (c .before .before .cells .ensures) _ _ _ (count .shown .ensures)
 
   delays-shown : length (take (pairs .shown3 .result) (c .wide-cells2 .result)) ≡ shown (s .args .inputs) (s .args .outputs) (wholeCells 8 (s .args .matrix .now))
   delays-shown = part-shown _ _ (c .wide-cells2 .ensures) _ _ _ (pairs .shown3 .ensures)
@@ -60,8 +60,8 @@ shown-requires-2 c κs = search needs
 shown-requires-3 : tie.Need-shown-requires-3
 shown-requires-3 c κs = search needs
 
-table-cells-requires : tie.Need-table-cells-requires
-table-cells-requires c κs = search needs
+cells-requires : tie.Need-cells-requires
+cells-requires c κs = search needs
 
 wide-cells-requires : tie.Need-wide-cells-requires
 wide-cells-requires c κs = search needs
@@ -73,7 +73,7 @@ array-borrow-prefix-cells : tie.Need-array-borrow-prefix-cells
 array-borrow-prefix-cells c = search needs
 
 slice-aggregate-matrix-in : tie.Need-slice-aggregate-matrix-in
-slice-aggregate-matrix-in c = let w = c .before in sym (part-long _ _ (w .before .before .table-cells .ensures) (count w .shown .ensures .1))
+slice-aggregate-matrix-in c = let w = c .before in sym (part-long _ _ (w .before .before .cells .ensures) (count w .shown .ensures .1))
 
 array-borrow-prefix-wide : tie.Need-array-borrow-prefix-wide
 array-borrow-prefix-wide c = search needs
@@ -105,7 +105,7 @@ matrix-spec =
     shown-requires
     shown-requires-2
     shown-requires-3
-    table-cells-requires
+    cells-requires
     wide-cells-requires
     wide-cells-requires-2
     array-borrow-prefix-cells

@@ -28,8 +28,8 @@ module _ (c : tie.After-wide-cells) where
   abbrev s : tie.Start
   s = count .before .before .before
 
-  cells-shown : length (take (count .shown .result) (c .before .table-cells .result)) ≡ shown (s .args .vertices) (s .args .vertices) (wholeCells 4 (s .args .table .now))
-  cells-shown = part-shown _ _ (c .before .table-cells .ensures) _ _ _ (count .shown .ensures)
+  cells-shown : length (take (count .shown .result) (c .before .cells .result)) ≡ shown (s .args .vertices) (s .args .vertices) (wholeCells 4 (s .args .table .now))
+  cells-shown = part-shown _ _ (c .before .cells .ensures) _ _ _ (count .shown .ensures)
 
   abbrev lent : List ℤ
   lent = take (room .shown2 .result) (c .wide-cells .result)
@@ -53,8 +53,8 @@ shown-requires c κs = search needs
 shown-requires-2 : tie.Need-shown-requires-2
 shown-requires-2 c κs = search needs
 
-table-cells-requires : tie.Need-table-cells-requires
-table-cells-requires c κs = search needs
+cells-requires : tie.Need-cells-requires
+cells-requires c κs = search needs
 
 wide-cells-requires : tie.Need-wide-cells-requires
 wide-cells-requires c κs = search needs
@@ -63,7 +63,7 @@ array-borrow-prefix-cells : tie.Need-array-borrow-prefix-cells
 array-borrow-prefix-cells c = search needs
 
 slice-aggregate-reduce-in : tie.Need-slice-aggregate-reduce-in
-slice-aggregate-reduce-in c = let w = c .before .before in sym (part-long _ _ (w .before .table-cells .ensures) (count w .shown .ensures .1))
+slice-aggregate-reduce-in c = let w = c .before .before in sym (part-long _ _ (w .before .cells .ensures) (count w .shown .ensures .1))
 
 array-borrow-prefix-wide : tie.Need-array-borrow-prefix-wide
 array-borrow-prefix-wide c = search needs
@@ -88,7 +88,7 @@ reduce-spec =
     (tie.spec
     shown-requires
     shown-requires-2
-    table-cells-requires
+    cells-requires
     wide-cells-requires
     array-borrow-prefix-cells
     slice-aggregate-reduce-in

@@ -8,13 +8,13 @@ use mir.Val.{SFits, toZ, ofZ}
 use Rattle.laws.proofs.Signed.{widens, handed}
 use Rattle.codec.proofs.Patterns.{in-width-fits}
 use Rattle.codec.proofs.Places.{read-in-width}
-use Rattle.host.specs.Runs.{cellAt}
+use Rattle.host.specs.Runs.{runCell}
 use Rattle.host.proofs.runs.cell_at.Statement.{statement}
 use Rattle.host.proofs.runs.cell_at.Tie as tie
 
 module _ (c : tie.After-decode) where
   abbrev cell : ℤ
-  cell = cellAt 4 (c .before .before .args .bytes .now) (c .before .before .args .x)
+  cell = runCell 4 (c .before .before .args .bytes .now) (c .before .before .args .x)
 
   small : SFits w32 cell
   small = in-width-fits w32 4 (omega arith) (read-in-width (c .before .before .args .bytes .now) (4 * c .before .before .args .x) 4 (c .before .shared-slice-known .given))

@@ -7,12 +7,12 @@ use mir.Syntax.{w32}
 use Rattle.laws.specs.Lists.{tabulate}
 use Rattle.laws.proofs.Filling.{fill-none, fill-turn, fill-all}
 use Rattle.laws.proofs.Signed.{back}
-use Rattle.host.specs.Runs.{cellAt}
+use Rattle.host.specs.Runs.{runCell}
 use Rattle.host.proofs.runs.take_table.Statement.{statement}
 use Rattle.host.proofs.runs.take_table.Tie as tie
 
 abbrev Inv-loop : tie.InvT-loop
-Inv-loop bytes cells₀ x₀ cells x = (x ≤ length cells₀) × (length cells ≡ length cells₀) × (cells ≡ tabulate x (cellAt 4 bytes) ++ drop x cells₀)
+Inv-loop bytes cells₀ x₀ cells x = (x ≤ length cells₀) × (length cells ≡ length cells₀) × (cells ≡ tabulate x (runCell 4 bytes) ++ drop x cells₀)
 
 abbrev μ-loop : tie.MeasureT-loop
 μ-loop bytes cells₀ x₀ cells x = length cells₀ - x
@@ -41,7 +41,7 @@ loop-again c =
     let s = l .before .before in (
       omega arith,
       simp length-set (l .loop .inv .1),
-      fill-turn (cellAt 4 (s .args .bytes .now)) (s .args .cells .now) (l .loop .cells) (l .loop .x) _ (omega arith) (l .loop .inv .2) (back w32 _ (c .cell-at .ok) ∙ c .cell-at .ensures),
+      fill-turn (runCell 4 (s .args .bytes .now)) (s .args .cells .now) (l .loop .cells) (l .loop .x) _ (omega arith) (l .loop .inv .2) (back w32 _ (c .cell-at .ok) ∙ c .cell-at .ensures),
     )
 
 same-length : tie.Need-same-length Inv-loop μ-loop

@@ -11,13 +11,13 @@ use Rattle.paths.proofs.arrivals.arrivals.Statement.{statement}
 use Rattle.paths.proofs.arrivals.arrivals.Tie as tie
 
 start-inputs-requires : tie.Need-start-inputs-requires
-start-inputs-requires c κs = c .before .before .pre .3
+start-inputs-requires c κs = c .before .before .pre .1 .1 .1
 
 propagate-requires : tie.Need-propagate-requires
 propagate-requires c κs =
     let s = c .before .before .before .before .before in (
-      subst (Started _ _ _) (sym (c .before .before .start-inputs .ensures)) (inputs-started (s .pre .0) (s .args .inputs .now) (s .pre .2) (s .args .f .now) (s .pre .3)),
-      s .pre .1,
+      subst (Started _ _ _) (sym (c .before .before .start-inputs .ensures)) (inputs-started (s .pre .0) (s .args .inputs .now) (s .pre .1 .1 .0) (s .args .f .now) (s .pre .1 .1 .1)),
+      s .pre .1 .0,
     )
 
 same-length : tie.Need-same-length
@@ -30,7 +30,7 @@ returns c =
     let s = w .before .before .before in
     q .propagate .ensures
     ∙ ap (λ (x : List ℤ). filled (s .args .board .vertices) (propagated (s .args .board .vertices) (graphOf (s .args .board .vertices) (s .args .table .now)) (arrivalIn x)) x) (w .start-inputs .ensures)
-    ∙ inputs-propagated (s .pre .0) (s .args .inputs .now) (s .pre .2) (s .args .f .now) (s .pre .3)
+    ∙ inputs-propagated (s .pre .0) (s .args .inputs .now) (s .pre .1 .1 .0) (s .args .f .now) (s .pre .1 .1 .1)
 
 pub arrivals-spec : {M : Type 1} → statement M
 arrivals-spec = tie.close (tie.spec start-inputs-requires propagate-requires same-length returns)

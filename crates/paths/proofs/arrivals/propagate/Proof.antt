@@ -37,13 +37,13 @@ module _ (c : tie.In-loop Inv-loop μ-loop) where
   t = start .args .table .now
 
   abbrev u : ℕ
-  u = getD (start .args .list .now) (c .before .loop .p) 0
+  u = getD (start .args .order .now) (c .before .loop .p) 0
 
   few : n ≤ 90
-  few = start .pre .0 .passable .lent .sized .few
+  few = start .pre .0 .passable .checked .lent .sized .few
 
   room : n * n ≤ length t
-  room = start .pre .0 .passable .lent .room
+  room = start .pre .0 .passable .checked .lent .room
 
   vertex : u < n
   vertex = x-in (start .pre .0) (c .before .loop .inv) (c .loop-test .taken)
@@ -111,10 +111,10 @@ loop-again c =
     let s = start i in
     let l = i .before in
     split (c .if1 .came)
-    (λ w. subst (λ (y : List ℤ). Going (n i) (t i) (s .args .list .now) (s .args .f .now) y (l .loop .p + 1)) (sym (w .6))
+    (λ w. subst (λ (y : List ℤ). Going (n i) (t i) (s .args .order .now) (s .args .f .now) y (l .loop .p + 1)) (sym (w .6))
     (onward (s .pre .0) (l .loop .inv) (i .loop-test .taken) (w .4 .last .1 .1 .1 .0) (w .4 .kept .1 .1 .1 .0)
     (subst (λ (z : ℤ). Pushed (n i) (lent (n i) (t i) (u i) (room i) (vertex i)) z (l .loop .f) (w .4 .last .1 .1 .1 .0)) (back w64 _ (c .before .a .given)) (w .4 .ensures))))
-    (λ w. subst (λ (y : List ℤ). Going (n i) (t i) (s .args .list .now) (s .args .f .now) y (l .loop .p + 1)) (sym (w .1))
+    (λ w. subst (λ (y : List ℤ). Going (n i) (t i) (s .args .order .now) (s .args .f .now) y (l .loop .p + 1)) (sym (w .1))
     (skipped (s .pre .0) (l .loop .inv) (i .loop-test .taken) (same-bits {w = w64} {b = absentWide} (record { sfits = c .before .a .given }) (sfits-lit tt) (w .0 .left))))
 
 same-length : tie.Need-same-length Inv-loop μ-loop

@@ -105,11 +105,7 @@ module _ (g : tie.After-gains-arg Inv-loop μ-loop) where
 
 gains-requires : tie.Need-gains-requires Inv-loop μ-loop
 gains-requires c κs =
-    let u = t c in (
-      subst Reached (sym (toZ-ofZ (s u .fits .a))) (s u .pre .0),
-      subst (λ (z : ℤ). z ≢ absentCell) (sym (cell-is c)) (cell-there u),
-      subst (λ (z : ℤ). T (fits delayLimit (readCell absentCell z))) (sym (cell-is c)) (s u .pre .1 .near (v u) (u .loop-test .taken)),
-    )
+    let u = t c in (subst Reached (sym (toZ-ofZ (s u .fits .a))) (s u .pre .0), (subst (λ (z : ℤ). z ≢ absentCell) (sym (cell-is c)) (cell-there u), subst (λ (z : ℤ). T (fits delayLimit (readCell absentCell z))) (sym (cell-is c)) (s u .pre .1 .near (v u) (u .loop-test .taken))))
 
 -- what the call says, of the cells themselves
 said : (c : tie.After-gains Inv-loop μ-loop) → let g = c .before in Gains (getD (s (t g) .args .f .now) (v (t g)) (pos 0)) (from g) (cell g) (c .gains .result)

@@ -1,67 +1,50 @@
+use borrow.Author.Needs.{needs}
+use mathlib.Core.Path.{_≡_, ap, _∙_}
+use mathlib.Core.List.{List, _++_}
+use Prim.Native.Nat.{ℕ, _<_}
+use native.Mathlib.Decide.{ℕ-discrete}
+use native.Mathlib.Omega.{arith}
+use lib.IntN.{ℤ, pos}
+use lib.ListN.{getD, set, drop, length-set}
+use lib.Seq.{set-append-left, getD-set-same, getD-set-other}
+use Rattle.laws.specs.Lists.{tabulate}
+use Rattle.laws.proofs.Booleans.{eqb-same, eqb-other}
+use Rattle.laws.proofs.Lists.{length-tabulate, getD-tabulate, is-tabulate}
+use Rattle.timing.specs.Limits.{absentWide}
+use Rattle.paths.specs.Arrivals.{stored, onlyAt}
 use Rattle.paths.proofs.arrivals.start_at.Statement.{statement}
 use Rattle.paths.proofs.arrivals.start_at.Tie as tie
-use mathlib.Core.Path.{_≡_, refl, _∙_}
-use Prim.Native.Nat.{_≤_, _-_}
-use native.Mathlib.Omega.{arith}
-use lib.ListN.{length, length-set}
-use mir.Syntax.{w64}
-use Rattle.laws.proofs.Filling.{fill-none, fill-turn}
-use Rattle.laws.proofs.Signed.{back}
-use Rattle.paths.specs.Arrivals.{stored, onlyAt}
 
-abbrev Inv-loop : tie.InvT-loop
-Inv-loop f₀ n i v₀ f v = (v ≤ n) × (length f ≡ length f₀) × (f ≡ stored v (onlyAt i) f₀)
+abbrev none : ℕ → ℤ
+none _ = absentWide
 
-abbrev μ-loop : tie.MeasureT-loop
-μ-loop f₀ n i v₀ f v = n - v
+-- a signal at i, where there was none
+signal : (n i : ℕ) (f : List ℤ) → i < n → set (stored n none f) i (pos 0) ≡ stored n (onlyAt i) f
+signal n i f l =
+    set-append-left (tabulate n none) (drop n f) i (pos 0) (omega (arith, length-tabulate none n))
+    ∙ ap (λ (x : List ℤ). x ++ drop n f) (is-tabulate (pos 0) (set (tabulate n none) i (pos 0)) n (onlyAt i) (length-set (tabulate n none) i (pos 0) ∙ length-tabulate none n) (λ v h. go v h (ℕ-discrete v i)))
+  where
+    go : (v : ℕ) → v < n → Dec (v ≡ i) → getD (set (tabulate n none) i (pos 0)) v (pos 0) ≡ onlyAt i v
+    go v h (yes e) = rw (e, getD-set-same (tabulate n none) i (pos 0) (pos 0) (omega (arith, length-tabulate none n)), eqb-same i)
+    go v h (no ne) = rw (getD-set-other (tabulate n none) i v (pos 0) (pos 0) ne, eqb-other v i ne) (getD-tabulate none n v (pos 0) h)
 
-loop-holds : tie.Need-loop-holds Inv-loop μ-loop
-loop-holds c = (omega arith, refl, fill-none _ _)
+start-none-requires : tie.Need-start-none-requires
+start-none-requires c κs = search needs
 
-only-at-requires : tie.Need-only-at-requires Inv-loop μ-loop
-only-at-requires c κs = tt
+mul-f : tie.Need-mul-f
+mul-f c = search needs
 
-mul-t7 : tie.Need-mul-t7 Inv-loop μ-loop
-mul-t7 c = omega (arith, c .before .before .before .good .0)
+slice-set-of-f : tie.Need-slice-set-of-f
+slice-set-of-f c = search needs
 
-slice-set-from-f : tie.Need-slice-set-from-f Inv-loop μ-loop
-slice-set-from-f c = omega arith
+same-length : tie.Need-same-length
+same-length c = search needs
 
-add-v : tie.Need-add-v Inv-loop μ-loop
-add-v c = omega arith
-
-loop-less : tie.Need-loop-less Inv-loop μ-loop
-loop-less c = omega arith
-
-loop-again : tie.Need-loop-again Inv-loop μ-loop
-loop-again c =
-    let l = c .before .before in
-    let s = l .before in (
-      omega arith,
-      simp length-set (l .loop .inv .1),
-      fill-turn (onlyAt (s .args .i)) (s .args .f .now) (l .loop .f) (l .loop .v) _ (omega arith) (l .loop .inv .2) (back w64 _ (c .only-at .ok) ∙ c .only-at .ensures),
-    )
-
-same-length : tie.Need-same-length Inv-loop μ-loop
-same-length c = c .before .loop .inv .1
-
-returns : tie.Need-returns Inv-loop μ-loop
+returns : tie.Need-returns
 returns c =
-    let e : c .before .loop .v ≡ c .before .before .args .n = omega arith in
-    rw e at (c .before .loop .inv .2)
+    let k = c .before in
+    let s = k .before .before in
+    ap (λ (x : List ℤ). set x (s .args .i) (pos 0)) (k .start-none .ensures) ∙ signal (s .args .n) (s .args .i) (s .args .f .now) (s .pre .1)
 
 pub start-at-spec : {M : Type 1} → statement M
-start-at-spec =
-    tie.close
-    (tie.spec
-    Inv-loop
-    μ-loop
-    loop-holds
-    only-at-requires
-    mul-t7
-    slice-set-from-f
-    add-v
-    loop-less
-    loop-again
-    same-length
-    returns)
+start-at-spec = tie.close (tie.spec start-none-requires mul-f slice-set-of-f same-length returns)

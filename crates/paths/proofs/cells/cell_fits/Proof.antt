@@ -1,9 +1,7 @@
 use mathlib.Core.Path.{_≡_, sym, ap, _∙_}
 use borrow.Author.Tests.{not-true, not-false}
 use lib.IntN.{ℤ}
-use mir.Syntax.{w64}
 use mir.Facts.{toZ-ofZ}
-use Rattle.laws.proofs.Signed.{handed, widens}
 use Rattle.graph.specs.Delay.{at, present}
 use Rattle.timing.specs.Limits.{delayLimit, absentCell, fits}
 use Rattle.timing.specs.Table.{readCell}
@@ -21,19 +19,14 @@ said c = sym (c .is-arc .ensures ∙ ap (λ (z : ℤ). present (readCell absentC
 returns : tie.Need-returns
 returns c = sym (ap (fits delayLimit) (absent-cell (c .before .before .args .x) (said (c .before) ∙ not-true _ (c .if1 .taken))))
 
-wide-requires : tie.Need-wide-requires
-wide-requires c κs = tt
-
-in-range-requires : tie.Need-in-range-requires
-in-range-requires c κs = tt
+ticks-fit-requires : tie.Need-ticks-fit-requires
+ticks-fit-requires c κs = tt
 
 returns-2 : tie.Need-returns-2
 returns-2 c =
-    let e = c .before .before in
+    let e = c .before in
     let s = e .before .before in
-    c .in-range .ensures ∙ ap (λ (z : ℤ). fits delayLimit (at z)) (handed w64 (c .before .wide .ensures ∙ toZ-ofZ (s .fits .x)) (widens (s .fits .x)))
-    ∙ sym (ap (fits delayLimit) (arc-cell (s .args .x) (said (e .before) ∙ not-false _ (e .if1 .left))))
+    c .ticks-fit .ensures ∙ ap (λ (z : ℤ). fits delayLimit (at z)) (toZ-ofZ (s .fits .x)) ∙ sym (ap (fits delayLimit) (arc-cell (s .args .x) (said (e .before) ∙ not-false _ (e .if1 .left))))
 
 pub cell-fits-spec : {M : Type 1} → statement M
-cell-fits-spec =
-    tie.close (tie.spec is-arc-requires returns wide-requires in-range-requires returns-2)
+cell-fits-spec = tie.close (tie.spec is-arc-requires returns ticks-fit-requires returns-2)

@@ -75,6 +75,9 @@ loop-again c =
     (λ w. let e = bit-of (cellAt (s .args .table .now) (s .args .from + s .args .stride * l .loop .i)) true (said a ∙ w .0 .taken) in (omega arith, omega (arith, w .1), omega (arith, w .1, e, more, l .loop .inv .2)))
     (λ w. let e = bit-of (cellAt (s .args .table .now) (s .args .from + s .args .stride * l .loop .i)) false (said a ∙ w .0 .left) in (omega arith, omega (arith, w .1), omega (arith, w .1, e, more, l .loop .inv .2)))
 
+cast-result : tie.Need-cast-result Inv-loop μ-loop
+cast-result c = omega (arith, c .before .loop .inv .1, c .before .loop .inv .0, c .before .before .pre .few)
+
 returns : tie.Need-returns Inv-loop μ-loop
 returns c =
     let e : c .before .loop .i ≡ c .before .before .args .times = omega arith in
@@ -96,4 +99,5 @@ count-spec =
     add-i
     loop-less
     loop-again
+    cast-result
     returns)

@@ -1,27 +1,32 @@
 use Rattle.paths.proofs.cells.row_fits.Statement.{statement}
 use Rattle.paths.proofs.cells.row_fits.Tie as tie
-use mathlib.Core.Path.{_≡_, sym, ap, _∙_}
-use mathlib.Core.Bool.{true}
-use Prim.Native.Nat.{_≤_, _-_}
+use mathlib.Core.Path.{_≡_, sym, ap, ap₂, _∙_}
+use mathlib.Core.Bool.{Bool, _&&_}
+use Prim.Native.Nat.{ℕ, _≤_, _+_, _-_}
+use native.Mathlib.Numerals.{add-one}
 use native.Mathlib.Omega.{arith}
 use lib.IntN.{ℤ}
-use borrow.Author.Tests.{not-true, not-false}
 use mir.Syntax.{w32}
 use Rattle.laws.specs.Bounded.{every}
-use Rattle.laws.proofs.Bounded.{every-none, every-more, every-broken}
+use Rattle.laws.proofs.Bounded.{every-none}
 use Rattle.laws.proofs.Signed.{back}
 use Rattle.timing.specs.Limits.{delayLimit, absentCell, fits}
 use Rattle.timing.specs.Table.{readCell}
 use Rattle.paths.specs.Cells.{cellAt}
 
+-- one number more
+every-next : (f : ℕ → Bool) (i : ℕ) → every (i + 1) f ≡ (every i f && f i)
+unfolding every
+every-next f i = rw (add-one i)
+
 abbrev Inv-loop : tie.InvT-loop
-Inv-loop row n v₀ v = (v ≤ n) × (every v (λ k. fits delayLimit (cellAt row k)) ≡ true)
+Inv-loop row n all₀ v₀ all v = (v ≤ n) × (all ≡ every v (λ k. fits delayLimit (cellAt row k)))
 
 abbrev μ-loop : tie.MeasureT-loop
-μ-loop row n v₀ v = n - v
+μ-loop row n all₀ v₀ all v = n - v
 
 loop-holds : tie.Need-loop-holds Inv-loop μ-loop
-loop-holds c = (omega arith, every-none _)
+loop-holds c = (omega arith, sym (every-none _))
 
 mul-cell-fits : tie.Need-mul-cell-fits Inv-loop μ-loop
 mul-cell-fits c = omega arith
@@ -32,25 +37,22 @@ shared-slice-copy-out-cell-fits c = omega arith
 cell-fits-requires : tie.Need-cell-fits-requires Inv-loop μ-loop
 cell-fits-requires c κs = tt
 
-said : (c : tie.After-cell-fits Inv-loop μ-loop) → fits delayLimit (cellAt (c .before .before .before .before .args .row .now) (c .before .before .before .loop .v)) ≡ c .cell-fits .result
-said c = sym (c .cell-fits .ensures ∙ ap (λ (z : ℤ). fits delayLimit (readCell absentCell z)) (back w32 _ (c .before .cell-fits-arg .given)))
-
-returns : tie.Need-returns Inv-loop μ-loop
-returns c = sym (every-broken _ _ (c .before .before .before .before .loop .v) (omega arith) (said (c .before) ∙ not-true _ (c .if1 .taken)))
-
 add-v : tie.Need-add-v Inv-loop μ-loop
 add-v c = omega arith
 
 loop-less : tie.Need-loop-less Inv-loop μ-loop
 loop-less c = omega arith
 
-loop-again : tie.Need-loop-again Inv-loop μ-loop
-loop-again c = (omega arith, every-more _ _ (c .before .before .before .before .loop .inv .1) (said (c .before) ∙ not-false _ (c .if1 .left)))
+said : (c : tie.After-cell-fits Inv-loop μ-loop) → c .cell-fits .result ≡ fits delayLimit (cellAt (c .before .before .before .before .args .row .now) (c .before .before .before .loop .v))
+said c = c .cell-fits .ensures ∙ ap (λ (z : ℤ). fits delayLimit (readCell absentCell z)) (back w32 _ (c .before .cell-fits-arg .given))
 
-returns-2 : tie.Need-returns-2 Inv-loop μ-loop
-returns-2 c =
+loop-again : tie.Need-loop-again Inv-loop μ-loop
+loop-again c = let l = c .before .before .before in (omega arith, ap₂ _&&_ (l .loop .inv .1) (said c) ∙ sym (every-next _ (l .loop .v)))
+
+returns : tie.Need-returns Inv-loop μ-loop
+returns c =
     let e : c .before .loop .v ≡ c .before .before .args .n = omega arith in
-    sym (rw e at (c .before .loop .inv .1))
+    rw e at (c .before .loop .inv .1)
 
 pub row-fits-spec : {M : Type 1} → statement M
 row-fits-spec =
@@ -62,8 +64,7 @@ row-fits-spec =
     mul-cell-fits
     shared-slice-copy-out-cell-fits
     cell-fits-requires
-    returns
     add-v
     loop-less
     loop-again
-    returns-2)
+    returns)

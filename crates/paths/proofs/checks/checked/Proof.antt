@@ -1,42 +1,51 @@
 use borrow.Author.Needs.{needs}
-use mathlib.Core.Path.{_≡_, sym, subst}
-use Rattle.paths.specs.declared.board.Board.{Board}
-use Rattle.paths.specs.Board.{Sized}
-use Rattle.paths.specs.Checked.{Checking}
-use Rattle.paths.proofs.Sizes.{sizes}
-use Rattle.paths.proofs.Checking.{made-board, made-refused}
+use borrow.Author.Tests.{not-true, not-false}
+use mathlib.Core.Path.{_≡_, sym, _∙_}
+use Rattle.paths.proofs.Checking.{memory-refused, odd-cell, arcs-next}
 use Rattle.paths.proofs.checks.checked.Statement.{statement}
 use Rattle.paths.proofs.checks.checked.Tie as tie
 
-new-requires : tie.Need-new-requires
-new-requires c κs = search needs
+memory-checked-requires : tie.Need-memory-checked-requires
+memory-checked-requires c κs = search needs
 
 enum-known-made : tie.Need-enum-known-made
 enum-known-made c = search needs
 
-module _ (c : tie.After-made) where
-  abbrev start : tie.Start
-  start = c .before .before .before
-
-  -- the board has the sizes that were asked for
-  made-of : (sizes (start .args .inputs) (start .args .outputs) (start .args .vertices) ≡ c .made .given .0 .0) × Sized (c .made .given .0 .0)
-  made-of = made-board _ _ _ _ _ (c .before .before .new .ensures) (c .made .given .1)
-
-table-checked-requires : tie.Need-table-checked-requires
-table-checked-requires c κs = let a = c .before .before in (made-of a .1, start a .pre)
+cells-fit-requires : tie.Need-cells-fit-requires
+cells-fit-requires c κs = let a = c .before in a .before .before .memory-checked .ensures .lent _ (a .made .given .1) .0
 
 returns : tie.Need-returns
 returns c =
     let a = c .before .before .before in
-    subst (λ (b : Board). Checking (b .inputs) (b .outputs) (b .vertices) (start a .args .scratch) (start a .args .table .now) (c .table-checked .last .1 .1 .1 .0) (c .table-checked .result)) (sym (made-of a .0)) (c .table-checked .ensures)
+    odd-cell _ _ _ _ _ _ _ (a .before .before .memory-checked .ensures) _ (a .made .given .1) (sym (c .before .cells-fit .ensures) ∙ not-true _ (c .if1 .taken))
+
+arcs-checked-requires : tie.Need-arcs-checked-requires
+arcs-checked-requires c κs =
+    let a = c .before .before .before .before in
+    let m = a .before .before in
+    (m .memory-checked .ensures .lent _ (a .made .given .1) .0, m .before .pre)
 
 enum-told : tie.Need-enum-told
 enum-told c = search needs
 
 returns-2 : tie.Need-returns-2
-returns-2 c = made-refused _ _ _ _ _ _ _ _ (c .before .before .new .ensures) (c .enum-told .given .1)
+returns-2 c =
+    let e = c .before .before in
+    let a = e .before .before .before in
+    arcs-next _ _ _ _ _ _ _ (a .before .before .memory-checked .ensures) _ (a .made .given .1) (sym (e .before .cells-fit .ensures) ∙ not-false _ (e .if1 .left)) _ (c .arcs-checked .ensures)
+
+returns-3 : tie.Need-returns-3
+returns-3 c = memory-refused _ _ _ _ _ _ _ (c .before .before .memory-checked .ensures) _ (c .enum-told .given .1)
 
 pub checked-spec : {M : Type 1} → statement M
 checked-spec =
     tie.close
-    (tie.spec new-requires enum-known-made table-checked-requires returns enum-told returns-2)
+    (tie.spec
+    memory-checked-requires
+    enum-known-made
+    cells-fit-requires
+    returns
+    arcs-checked-requires
+    returns-2
+    enum-told
+    returns-3)

@@ -1,61 +1,97 @@
 use Rattle.paths.proofs.order.fans.Statement.{statement}
 use Rattle.paths.proofs.order.fans.Tie as tie
-use mathlib.Core.Path.{_≡_, _∙_}
+use mathlib.Core.Path.{_≡_, ap, _∙_}
 use mathlib.Core.List.{List}
-use Prim.Native.Nat.{ℕ, _≤_, _-_}
+use Prim.Native.Nat.{ℕ, _≤_, _<_, _+_, _-_, _*_}
 use native.Mathlib.Omega.{arith}
 use lib.IntN.{ℤ}
-use lib.ListN.{length}
-use Rattle.laws.proofs.Storing.{Stored, stored-start, stored-turn}
+use lib.ListN.{length, getD}
+use Rattle.laws.specs.Bounded.{sum}
+use Rattle.laws.proofs.Grid.{row-in}
 use Rattle.laws.proofs.Sums.{sum-bound}
 use Rattle.graph.specs.Graph.{Graph}
-use Rattle.graph.specs.Count.{bit, fanIn}
+use Rattle.graph.specs.Count.{bit}
 use Rattle.graph.proofs.Presence.{bit-le}
 use Rattle.timing.specs.Limits.{maxVertices}
 use Rattle.timing.specs.Table.{graphOf}
-
--- what is to hold of the count at j
-abbrev Counted : ℕ → List ℤ → ℕ → ℕ → Type 0
-Counted n t j x = x ≡ fanIn n (graphOf n t) j
-
-few : (n : ℕ) (g : Graph) (v : ℕ) → fanIn n g v ≤ n
-unfolding fanIn
-few n g v = sum-bound n (λ u. bit (g u v)) (λ u. bit-le (g u v))
+use Rattle.paths.proofs.Columns.{above, above-more, above-all}
+use Rattle.paths.proofs.Rows.{lent-cell, lent-long}
 
 abbrev Inv-loop : tie.InvT-loop
-Inv-loop board table n fan₀ v₀ fan v = (v ≤ n) × (length fan₀ ≡ maxVertices) × Stored (Counted n table) 0 fan₀ fan v
+Inv-loop table n fan₀ u₀ fan u = (u ≤ n) × (length fan ≡ maxVertices) × ((v : ℕ) → v < n → getD fan v 0 ≡ above (graphOf n table) u v)
 
 abbrev μ-loop : tie.MeasureT-loop
-μ-loop board table n fan₀ v₀ fan v = n - v
+μ-loop table n fan₀ u₀ fan u = n - u
 
-bytes-requires : tie.Need-bytes-requires Inv-loop μ-loop
-bytes-requires c κs = tt
+no-fans-requires : tie.Need-no-fans-requires Inv-loop μ-loop
+no-fans-requires c κs = tt
 
 loop-holds : tie.Need-loop-holds Inv-loop μ-loop
-loop-holds c = (omega arith, c .bytes .ensures, stored-start _ _ _)
+unfolding sum
+loop-holds c = (omega arith, c .no-fans .ensures .0, λ v h. c .no-fans .ensures .1 v (omega (arith, c .before .pre .sized .few)))
 
-fan-in-requires : tie.Need-fan-in-requires Inv-loop μ-loop
-fan-in-requires c κs = (c .before .before .before .pre, c .loop-test .taken)
+-- a turn
+module _ (i : tie.In-loop Inv-loop μ-loop) where
+  abbrev start : tie.Start Inv-loop μ-loop
+  start = i .before .before .before
 
-cast-fan : tie.Need-cast-fan Inv-loop μ-loop
-cast-fan c = let s = c .before .before .before .before in omega (arith, c .fan-in .ensures, few (s .args .board .vertices) (graphOf (s .args .board .vertices) (s .args .table .now)) (c .before .before .loop .v), s .pre .sized .few)
+  abbrev n : ℕ
+  n = start .args .board .vertices
 
-array-write-fan : tie.Need-array-write-fan Inv-loop μ-loop
-array-write-fan c = let l = c .before .before in omega (arith, c .before .loop-test .taken, l .before .before .pre .sized .few, l .loop .inv .1, l .loop .inv .2 .size)
+  abbrev t : List ℤ
+  t = start .args .table .now
 
-add-v : tie.Need-add-v Inv-loop μ-loop
-add-v c = omega (arith, c .before .loop-test .taken)
+  abbrev u : ℕ
+  u = i .before .loop .u
+
+  row : n * u + n ≤ n * n
+  row = row-in n u (i .loop-test .taken)
+
+mul-at : tie.Need-mul-at Inv-loop μ-loop
+mul-at c = omega (arith, row c, start c .pre .room)
+
+mul-raise : tie.Need-mul-raise Inv-loop μ-loop
+mul-raise c = omega (arith, row c, start c .pre .room)
+
+sub-raise : tie.Need-sub-raise Inv-loop μ-loop
+sub-raise c = omega (arith, row c, start c .pre .room)
+
+part-raise-start : tie.Need-part-raise-start Inv-loop μ-loop
+part-raise-start c = omega (arith, row c, start c .pre .room)
+
+part-raise-end : tie.Need-part-raise-end Inv-loop μ-loop
+part-raise-end c = omega arith
+
+few : (g : Graph) (u v : ℕ) → above g u v ≤ u
+few g u v = sum-bound u (λ x. bit (g x v)) (λ x. bit-le (g x v))
+
+raise-requires : tie.Need-raise-requires Inv-loop μ-loop
+raise-requires c κs =
+    let i = c .before .before in
+    let l = i .before .loop in
+    (start i .pre .sized .few, (lent-long (n i) (t i) (u i) (start i .pre .room) (i .loop-test .taken), (l .inv .1, λ v h. omega (arith, l .inv .2 v h, few (graphOf (n i) (t i)) (u i) v, i .loop-test .taken, start i .pre .sized .few))))
+
+add-u : tie.Need-add-u Inv-loop μ-loop
+add-u c = let i = c .before .before .before in omega (arith, i .loop-test .taken, start i .pre .sized .few)
 
 loop-less : tie.Need-loop-less Inv-loop μ-loop
-loop-less c = omega (arith, c .before .loop-test .taken)
+loop-less c = let i = c .before .before .before in omega (arith, i .loop-test .taken)
 
 loop-again : tie.Need-loop-again Inv-loop μ-loop
 loop-again c =
-    let l = c .before .before in
-    (omega (arith, c .before .loop-test .taken), l .loop .inv .1, stored-turn (l .loop .inv .2) (omega (arith, c .before .loop-test .taken, l .before .before .pre .sized .few, l .loop .inv .1)) _ (c .fan-in .ensures))
+    let i = c .before .before .before in
+    let l = i .before .loop in (
+      omega (arith, i .loop-test .taken),
+      c .raise .ensures .0,
+      λ v h. omega (arith, c .raise .ensures .1 v h, l .inv .2 v h, ap bit (lent-cell (n i) (t i) (u i) (start i .pre .room) (i .loop-test .taken) v h), above-more (graphOf (n i) (t i)) (u i) v),
+    )
 
 returns : tie.Need-returns Inv-loop μ-loop
-returns c = let l = c .before in (l .loop .inv .2 .size ∙ l .loop .inv .1, λ v h. l .loop .inv .2 .done v (omega arith))
+returns c =
+    let l = c .before in
+    let s = l .before .before in
+    let n = s .args .board .vertices in
+    (l .loop .inv .1, λ v h. l .loop .inv .2 v h ∙ above-all n (graphOf n (s .args .table .now)) (l .loop .u) v (omega (arith, l .loop .inv .0, c .loop-test .left)))
 
 pub fans-spec : {M : Type 1} → statement M
 fans-spec =
@@ -63,12 +99,15 @@ fans-spec =
     (tie.spec
     Inv-loop
     μ-loop
-    bytes-requires
+    no-fans-requires
     loop-holds
-    fan-in-requires
-    cast-fan
-    array-write-fan
-    add-v
+    mul-at
+    mul-raise
+    sub-raise
+    part-raise-start
+    part-raise-end
+    raise-requires
+    add-u
     loop-less
     loop-again
     returns)

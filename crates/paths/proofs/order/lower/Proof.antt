@@ -35,7 +35,7 @@ mul-lowered : tie.Need-mul-lowered Inv-loop μ-loop
 mul-lowered c = omega (arith, c .before .before .before .pre .0)
 
 shared-slice-copy-out-lowered : tie.Need-shared-slice-copy-out-lowered Inv-loop μ-loop
-shared-slice-copy-out-lowered c = omega (arith, c .before .before .before .pre .1)
+shared-slice-copy-out-lowered c = omega (arith, c .before .before .before .pre .1 .0)
 
 module _ (c : tie.After-lowered-arg2 Inv-loop μ-loop) where
   abbrev head : tie.At-loop Inv-loop μ-loop
@@ -45,7 +45,7 @@ module _ (c : tie.After-lowered-arg2 Inv-loop μ-loop) where
   cell-is = ap (λ (z : ℤ). bit (readCell absentCell z)) (back w32 _ (c .lowered-arg2 .given))
 
 lowered-requires : tie.Need-lowered-requires Inv-loop μ-loop
-lowered-requires c κs = omega (arith, cell-is c, head c .loop .inv .1 .left (head c .loop .v) (omega arith), head c .before .pre .3 (head c .loop .v) (c .before .before .loop-test .taken))
+lowered-requires c κs = omega (arith, cell-is c, head c .loop .inv .1 .left (head c .loop .v) (omega arith), head c .before .pre .1 .1 .1 (head c .loop .v) (c .before .before .loop-test .taken))
 
 element-write-fan : tie.Need-element-write-fan Inv-loop μ-loop
 element-write-fan c = omega (arith, c .before .before .before .before .before .pre .0)
@@ -60,11 +60,11 @@ loop-again : tie.Need-loop-again Inv-loop μ-loop
 loop-again c =
     let h = head (c .before) in (
       omega arith,
-      stored-turn (h .loop .inv .1) (omega (arith, h .before .pre .0, h .before .pre .2)) _ (omega (arith, c .lowered .ensures, cell-is (c .before), h .loop .inv .1 .left (h .loop .v) (omega arith))),
+      stored-turn (h .loop .inv .1) (omega (arith, h .before .pre .0, h .before .pre .1 .1 .0)) _ (omega (arith, c .lowered .ensures, cell-is (c .before), h .loop .inv .1 .left (h .loop .v) (omega arith))),
     )
 
 returns : tie.Need-returns Inv-loop μ-loop
-returns c = (c .before .loop .inv .1 .size ∙ c .before .before .pre .2, λ v h. c .before .loop .inv .1 .done v (omega arith))
+returns c = (c .before .loop .inv .1 .size ∙ c .before .before .pre .1 .1 .0, λ v h. c .before .loop .inv .1 .done v (omega arith))
 
 pub lower-spec : {M : Type 1} → statement M
 lower-spec =

@@ -10,6 +10,7 @@ use Rattle.timing.specs.Table.{graphOf}
 use Rattle.timing.specs.Delays.{arrivalIn, arrivalAt, arrivalsFit}
 use Rattle.paths.proofs.Answering.{drop-further}
 use Rattle.paths.proofs.ArrivalLists.{given-of, lists-refused, lists-done, copied}
+use Rattle.paths.proofs.Sizes.{board-area}
 use Rattle.paths.proofs.Starting.{filled-drop}
 use Rattle.paths.proofs.queries.arrivals_answer.Statement.{statement}
 use Rattle.paths.proofs.queries.arrivals_answer.Tie as tie
@@ -32,27 +33,36 @@ module _ (e : tie.Else2) where
   fit = sym (e .before .before .before .arrivals-fit .ensures) ∙ not-false _ (e .before .before .if1 .left)
 
   least : start .args .board .vertices ≤ start .args .board .vertices * start .args .board .vertices
-  least = square (start .args .board .vertices) (omega (arith, start .pre .0 .lent .sized .some-inputs, start .pre .0 .lent .sized .roles))
+  least = square (start .args .board .vertices) (omega (arith, start .pre .0 .checked .lent .sized .some-inputs, start .pre .0 .checked .lent .sized .roles))
+
+cell-bytes-requires : tie.Need-cell-bytes-requires
+cell-bytes-requires c κs = tt
+
+slice-aggregate-chains : tie.Need-slice-aggregate-chains
+slice-aggregate-chains c = sym (c .before .cell-bytes .ensures)
 
 chains-requires : tie.Need-chains-requires
-chains-requires c κs = start c .pre .0 .lent
+chains-requires c κs =
+    let s = start (c .before .before) in
+    let l = s .pre .0 .checked .lent in
+    (l, omega (arith, c .before .cell-bytes .ensures, board-area (s .args .board) (l .sized)))
 
 -- the chains are made
-module _ (m : tie.After-chain) where
+module _ (m : tie.After-chains) where
   abbrev lists : tie.Else2
-  lists = m .before .before
+  lists = m .before .before .before
 
 slice-aggregate-arrivals : tie.Need-slice-aggregate-arrivals
-slice-aggregate-arrivals c = sym (c .before .chains .ensures .0)
+slice-aggregate-arrivals c = let m = c .before .before in sym (m .chains .kept .1 .1 .0 ∙ m .before .before .cell-bytes .ensures)
 
 arrivals-requires : tie.Need-arrivals-requires
-arrivals-requires c κs = let e = lists (c .before) in (start e .pre .0, c .before .before .chains .ensures .1, given-of _ _ (fit e), omega (arith, start e .pre .1, least e))
+arrivals-requires c κs = let m = c .before .before .before in let e = lists m in (start e .pre .0, (m .chains .ensures, (given-of _ _ (fit e), omega (arith, start e .pre .1, least e))))
 
 copy-out-requires : tie.Need-copy-out-requires
 copy-out-requires c κs =
     let a = c .before .before .before in
-    let e = lists (a .before .before) in
-    omega (arith, e .if2 .left, a .arrivals .kept .1 .1 .1 .1 .1 .0, start e .pre .0 .sound .room, start e .pre .1, least e)
+    let e = lists (a .before .before .before .before) in
+    omega (arith, e .if2 .left, a .arrivals .kept .1 .1 .1 .1 .1 .0, start e .pre .0 .checked .sound .room, start e .pre .1, least e)
 
 same-length : tie.Need-same-length
 same-length c = search needs
@@ -64,9 +74,9 @@ returns-3 : tie.Need-returns-3
 returns-3 c =
     let o = c .before in
     let a = o .before .before .before .before in
-    let e = lists (a .before .before) in
+    let e = lists (a .before .before .before .before) in
     let s = start e in (
-      lists-done _ _ _ _ _ _ (fit e) (e .if2 .left) _ (o .copy-out .ensures ∙ copied (s .args .board) (s .args .given .now) (s .args .scratch .now) (a .arrivals .last .1 .1 .1 .1 .1 .0) (graphOf (s .args .board .vertices) (s .args .table .now)) _ (s .pre .0 .sound .room) (e .if2 .left) (a .arrivals .ensures)),
+      lists-done _ _ _ _ _ _ (fit e) (e .if2 .left) _ (o .copy-out .ensures ∙ copied (s .args .board) (s .args .given .now) (s .args .scratch .now) (a .arrivals .last .1 .1 .1 .1 .1 .0) (graphOf (s .args .board .vertices) (s .args .table .now)) _ (s .pre .0 .checked .sound .room) (e .if2 .left) (a .arrivals .ensures)),
       drop-further (s .args .board .vertices) (s .args .board .vertices * s .args .board .vertices) (s .args .scratch .now) (a .arrivals .last .1 .1 .1 .1 .1 .0) (least e)
           (filled-drop (s .args .board .vertices) (arrivalAt (s .args .board .inputs) (s .args .board .vertices) (graphOf (s .args .board .vertices) (s .args .table .now)) (arrivalIn (s .args .given .now))) (s .args .scratch .now) (a .arrivals .last .1 .1 .1 .1 .1 .0) (a .arrivals .ensures)),
     )
@@ -78,6 +88,8 @@ arrivals-answer-spec =
     arrivals-fit-requires
     returns
     returns-2
+    cell-bytes-requires
+    slice-aggregate-chains
     chains-requires
     slice-aggregate-arrivals
     arrivals-requires

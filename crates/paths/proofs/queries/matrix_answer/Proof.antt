@@ -18,15 +18,15 @@ small b s =
     mul-le-mul o i
 
 least : (s : tie.Start) → s .args .board .vertices ≤ s .args .board .vertices * s .args .board .vertices
-least s = square (s .args .board .vertices) (omega (arith, s .pre .0 .lent .sized .some-inputs, s .pre .0 .lent .sized .roles))
+least s = square (s .args .board .vertices) (omega (arith, s .pre .0 .checked .lent .sized .some-inputs, s .pre .0 .checked .lent .sized .roles))
 
 mul-if1 : tie.Need-mul-if1
-mul-if1 c = omega (arith, small (c .before .args .board) (c .before .pre .0 .lent .sized))
+mul-if1 c = omega (arith, small (c .before .args .board) (c .before .pre .0 .checked .lent .sized))
 
 fill-matrix-requires : tie.Need-fill-matrix-requires
 fill-matrix-requires c κs =
     let s = c .before .before .before .before in
-    (s .pre .0, omega (arith, s .pre .1, least s), c .before .before .if1 .taken)
+    (s .pre .0, (omega (arith, s .pre .1, least s), c .before .before .if1 .taken))
 
 same-length : tie.Need-same-length
 same-length c = search needs

@@ -5,8 +5,8 @@ use Rattle.paths.proofs.Answering.{answers-on, answers-refused, scratch
 use Rattle.paths.proofs.queries.output_arrivals.Statement.{statement}
 use Rattle.paths.proofs.queries.output_arrivals.Tie as tie
 
-bytes-requires : tie.Need-bytes-requires
-bytes-requires c κs = search needs
+vertex-bytes-requires : tie.Need-vertex-bytes-requires
+vertex-bytes-requires c κs = search needs
 
 checked-requires : tie.Need-checked-requires
 checked-requires c κs = search needs
@@ -43,13 +43,13 @@ returns-2 : tie.Need-returns-2
 unfolding arrivalCall
 returns-2 c =
     let k = c .before in
-    (answers-refused (k .before .before .checked .ensures) _ (k .lent2 .given .1) _ _, scratch-same)
+    (answers-refused (k .before .before .checked .ensures) _ (k .lent2 .given .1) _ _ _ refl, scratch-same)
 
 pub output-arrivals-spec : {M : Type 1} → statement M
 output-arrivals-spec =
     tie.close
     (tie.spec
-    bytes-requires
+    vertex-bytes-requires
     checked-requires
     enum-known-lent
     arrivals-answer-requires

@@ -61,7 +61,7 @@ mul-sum-fits : tie.Need-mul-sum-fits Inv-loop μ-loop
 mul-sum-fits c = omega (arith, row c, start c .pre .0 .room)
 
 shared-slice-copy-out-sum-fits : tie.Need-shared-slice-copy-out-sum-fits Inv-loop μ-loop
-shared-slice-copy-out-sum-fits c = omega (arith, row c, start c .pre .0 .room, start c .pre .1)
+shared-slice-copy-out-sum-fits c = omega (arith, row c, start c .pre .0 .room, start c .pre .1 .0)
 
 sum-fits-requires : tie.Need-sum-fits-requires Inv-loop μ-loop
 sum-fits-requires c κs = tt
@@ -72,8 +72,8 @@ said c =
     let i = c .before .before in
     let s = start i in
     sym (c .sum-fits .ensures
-    ∙ ap₂ (λ (x y : Delay). fits delayLimit (x ⊕ y)) (ap (readCell absentCell) (back w32 _ (c .before .sum-fits-arg .given)) ∙ sym (graphOf-at (n i) (t i) (u i) (v i) (i .loop-test .taken) (s .pre .1)))
-    (ap (readCell absentCell) (toZ-ofZ (s .fits .d)) ∙ delay-cell (s .args .d) (s .pre .2) ∙ ap at (sym (toZ-ofZ (s .fits .d)))))
+    ∙ ap₂ (λ (x y : Delay). fits delayLimit (x ⊕ y)) (ap (readCell absentCell) (back w32 _ (c .before .sum-fits-arg .given)) ∙ sym (graphOf-at (n i) (t i) (u i) (v i) (i .loop-test .taken) (s .pre .1 .0)))
+    (ap (readCell absentCell) (toZ-ofZ (s .fits .d)) ∙ delay-cell (s .args .d) (s .pre .1 .1) ∙ ap at (sym (toZ-ofZ (s .fits .d)))))
 
 returns : tie.Need-returns Inv-loop μ-loop
 returns c =

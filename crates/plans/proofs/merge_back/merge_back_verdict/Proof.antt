@@ -3,7 +3,7 @@ use mathlib.Core.Bool.{true}
 use mathlib.Core.List.{List}
 use Prim.Native.Nat.{ℕ, _+_, _*_, _≤_, _<_}
 use native.Mathlib.Omega.{arith}
-use borrow.Author.Tests.{eq-eqb, ne-eqb, not-true, not-false}
+use borrow.Author.Tests.{not-true, not-false}
 use lib.Dec.{eqb}
 use lib.IntN.{ℤ, pos}
 use lib.ListN.{getD}
@@ -62,12 +62,12 @@ module _ (c : tie.Else1) where
   inside : o start < n start
   inside = output-below (m start) (outs start) (n start) (o start) (start .pre .0 .sized .roles) (true-is output)
 
-fan-in-requires : tie.Need-fan-in-requires
-fan-in-requires c κs = (start c .pre .0, inside c)
+one-into-requires : tie.Need-one-into-requires
+one-into-requires c κs = (start c .pre .0, inside c)
 
 returns-2 : tie.Need-returns-2
 unfolding mergeBackVerdict
-returns-2 c = simp (output (c .before .before), ne-eqb _ 1 (λ e. c .if2 .taken (c .before .fan-in .ensures ∙ e)))
+returns-2 c = simp (output (c .before .before), sym (c .before .one-into .ensures) ∙ not-true _ (c .if2 .taken))
 
 -- one arc leads to o
 module _ (c : tie.Else2) where
@@ -75,7 +75,7 @@ module _ (c : tie.Else2) where
   role = c .before .before
 
   single : eqb (fanIn (n (start role)) (g (start role)) (o (start role))) 1 ≡ true
-  single = eq-eqb _ 1 (sym (c .before .fan-in .ensures) ∙ c .if2 .left)
+  single = sym (c .before .one-into .ensures) ∙ not-false _ (c .if2 .left)
 
 driver-requires : tie.Need-driver-requires
 driver-requires c κs = (start (role c) .pre .0, inside (role c))
@@ -177,7 +177,7 @@ merge-back-verdict-spec =
     (tie.spec
     is-output-requires
     returns
-    fan-in-requires
+    one-into-requires
     returns-2
     driver-requires
     is-inner-requires

@@ -37,7 +37,7 @@ module _ (c : tie.Start) where
   row = row-in n v (c .pre .1 .from-below)
 
 column-sums-fit-requires : tie.Need-column-sums-fit-requires
-column-sums-fit-requires c κs = (c .pre .0, c .pre .1 .from-below, rw (toZ-ofZ {w = w32} (c .fits .d)) (c .pre .1 .legal))
+column-sums-fit-requires c κs = (c .pre .0, (c .pre .1 .from-below, rw (toZ-ofZ {w = w32} (c .fits .d)) (c .pre .1 .legal)))
 
 sums : (c : tie.After-column-sums-fit) → let s = c .before in every (n s) (λ u. fits delayLimit (g s u (v s) ⊕ at (d s))) ≡ c .column-sums-fit .result
 sums c = sym (rw (toZ-ofZ {w = w32} (c .before .fits .d)) at (c .column-sums-fit .ensures))

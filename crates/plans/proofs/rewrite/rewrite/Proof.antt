@@ -9,7 +9,7 @@ use Rattle.laws.proofs.Filling.{rows-none, row-lent, row-back}
 use Rattle.laws.proofs.Grid.{row-in}
 use Rattle.timing.specs.Limits.{absentCell}
 use Rattle.timing.specs.Table.{readCell, graphOf, withGraph}
-use Rattle.paths.proofs.Rows.{lent-cell, lent-long}
+use Rattle.timing.proofs.Table.{graphOf-at}
 use Rattle.plans.specs.declared.rewrite.Rewriting.{Rewriting}
 use Rattle.plans.specs.Rewritten.{rewritten, origin}
 use Rattle.plans.proofs.CopiedRow.{newCell, Copied}
@@ -58,20 +58,8 @@ module _ (c : tie.After-origin Inv-loop μ-loop) where
 mul-from : tie.Need-mul-from Inv-loop μ-loop
 mul-from c = omega (arith, row-k c, room c)
 
-mul-row-copy : tie.Need-mul-row-copy Inv-loop μ-loop
-mul-row-copy c = omega (arith, row-k c, room c)
-
-sub-row-copy : tie.Need-sub-row-copy Inv-loop μ-loop
-sub-row-copy c = omega (arith, row-k c, room c)
-
-part-row-copy-start : tie.Need-part-row-copy-start Inv-loop μ-loop
-part-row-copy-start c = omega (arith, row-k (c .before), room (c .before))
-
-part-row-copy-end : tie.Need-part-row-copy-end Inv-loop μ-loop
-part-row-copy-end c = omega arith
-
 row-copy-requires : tie.Need-row-copy-requires Inv-loop μ-loop
-row-copy-requires c κs = let o = c .before .before in (start o .pre .0 .sized .few, lent-long (n o) (t o) (k o) (room o) (inside o))
+row-copy-requires c κs = let o = c .before in (start o .pre .0 .sized .few, omega (arith, row-k o, room o))
 
 loop-holds : tie.Need-loop-holds Inv-loop μ-loop
 loop-holds c = (omega arith, refl, rows-none _ _ _)
@@ -82,7 +70,7 @@ module _ (c : tie.In-loop Inv-loop μ-loop) where
   copy = c .before .before
 
   abbrev o : tie.After-origin Inv-loop μ-loop
-  o = copy .before .before .before
+  o = copy .before .before
 
   abbrev via : List ℤ
   via = copy .row-copy .result
@@ -92,7 +80,7 @@ module _ (c : tie.In-loop Inv-loop μ-loop) where
     few = start o .pre .0 .sized .few;
     room = room o;
     inside = inside o;
-    same = λ v h. ap (readCell absentCell) (copy .row-copy .ensures v h) ∙ lent-cell (n o) (t o) (k o) (room o) (inside o) v h;
+    same = λ v h. ap (readCell absentCell) (copy .row-copy .ensures v h) ∙ sym (graphOf-at (n o) (t o) (k o) v (inside o) h);
   })
 
   abbrev u : ℕ
@@ -143,7 +131,7 @@ loop-again c =
     let b = o i in
     let l = i .before in (
       omega (arith, i .loop-test .taken),
-      c .table2 .given .1 ∙ l .loop .inv .1,
+      c .table .given .1 ∙ l .loop .inv .1,
       row-back (n b) (new b) (t b) (l .loop .table) (u i) (l .loop .inv .2) (c .before .rewrite-row .last .0)
           (row-rewritten (n b) (t b) (via i) (u i) (i .loop-test .taken) (lent i) (lent-is i) (how b) (copied i) (start b .pre .1) (c .before .rewrite-row .ensures)),
     )
@@ -154,7 +142,7 @@ same-length c = c .before .loop .inv .1
 returns : tie.Need-returns Inv-loop μ-loop
 unfolding withGraph
 returns c =
-    let e : c .before .loop .u ≡ n (c .before .before .before .before .before) = omega arith in
+    let e : c .before .loop .u ≡ n (c .before .before .before .before) = omega arith in
     rw e at (c .before .loop .inv .2)
 
 pub rewrite-spec : {M : Type 1} → statement M
@@ -165,10 +153,6 @@ rewrite-spec =
     μ-loop
     origin-requires
     mul-from
-    mul-row-copy
-    sub-row-copy
-    part-row-copy-start
-    part-row-copy-end
     row-copy-requires
     loop-holds
     mul-at

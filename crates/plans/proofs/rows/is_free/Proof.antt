@@ -3,7 +3,7 @@ use mathlib.Core.Bool.{true}
 use borrow.Author.Tests.{not-true, not-false}
 use Rattle.timing.specs.Table.{graphOf}
 use Rattle.reduction.specs.Outcome.{isInner}
-use Rattle.plans.proofs.ShareConditions.{used, used-out}
+use Rattle.plans.proofs.ShareConditions.{used, used-in}
 use Rattle.plans.proofs.rows.is_free.Statement.{statement}
 use Rattle.plans.proofs.rows.is_free.Tie as tie
 
@@ -13,8 +13,8 @@ is-inner-requires c κs = c .pre .0 .sized
 returns : tie.Need-returns
 returns c = simp (sym (c .before .is-inner .ensures) ∙ not-true _ (c .if1 .taken))
 
-fan-in-requires : tie.Need-fan-in-requires
-fan-in-requires c κs = c .before .before .pre
+fan-out-requires : tie.Need-fan-out-requires
+fan-out-requires c κs = c .before .before .pre
 
 -- k is inner
 module _ (c : tie.Else1) where
@@ -29,18 +29,18 @@ returns-2 c =
     let f = c .before in
     let s = start (f .before) in
     let n = s .args .board .vertices in
-    simp (inner (f .before), used n (graphOf n (s .args .table .now)) (s .args .k) (λ e. c .if2 .taken (f .fan-in .ensures ∙ e)))
+    simp (inner (f .before), used n (graphOf n (s .args .table .now)) (s .args .k) (λ e. c .if2 .taken (f .fan-out .ensures ∙ e)))
 
-fan-out-requires : tie.Need-fan-out-requires
-fan-out-requires c κs = c .before .before .before .before .pre
+none-into-requires : tie.Need-none-into-requires
+none-into-requires c κs = c .before .before .before .before .pre
 
 returns-3 : tie.Need-returns-3
 returns-3 c =
     let f = c .before .before in
     let s = start (f .before) in
     let n = s .args .board .vertices in
-    simp (inner (f .before), used-out n (graphOf n (s .args .table .now)) (s .args .k) (sym (f .fan-in .ensures) ∙ c .before .if2 .left), c .fan-out .ensures)
+    simp (inner (f .before), used-in n (graphOf n (s .args .table .now)) (s .args .k) (sym (f .fan-out .ensures) ∙ c .before .if2 .left), c .none-into .ensures)
 
 pub is-free-spec : {M : Type 1} → statement M
 is-free-spec =
-    tie.close (tie.spec is-inner-requires returns fan-in-requires returns-2 fan-out-requires returns-3)
+    tie.close (tie.spec is-inner-requires returns fan-out-requires returns-2 none-into-requires returns-3)

@@ -1,5 +1,5 @@
 use mathlib.Core.Path.{_≡_, refl}
-use Prim.Native.Nat.{_≤_, _-_}
+use Prim.Native.Nat.{_≤_, _+_, _-_}
 use native.Mathlib.Omega.{arith}
 use lib.IntN.{pos}
 use lib.ListN.{length, getD}
@@ -11,13 +11,16 @@ use Rattle.plans.proofs.rows.row_copy.Statement.{statement}
 use Rattle.plans.proofs.rows.row_copy.Tie as tie
 
 abbrev Inv-loop : tie.InvT-loop
-Inv-loop row n copy₀ v₀ copy v = (v ≤ n) × (length copy ≡ maxVertices) × Stored (λ j z. z ≡ getD row j (pos 0)) (pos 0) copy₀ copy v
+Inv-loop table at n copy₀ v₀ copy v = (v ≤ n) × (length copy ≡ maxVertices) × Stored (λ j z. z ≡ getD table (at + j) (pos 0)) (pos 0) copy₀ copy v
 
 abbrev μ-loop : tie.MeasureT-loop
-μ-loop row n copy₀ v₀ copy v = n - v
+μ-loop table at n copy₀ v₀ copy v = n - v
 
 loop-holds : tie.Need-loop-holds Inv-loop μ-loop
 loop-holds c = (omega arith, refl, stored-start _ _ _)
+
+add-copy : tie.Need-add-copy Inv-loop μ-loop
+add-copy c = omega arith
 
 mul-copy : tie.Need-mul-copy Inv-loop μ-loop
 mul-copy c = omega arith
@@ -53,6 +56,7 @@ row-copy-spec =
     Inv-loop
     μ-loop
     loop-holds
+    add-copy
     mul-copy
     shared-slice-copy-out-copy
     mul-copy-2

@@ -1,78 +1,26 @@
 use borrow.Author.Needs.{needs}
-use mathlib.Core.Path.{_≡_}
+use mathlib.Core.Path.{_≡_, subst}
 use lib.ListN.{length}
+use Rattle.replay.specs.Page.{OnPage, EndsOn}
 use Rattle.replay.proofs.play.turns.Statement.{statement}
 use Rattle.replay.proofs.play.turns.Tie as tie
 
 abbrev Inv-loop : tie.InvT-loop
-Inv-loop sizes table₀ scratch₀ page₀ at₀ left₀ table scratch page at left = (length table ≡ length table₀) × (length scratch ≡ length scratch₀) × (length page ≡ length page₀)
+Inv-loop sizes table₀ room page₀ at₀ left₀ table page at left = (length table ≡ length table₀) × (length page ≡ length page₀) × OnPage page at
 
 abbrev μ-loop : tie.MeasureT-loop
-μ-loop sizes table₀ scratch₀ page₀ at₀ left₀ table scratch page at left = left
-
-loop-holds : tie.Need-loop-holds Inv-loop μ-loop
-loop-holds c = search needs
-
-turn-requires : tie.Need-turn-requires Inv-loop μ-loop
-turn-requires c κs = search needs
-
-enum-known-played : tie.Need-enum-known-played Inv-loop μ-loop
-enum-known-played c = search needs
-
-enum-told : tie.Need-enum-told Inv-loop μ-loop
-enum-told c = search needs
-
-same-length : tie.Need-same-length Inv-loop μ-loop
-same-length c = search needs
-
-same-length-2 : tie.Need-same-length-2 Inv-loop μ-loop
-same-length-2 c = search needs
-
-same-length-3 : tie.Need-same-length-3 Inv-loop μ-loop
-same-length-3 c = search needs
-
-returns : tie.Need-returns Inv-loop μ-loop
-returns c = search needs
-
-sub-left : tie.Need-sub-left Inv-loop μ-loop
-sub-left c = search needs
-
-loop-less : tie.Need-loop-less Inv-loop μ-loop
-loop-less c = search needs
+μ-loop sizes table₀ room page₀ at₀ left₀ table page at left = left
 
 loop-again : tie.Need-loop-again Inv-loop μ-loop
-loop-again c = search needs
-
-same-length-4 : tie.Need-same-length-4 Inv-loop μ-loop
-same-length-4 c = search needs
-
-same-length-5 : tie.Need-same-length-5 Inv-loop μ-loop
-same-length-5 c = search needs
-
-same-length-6 : tie.Need-same-length-6 Inv-loop μ-loop
-same-length-6 c = search needs
-
-returns-2 : tie.Need-returns-2 Inv-loop μ-loop
-returns-2 c = search needs
+loop-again c =
+    let call = c .before .before .before .before .before .before in
+    let on = subst (EndsOn (call .turn .last .1 .1 .1 .0)) (c .before .played .given .1) (call .turn .ensures) in
+    search needs
 
 pub turns-spec : {M : Type 1} → statement M
 turns-spec =
     tie.close
-    (tie.spec
-    Inv-loop
-    μ-loop
-    loop-holds
-    turn-requires
-    enum-known-played
-    enum-told
-    same-length
-    same-length-2
-    same-length-3
-    returns
-    sub-left
-    loop-less
-    loop-again
-    same-length-4
-    same-length-5
-    same-length-6
-    returns-2)
+    (tie.spec Inv-loop μ-loop
+    (λ c. search needs) (λ c κs. search needs) (λ c. search needs) (λ c. search needs)
+    (λ c. search needs) (λ c. search needs) (λ c. search needs) (λ c. search needs)
+    (λ c. search needs) loop-again (λ c. search needs) (λ c. search needs) (λ c. search needs))

@@ -5,8 +5,8 @@ use Rattle.run.proofs.Ending.{run-done, run-refused}
 use Rattle.run.proofs.calls.run.Statement.{statement}
 use Rattle.run.proofs.calls.run.Tie as tie
 
-bytes-requires : tie.Need-bytes-requires
-bytes-requires c κs = search needs
+vertex-bytes-requires : tie.Need-vertex-bytes-requires
+vertex-bytes-requires c κs = search needs
 
 checked-requires : tie.Need-checked-requires
 checked-requires c κs = search needs
@@ -19,7 +19,7 @@ rounds-requires c κs =
     let k = c .before .before .before .before in
     let h = k .before .before .checked .ensures in
     let p = h .passable _ (k .lent .given .1) in
-    (p .0, h .long _ (k .lent .given .1), p .1)
+    (p .0, (h .long _ (k .lent .given .1), p .1))
 
 enum-known-lent-2 : tie.Need-enum-known-lent-2
 enum-known-lent-2 c = search needs
@@ -49,7 +49,7 @@ pub run-spec : {M : Type 1} → statement M
 run-spec =
     tie.close
     (tie.spec
-    bytes-requires
+    vertex-bytes-requires
     checked-requires
     enum-known-lent
     rounds-requires

@@ -11,8 +11,8 @@ use Rattle.run.proofs.counts.is_rich.Tie as tie
 enum-told : tie.Need-enum-told
 enum-told c = search needs
 
-fan-out-requires : tie.Need-fan-out-requires
-fan-out-requires c κs = search needs
+enough-out-requires : tie.Need-enough-out-requires
+enough-out-requires c κs = search needs
 
 enum-told-2 : tie.Need-enum-told-2
 enum-told-2 c = search needs
@@ -26,11 +26,11 @@ module _ (s : tie.Start) where
   on x = isRich x (s .args .board .vertices) (graphOf (s .args .board .vertices) (s .args .table .now)) (s .args .v)
 
 returns : tie.Need-returns
-returns c = ap (leb 3) (c .fan-out .ensures) ∙ ap (on (c .before .before .before)) (sym (c .before .enum-told .given .1))
+returns c = c .enough-out .ensures ∙ ap (on (c .before .before .before)) (sym (c .before .enum-told .given .1))
 
 returns-2 : tie.Need-returns-2
 returns-2 c = ap (leb 2) (c .fan-in .ensures) ∙ ap (on (c .before .before .before)) (sym (c .before .enum-told2 .given .1))
 
 pub is-rich-spec : {M : Type 1} → statement M
 is-rich-spec =
-    tie.close (tie.spec enum-told fan-out-requires enum-told-2 fan-in-requires returns returns-2)
+    tie.close (tie.spec enum-told enough-out-requires enum-told-2 fan-in-requires returns returns-2)

@@ -29,14 +29,14 @@ abbrev μ-loop : tie.MeasureT-loop
 end-requires : tie.Need-end-requires Inv-loop μ-loop
 end-requires c κs = c .pre .sized
 
-none-requires : tie.Need-none-requires Inv-loop μ-loop
-none-requires c κs = tt
+vertex-flags-requires : tie.Need-vertex-flags-requires Inv-loop μ-loop
+vertex-flags-requires c κs = tt
 
 first-requires : tie.Need-first-requires Inv-loop μ-loop
 first-requires c κs = tt
 
 loop-holds : tie.Need-loop-holds Inv-loop μ-loop
-loop-holds c = (omega (arith, c .first .ensures), c .before .none .ensures, record { size = refl; done = λ j h on. absurd (omega (arith, h, on .from, c .first .ensures)); left = λ j h. refl })
+loop-holds c = (omega (arith, c .first .ensures), c .before .vertex-flags .ensures .0, record { size = refl; done = λ j h on. absurd (omega (arith, h, on .from, c .first .ensures)); left = λ j h. refl })
 
 -- in a turn
 module _ (i : tie.In-loop Inv-loop μ-loop) where
@@ -81,7 +81,7 @@ rich-ones-spec =
     Inv-loop
     μ-loop
     end-requires
-    none-requires
+    vertex-flags-requires
     first-requires
     loop-holds
     is-rich-requires

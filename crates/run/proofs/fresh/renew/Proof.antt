@@ -1,5 +1,5 @@
 use borrow.Author.Needs.{needs}
-use mathlib.Core.Path.{_≡_, sym, _∙_, subst}
+use mathlib.Core.Path.{_≡_, refl, sym, _∙_, subst}
 use Prim.Native.Nat.{ℕ}
 use native.Mathlib.Omega.{arith}
 use lib.Dec.{T}
@@ -24,7 +24,7 @@ other q = let z : _≡_ {A = ℕ} 0 1 = cc in omega arith
 returns : tie.Need-returns
 returns c =
     let s = c .before .before .before in
-    record { long = s .pre .1; fresh = λ q. absurd (other (sym q ∙ c .before .enum-told2 .given .1)); order = s .pre .2 (c .if1 .taken) }
+    (record { long = s .pre .1 .0; fresh = λ q. absurd (other (sym q ∙ c .before .enum-told2 .given .1)); order = s .pre .1 .1 (c .if1 .taken) }, λ _. refl)
 
 topological-order-requires : tie.Need-topological-order-requires
 topological-order-requires c κs = search needs
@@ -33,7 +33,7 @@ returns-2 : tie.Need-returns-2
 returns-2 c =
     let e = c .before .enum-told .given .1 in
     let s = c .before .before .before in
-    record { long = s .pre .1; fresh = λ _. c .fresh-number .ensures; order = λ q. absurd (other (sym e ∙ q)) }
+    (record { long = s .pre .1 .0; fresh = λ _. c .fresh-number .ensures; order = λ q. absurd (other (sym e ∙ q)) }, λ _. refl)
 
 returns-3 : tie.Need-returns-3
 returns-3 c =
@@ -42,7 +42,7 @@ returns-3 c =
     let h = c .topological-order .ensures in
     let N = s .args .board .vertices in
     let rises : T (c .topological-order .result) = subst T (sym (h .answer)) (acyclic-noCycle N (graphOf N (s .args .table .now)) (s .pre .0 .sound .acyclic)) in
-    record { long = h .long; fresh = λ q. absurd (other (sym q ∙ e)); order = λ _. record { lent = s .pre .0 .lent; order = h .order rises; sound = s .pre .0 .sound } }
+    (record { long = h .long; fresh = λ q. absurd (other (sym q ∙ e)); order = λ _. record { checked = s .pre .0; order = h .order rises } }, λ q. absurd (other (sym q ∙ e)))
 
 pub renew-spec : {M : Type 1} → statement M
 renew-spec =

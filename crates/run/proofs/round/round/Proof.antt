@@ -1,26 +1,34 @@
 use borrow.Author.Needs.{needs}
-use mathlib.Core.Path.{refl, _∙_}
+use mathlib.Core.Path.{_≡_, refl, sym, subst}
+use mathlib.Core.Bool.{true}
+use mathlib.Core.List.{List}
+use Prim.Native.Nat.{ℕ}
 use native.Mathlib.Omega.{arith}
+use lib.IntN.{ℤ}
 use Rattle.reduction.specs.Run.{Progress}
 use Rattle.paths.specs.declared.board.Board.{Board}
+use Rattle.paths.specs.Checked.{Passable}
 use Rattle.run.specs.declared.side.Side.the-variants.{Inputs, Outputs}
 use Rattle.run.specs.declared.vertex_tries.VertexStep.the-variants.{Shrink}
 use Rattle.run.specs.Sides.{shareTries}
 use Rattle.run.specs.VertexSteps.{vertexTries}
 use Rattle.run.specs.Running.{progress, Running, Held}
-use Rattle.run.proofs.Moving.{running-on, held-on}
+use Rattle.run.proofs.Moving.{running-on, held-on, quiet-on}
 use Rattle.run.proofs.Sharing.{share-tries-gain}
 use Rattle.run.proofs.Rounding.{pruneTry, prune-gain, vertex-tries-gain, reaches-round}
 use Rattle.run.proofs.round.round.Statement.{statement}
 use Rattle.run.proofs.round.round.Tie as tie
 
 shares-requires : tie.Need-shares-requires
-shares-requires c κs = search needs
+shares-requires c κs = let s = c .before .before in (s .pre .0, (s .pre .1 .0, (s .pre .1 .1 .0, λ e. absurd (let z : _≡_ {A = ℕ} 0 1 = cc in omega arith))))
+
+still-sorted-requires : tie.Need-still-sorted-requires
+still-sorted-requires c κs = tt
 
 -- after each part: the progress, and that the run goes on
 module _ (c : tie.After-shares) where
   abbrev start : tie.Start
-  start = c .before .before .before .before
+  start = c .before .before .before
 
   abbrev b : Board
   b = start .args .board
@@ -34,17 +42,24 @@ module _ (c : tie.After-shares) where
   running-1 : Running b progress-1
   running-1 = running-on b (shareTries (b .inputs) (b .outputs) (b .vertices) Inputs) progress-0 progress-1 (share-tries-gain (b .inputs) (b .outputs) (b .vertices) Inputs) (c .shares .ensures .0) (start .pre .0)
 
+  -- where no step is accepted, the table and the order stay
+  passable-1 : start .args .sorted ≡ true → c .shares .result ≡ start .args .steps → Passable b (c .shares .last .1 .0) (c .shares .last .1 .1 .0)
+  passable-1 e f =
+      let same = quiet-on b (shareTries (b .inputs) (b .outputs) (b .vertices) Inputs) progress-0 progress-1 (share-tries-gain (b .inputs) (b .outputs) (b .vertices) Inputs) (c .shares .ensures .0) f in
+      subst (λ (t : List ℤ). Passable b t (c .shares .last .1 .1 .0)) (sym same) (subst (λ (o : List ℕ). Passable b (start .args .table .now) o) (sym (c .shares .ensures .1 .1 refl)) (start .pre .1 .1 .1 .0 e))
+
   held-1 : Held b (start .args .matrix .now) (c .shares .last .1 .0)
-  held-1 = held-on b (shareTries (b .inputs) (b .outputs) (b .vertices) Inputs) progress-0 progress-1 (share-tries-gain (b .inputs) (b .outputs) (b .vertices) Inputs) (c .shares .ensures .0) (start .args .matrix .now) (start .pre .1)
+  held-1 = held-on b (shareTries (b .inputs) (b .outputs) (b .vertices) Inputs) progress-0 progress-1 (share-tries-gain (b .inputs) (b .outputs) (b .vertices) Inputs) (c .shares .ensures .0) (start .args .matrix .now) (start .pre .1 .0)
 
 shares-requires-2 : tie.Need-shares-requires-2
 shares-requires-2 c κs =
-    let d = c .before .before .before .before .before in
-    (running-1 d, held-1 d, d .shares .ensures .1 .0 .0, omega (arith, start d .pre .3, d .shares .kept .1 .1 .1 .0))
+    let x = c .before .before in
+    let d = x .before .before in
+    (running-1 d, (held-1 d, (d .shares .ensures .1 .0 .0, λ e _. let u = x .still-sorted .ensures e in passable-1 d (u .0) (u .1))))
 
 module _ (c : tie.After-shares2) where
   abbrev part-1 : tie.After-shares
-  part-1 = c .before .before .before .before .before .before
+  part-1 = c .before .before .before .before .before
 
   abbrev progress-2 : Progress
   progress-2 = progress (c .shares2 .last .1 .0) (c .shares2 .result)
@@ -54,12 +69,12 @@ module _ (c : tie.After-shares2) where
 
 try-prune-requires : tie.Need-try-prune-requires
 try-prune-requires c κs =
-    let d = c .before .before .before .before .before in
-    (running-2 d, d .shares2 .ensures .1 .0 .1 refl, omega (arith, start (part-1 d) .pre .3, part-1 d .shares .kept .1 .1 .1 .0, d .shares2 .kept .1 .1 .1 .0))
+    let d = c .before .before .before .before in
+    (running-2 d, (d .shares2 .ensures .1 .0 .1 refl, start (part-1 d) .pre .1 .1 .1 .1))
 
 module _ (c : tie.After-try-prune) where
   abbrev part-2 : tie.After-shares2
-  part-2 = c .before .before .before .before .before .before
+  part-2 = c .before .before .before .before .before
 
   abbrev progress-3 : Progress
   progress-3 = progress (c .try-prune .last .1 .0) (c .try-prune .result)
@@ -99,7 +114,7 @@ returns c =
     let d = b p1 in (
       reaches-round (d .inputs) (d .outputs) (d .vertices) (progress-0 p1) (progress-1 p1) (progress-2 p2) (progress-3 p3) (progress-4 p4) (progress (e .vertex-tries2 .last .1 .0) (e .vertex-tries2 .result))
           (p1 .shares .ensures .0) (p2 .shares2 .ensures .0) (p3 .try-prune .ensures .0) (p4 .vertex-tries .ensures) (e .vertex-tries2 .ensures),
-      (p2 .shares2 .ensures .1 .0 .0, p3 .try-prune .ensures .1 ∙ p2 .shares2 .ensures .1 .1 ∙ p1 .shares .ensures .1 .1),
+      (p2 .shares2 .ensures .1 .0 .0, p3 .try-prune .ensures .1),
     )
 
 pub round-spec : {M : Type 1} → statement M
@@ -107,6 +122,7 @@ round-spec =
     tie.close
     (tie.spec
     shares-requires
+    still-sorted-requires
     shares-requires-2
     try-prune-requires
     vertex-tries-requires

@@ -16,14 +16,14 @@ use Rattle.run.proofs.round.try_prune.Tie as tie
 -- the try leads to the steps that the code counts
 reaches : (c : tie.After-accepted) → let a = c .before .before .before in let s = a .before .before .before in let b = s .args .board in
     (x : Bool) → c .accepted .result ≡ x → (d : ℕ) → d ≡ s .args .steps + gained x
-    → Reaches (b .vertices) (λ s. tryStep (b .inputs) (b .outputs) (b .vertices) s prune ∷ []) (progress (s .args .table .now) (s .args .steps)) (progress (a .apply-prune .last .1 .0) d)
+    → Reaches (b .vertices) (λ s. tryStep (b .inputs) (b .outputs) (b .vertices) s prune ∷ []) (progress (s .args .table .now) (s .args .steps)) (progress (a .prune-step .last .1 .0) d)
 reaches c x e d q =
     let a = c .before .before .before in
     let s = a .before .before .before in
-    try-reaches (s .pre .0) prune (a .apply-prune .last .1 .0) (c .accepted .result) (applied-tries (s .args .board) (s .args .table .now) prune (a .apply-prune .last .1 .0) (a .apply-prune .result) (c .accepted .result) (a .apply-prune .ensures .0) (c .accepted .ensures)) d (counts (s .args .steps) e q)
+    try-reaches (s .pre .0) prune (a .prune-step .last .1 .0) (c .accepted .result) (applied-tries (s .args .board) (s .args .table .now) prune (a .prune-step .last .1 .0) (a .prune-step .result) (c .accepted .result) (a .prune-step .ensures .0) (c .accepted .ensures)) d (counts (s .args .steps) e q)
 
-apply-prune-requires : tie.Need-apply-prune-requires
-apply-prune-requires c κs = search needs
+prune-step-requires : tie.Need-prune-step-requires
+prune-step-requires c κs = search needs
 
 accepted-requires : tie.Need-accepted-requires
 accepted-requires c κs = search needs
@@ -38,7 +38,7 @@ same-length-2 : tie.Need-same-length-2
 same-length-2 c = search needs
 
 returns : tie.Need-returns
-returns c = (reaches (c .before) true (c .if1 .taken) _ refl, c .before .before .before .before .apply-prune .ensures .1)
+returns c = (reaches (c .before) true (c .if1 .taken) _ refl, c .before .before .before .before .prune-step .ensures .1)
 
 same-length-3 : tie.Need-same-length-3
 same-length-3 c = search needs
@@ -47,13 +47,13 @@ same-length-4 : tie.Need-same-length-4
 same-length-4 c = search needs
 
 returns-2 : tie.Need-returns-2
-returns-2 c = (reaches (c .before) false (c .if1 .left) _ (omega arith), c .before .before .before .before .apply-prune .ensures .1)
+returns-2 c = (reaches (c .before) false (c .if1 .left) _ (omega arith), c .before .before .before .before .prune-step .ensures .1)
 
 pub try-prune-spec : {M : Type 1} → statement M
 try-prune-spec =
     tie.close
     (tie.spec
-    apply-prune-requires
+    prune-step-requires
     accepted-requires
     add-result
     same-length

@@ -9,11 +9,10 @@ use Rattle.graph.specs.Delay.{at}
 use Rattle.timing.specs.Limits.{delayLimit, fits}
 use Rattle.timing.specs.Refusal.{Verdict, accepted}
 use Rattle.timing.specs.Table.{graphOf}
-use Rattle.reduction.specs.ShareInputs.{shareInputsVerdict}
+use Rattle.reduction.specs.ShareInputs.{inputsSaved, shareInputsVerdict}
 use Rattle.paths.specs.declared.board.Board.{Board}
 use Rattle.plans.specs.Verdict.{differenceMeaning}
-use Rattle.plans.specs.Sharing.{inputsSaved}
-use Rattle.steps.proofs.Reducing.{said}
+use Rattle.timing.proofs.Verdict.{said}
 use Rattle.steps.proofs.Ready.{share-inputs-ready, narrow-fits, narrowed}
 use Rattle.run.specs.declared.side.Side.the-variants.{Inputs}
 use Rattle.run.proofs.ShareVerdicts.{refused-low, rows-saved, rows-full}
@@ -49,7 +48,7 @@ module _ (d : tie.After-inputs-saved) where
   answered : differenceMeaning (d .inputs-saved .result) ≡ verdict
   answered =
       d .inputs-saved .ensures ∙ ap (inputsSaved (board .vertices) (graphOf (board .vertices) t) (start .args .b)) (toZ-ofZ (start .fits .e))
-      ∙ sym (rows-saved board t (start .args .a) (start .args .b) (start .args .e) (start .pre .1) (start .pre .2) (start .args .k) (start .pre .3) (d .before .before .if1 .left))
+      ∙ sym (rows-saved board t (start .args .a) (start .args .b) (start .args .e) (start .pre .1 .0) (start .pre .1 .1 .0) (start .args .k) (start .pre .1 .1 .1) (d .before .before .if1 .left))
 
 -- it is accepted
 module _ (c : tie.After-saved) where
@@ -66,12 +65,12 @@ module _ (c : tie.After-saved) where
   ready = share-inputs-ready (board asked .inputs) (board asked .outputs) (board asked .vertices) (start asked .args .a) (start asked .args .b) (start asked .args .k) (graphOf (board asked .vertices) (t asked)) e (start asked .pre .0 .lent .sized .roles) found
 
 narrow-requires : tie.Need-narrow-requires
-narrow-requires c κs = let d = c .before .before in narrow-fits (e d) (ready d .2)
+narrow-requires c κs = let d = c .before in narrow-fits (e d) (ready d .2)
 
-share-inputs-apply-requires : tie.Need-share-inputs-apply-requires
-share-inputs-apply-requires c κs =
+rewrite-requires : tie.Need-rewrite-requires
+rewrite-requires c κs =
     let d = c .before .before .before in
-    (start (asked d) .pre .0 .lent, ready d .0, ready d .1)
+    (start (asked d) .pre .0 .lent, (ready d .0, ready d .1))
 
 same-length : tie.Need-same-length
 same-length c = search needs
@@ -81,7 +80,7 @@ returns-2 c =
     let w = c .before in
     let d = w .before .before .before .before in
     let s = start (asked d) in
-    share-taken (s .args .board) (s .args .table .now) Inputs (s .args .a) (s .args .b) (s .args .k) (found d) (narrowed (e d) (ready d .2) _ (w .before .narrow .ok) (w .before .narrow .ensures)) (w .share-inputs-apply .last .1 .0) (w .share-inputs-apply .ensures)
+    share-taken (s .args .board) (s .args .table .now) Inputs (s .args .a) (s .args .b) (s .args .k) (found d) (narrowed (e d) (ready d .2) _ (w .before .before .narrow .ok) (w .before .before .narrow .ensures)) (w .rewrite .last .1 .0) (w .rewrite .ensures)
 
 enum-told : tie.Need-enum-told
 enum-told c = search needs
@@ -103,7 +102,7 @@ share-rows-spec =
     inputs-saved-requires
     enum-known-saved
     narrow-requires
-    share-inputs-apply-requires
+    rewrite-requires
     same-length
     returns-2
     enum-told

@@ -1,6 +1,7 @@
 use borrow.Author.Needs.{needs}
 use mathlib.Core.Path.{_≡_, refl, sym, ap, _∙_, subst}
 use mathlib.Core.Logic.{_≢_}
+use mathlib.Core.Bool.{true, false}
 use mathlib.Core.List.{List, [], _∷_}
 use Prim.Native.Nat.{ℕ, _+_, _-_, _*_, _≤_, _<_}
 use native.Mathlib.Omega.{arith}
@@ -24,11 +25,12 @@ use Rattle.plans.specs.Comparing.{compared, seen, settled}
 use Rattle.plans.proofs.Differences.{seen-none, seen-more, seen-clash, seen-common}
 use Rattle.run.specs.declared.side.Side.{Side}
 use Rattle.run.specs.Sides.{OnSide, firstOf, countOf, acrossOf, lineOf, placeOf, tryShare, shareTries}
-use Rattle.run.specs.Comparing.{comparedBy}
-use Rattle.run.specs.Running.{progress, Held}
+use Rattle.run.specs.Pairs.{comparedBy}
+use Rattle.run.specs.Running.{progress, Held, RowsKept}
 use Rattle.run.proofs.Lines.{side-fits, across-few, pairs-fit, place-in, held-line, near-line}
 use Rattle.run.proofs.PairTries.{firstsLeft, secondsLeft, firsts-all, firsts-done, seconds-all, seconds-done, seconds-same, seconds-other}
 use Rattle.run.proofs.Sharing.{Sharing, sharing-none, sharing-one, sharing-on, sharing-is}
+use Rattle.run.proofs.NoNumber.{full-stays}
 use Rattle.run.proofs.TriedShares.{share-passed}
 use Rattle.run.proofs.shares.shares.Statement.{statement}
 use Rattle.run.proofs.shares.shares.Tie as tie
@@ -48,25 +50,25 @@ abbrev atSecond : Board → Side → ℕ → ℕ → ℕ → List Try
 atSecond board side a b s = secondsLeft (tryShare (board .inputs) (board .outputs) (board .vertices) side s) (firstOf side (board .inputs)) (countOf side (board .inputs) (board .outputs)) a b
 
 abbrev Inv-compare : tie.InvT-compare
-Inv-compare board table list scratch matrix side steps from end across fresh rich tally a b seen₀ j₀ sees j =
+Inv-compare board table list matrix side still steps from end across fresh rich words tally a b seen₀ j₀ sees j =
     (j ≤ acrossOf side (board .inputs) (board .outputs)) × (sees ≡ seen j (line board side table a) (line board side table b))
 
 abbrev μ-compare : tie.MeasureT-compare
-μ-compare board table list scratch matrix side steps from end across fresh rich tally a b seen₀ j₀ sees j = acrossOf side (board .inputs) (board .outputs) - j
+μ-compare board table list matrix side still steps from end across fresh rich words tally a b seen₀ j₀ sees j = acrossOf side (board .inputs) (board .outputs) - j
 
 abbrev Inv-seconds : tie.InvT-seconds
-Inv-seconds board table₀ list₀ scratch₀ matrix side steps from end across fresh rich₀ tally₀ a b₀ table list scratch rich tally b =
-    (firstOf side (board .inputs) ≤ b) × (b ≤ last board side) × Sharing board matrix side (atSecond board side a (firstOf side (board .inputs))) table₀ scratch₀ (tally₀ .steps) (atSecond board side a b) table list scratch rich tally
+Inv-seconds board table₀ list₀ matrix side still steps from end across fresh rich₀ words₀ tally₀ a b₀ table list rich words tally b =
+    (firstOf side (board .inputs) ≤ b) × (b ≤ last board side) × Sharing board matrix side (atSecond board side a (firstOf side (board .inputs))) table₀ list₀ (tally₀ .steps) (atSecond board side a b) table list words rich tally
 
 abbrev μ-seconds : tie.MeasureT-seconds
-μ-seconds board table₀ list₀ scratch₀ matrix side steps from end across fresh rich₀ tally₀ a b₀ table list scratch rich tally b = last board side - b
+μ-seconds board table₀ list₀ matrix side still steps from end across fresh rich₀ words₀ tally₀ a b₀ table list rich words tally b = last board side - b
 
 abbrev Inv-firsts : tie.InvT-firsts
-Inv-firsts board table₀ list₀ scratch₀ matrix side steps from end across fresh rich₀ tally₀ a₀ table list scratch rich tally a =
-    (firstOf side (board .inputs) ≤ a) × (a ≤ last board side) × Sharing board matrix side (shareTries (board .inputs) (board .outputs) (board .vertices) side) table₀ scratch₀ steps (atFirst board side a) table list scratch rich tally
+Inv-firsts board table₀ list₀ matrix side still steps from end across fresh rich₀ words₀ tally₀ a₀ table list rich words tally a =
+    (firstOf side (board .inputs) ≤ a) × (a ≤ last board side) × Sharing board matrix side (shareTries (board .inputs) (board .outputs) (board .vertices) side) table₀ list₀ steps (atFirst board side a) table list words rich tally
 
 abbrev μ-firsts : tie.MeasureT-firsts
-μ-firsts board table₀ list₀ scratch₀ matrix side steps from end across fresh rich₀ tally₀ a₀ table list scratch rich tally a = last board side - a
+μ-firsts board table₀ list₀ matrix side still steps from end across fresh rich₀ words₀ tally₀ a₀ table list rich words tally a = last board side - a
 
 first-requires : tie.Need-first-requires Inv-compare μ-compare Inv-seconds μ-seconds Inv-firsts μ-firsts
 first-requires c κs = tt
@@ -78,15 +80,33 @@ across-requires : tie.Need-across-requires Inv-compare μ-compare Inv-seconds μ
 across-requires c κs = tt
 
 renew-requires : tie.Need-renew-requires Inv-compare μ-compare Inv-seconds μ-seconds Inv-firsts μ-firsts
-renew-requires c κs = let s = c .before .before .before .before .before in (s .pre .0 .checked, s .pre .2, λ e. absurd (let z : _≡_ {A = ℕ} 0 1 = cc in omega arith))
+renew-requires c κs = let s = c .before .before .before .before .before in (s .pre .0 .checked, (s .pre .1 .1 .0, s .pre .1 .1 .1))
+
+is-full-requires : tie.Need-is-full-requires Inv-compare μ-compare Inv-seconds μ-seconds Inv-firsts μ-firsts
+is-full-requires c κs = tt
+
+same-length : tie.Need-same-length Inv-compare μ-compare Inv-seconds μ-seconds Inv-firsts μ-firsts
+same-length c = search needs
+
+returns : tie.Need-returns Inv-compare μ-compare Inv-seconds μ-seconds Inv-firsts μ-firsts
+returns c =
+    let i = c .before in
+    let w = i .before in
+    let s = w .before .before .before .before .before .before in
+    let full = i .is-full .ensures (c .if1 .taken) in
+    let ready = w .renew .ensures .0 in
+    (full-stays (s .args .board) (s .args .table .now) (w .renew .last .1 .1 .0) (s .args .side) (w .renew .result) (s .args .steps) (s .pre .0) ready (full .0) (full .1), ((ready .long, ready .order), w .renew .ensures .1))
 
 rich-ones-requires : tie.Need-rich-ones-requires Inv-compare μ-compare Inv-seconds μ-seconds Inv-firsts μ-firsts
-rich-ones-requires c κs = c .before .before .before .before .before .before .before .pre .0 .checked .lent
+rich-ones-requires c κs = c .before .before .before .before .before .before .before .before .before .pre .0 .checked .lent
+
+words-requires : tie.Need-words-requires Inv-compare μ-compare Inv-seconds μ-seconds Inv-firsts μ-firsts
+words-requires c κs = tt
 
 -- before the loops
 module _ (r : tie.After-rich-ones Inv-compare μ-compare Inv-seconds μ-seconds Inv-firsts μ-firsts) where
   abbrev start : tie.Start Inv-compare μ-compare Inv-seconds μ-seconds Inv-firsts μ-firsts
-  start = r .before .before .before .before .before .before .before .before
+  start = r .before .before .before .before .before .before .before .before .before .before
 
   abbrev board : Board
   board = start .args .board
@@ -100,14 +120,14 @@ module _ (r : tie.After-rich-ones Inv-compare μ-compare Inv-seconds μ-seconds 
   abbrev n : ℕ
   n = board .outputs
 
-  from-is : r .before .before .before .before .before .before .before .first .result ≡ firstOf side m
-  from-is = r .before .before .before .before .before .before .before .first .ensures
+  from-is : r .before .before .before .before .before .before .before .before .before .first .result ≡ firstOf side m
+  from-is = r .before .before .before .before .before .before .before .before .before .first .ensures
 
-  end-is : r .before .before .before .before .before .before .end .result ≡ firstOf side m + countOf side m n
-  end-is = r .before .before .before .before .before .before .end .ensures
+  end-is : r .before .before .before .before .before .before .before .before .end .result ≡ firstOf side m + countOf side m n
+  end-is = r .before .before .before .before .before .before .before .before .end .ensures
 
-  across-is : r .before .before .before .before .before .across .result ≡ acrossOf side m n
-  across-is = r .before .before .before .before .before .across .ensures
+  across-is : r .before .before .before .before .before .before .before .across .result ≡ acrossOf side m n
+  across-is = r .before .before .before .before .before .before .before .across .ensures
 
   -- the side's vertices are few
   end-few : firstOf side m + countOf side m n ≤ maxVertices
@@ -115,11 +135,16 @@ module _ (r : tie.After-rich-ones Inv-compare μ-compare Inv-seconds μ-seconds 
 
 firsts-holds : tie.Need-firsts-holds Inv-compare μ-compare Inv-seconds μ-seconds Inv-firsts μ-firsts
 firsts-holds c =
-    let s = start c in (
-      omega (arith, from-is c),
-      omega (arith, from-is c),
-      sharing-none (record { steps = s .args .steps; fresh = c .before .before .renew .result }) (shareTries (m c) (n c) (s .args .board .vertices) (side c)) (atFirst (board c) (side c) (c .before .before .before .before .before .before .before .first .result)) (λ q. firsts-all (tryShare (m c) (n c) (s .args .board .vertices) (side c) q) (firstOf (side c) (m c)) (countOf (side c) (m c) (n c)) ∙ ap (λ (x : ℕ). atFirst (board c) (side c) x q) (sym (from-is c))) (s .pre .0) (s .pre .1) (c .before .before .renew .ensures) (c .rich-ones .ensures),
+    let r = c .before in
+    let s = start r in
+    let unmade : RowsKept (side r) (board r) (s .args .table .now) (c .words .result) false = record { long = c .words .ensures; outputs = λ q. absurd (never q); sets = λ q. absurd (never q) } in (
+      omega (arith, from-is r),
+      omega (arith, from-is r),
+      sharing-none (record { steps = s .args .steps; fresh = r .before .before .before .before .renew .result; made = false }) (shareTries (m r) (n r) (s .args .board .vertices) (side r)) (atFirst (board r) (side r) (r .before .before .before .before .before .before .before .before .before .first .result)) (λ q. firsts-all (tryShare (m r) (n r) (s .args .board .vertices) (side r) q) (firstOf (side r) (m r)) (countOf (side r) (m r) (n r)) ∙ ap (λ (x : ℕ). atFirst (board r) (side r) x q) (sym (from-is r))) (s .pre .0) (s .pre .1 .0) (r .before .before .before .before .renew .ensures .0) (r .rich-ones .ensures) unmade,
     )
+  where
+    never : false ≡ true → ⊥
+    never q = let z : _≡_ {A = ℕ} 0 1 = cc in omega arith
 
 -- in a turn over a
 module _ (f : tie.In-firsts Inv-compare μ-compare Inv-seconds μ-seconds Inv-firsts μ-firsts) where
@@ -127,7 +152,7 @@ module _ (f : tie.In-firsts Inv-compare μ-compare Inv-seconds μ-seconds Inv-fi
   firsts = f .before
 
   abbrev renewed : tie.After-rich-ones Inv-compare μ-compare Inv-seconds μ-seconds Inv-firsts μ-firsts
-  renewed = firsts .before
+  renewed = firsts .before .before
 
   abbrev a : ℕ
   a = firsts .firsts .a
@@ -141,7 +166,7 @@ seconds-holds c =
     let h = firsts c .firsts .inv .2 in (
       omega (arith, from-is r),
       omega (arith, from-is r),
-      sharing-none (firsts c .firsts .tally) (atSecond (board r) (side r) (a c) (firstOf (side r) (m r))) (atSecond (board r) (side r) (a c) (r .before .before .before .before .before .before .before .first .result)) (λ q. ap (λ (x : ℕ). atSecond (board r) (side r) (a c) x q) (sym (from-is r))) (h .running) (h .held) (h .ready) (h .counted),
+      sharing-none (firsts c .firsts .tally) (atSecond (board r) (side r) (a c) (firstOf (side r) (m r))) (atSecond (board r) (side r) (a c) (r .before .before .before .before .before .before .before .before .before .first .result)) (λ q. ap (λ (x : ℕ). atSecond (board r) (side r) (a c) x q) (sym (from-is r))) (h .running) (h .held) (h .ready) (h .counted) (h .rows),
     )
 
 -- in a turn over b
@@ -177,8 +202,8 @@ module _ (k : tie.In-seconds Inv-compare μ-compare Inv-seconds μ-seconds Inv-f
   abbrev line-b : ℕ → Delay
   line-b = line the-board the-side table b
 
-array-read-if2 : tie.Need-array-read-if2 Inv-compare μ-compare Inv-seconds μ-seconds Inv-firsts μ-firsts
-array-read-if2 c = let k = c .before in omega (arith, on-b k .below, end-few (renewed (turn k)))
+array-read-if3 : tie.Need-array-read-if3 Inv-compare μ-compare Inv-seconds μ-seconds Inv-firsts μ-firsts
+array-read-if3 c = let k = c .before in omega (arith, on-b k .below, end-few (renewed (turn k)))
 
 compare-holds : tie.Need-compare-holds Inv-compare μ-compare Inv-seconds μ-seconds Inv-firsts μ-firsts
 compare-holds c = (omega arith, seen-none _ _)
@@ -187,7 +212,7 @@ settle-requires : tie.Need-settle-requires Inv-compare μ-compare Inv-seconds μ
 settle-requires c κs = tt
 
 -- in a turn of the comparison
-module _ (e : tie.Else3 Inv-compare μ-compare Inv-seconds μ-seconds Inv-firsts μ-firsts) where
+module _ (e : tie.Else4 Inv-compare μ-compare Inv-seconds μ-seconds Inv-firsts μ-firsts) where
   abbrev compare : tie.At-compare Inv-compare μ-compare Inv-seconds μ-seconds Inv-firsts μ-firsts
   compare = e .before
 
@@ -201,7 +226,7 @@ module _ (e : tie.Else3 Inv-compare μ-compare Inv-seconds μ-seconds Inv-firsts
   M = start (renewed (turn pair)) .args .matrix .now
 
   inside : j < acrossOf (the-side pair) (the-board pair .inputs) (the-board pair .outputs)
-  inside = omega (arith, e .if3 .left, across-is (renewed (turn pair)))
+  inside = omega (arith, e .if4 .left, across-is (renewed (turn pair)))
 
   held : Held (the-board pair) M (table pair)
   held = seconds pair .seconds .inv .2 .held
@@ -222,10 +247,10 @@ module _ (e : tie.Else3 Inv-compare μ-compare Inv-seconds μ-seconds Inv-firsts
   in-b = place-in (the-board pair) (the-side pair) (b pair) j (on-b pair) inside
 
 place-requires : tie.Need-place-requires Inv-compare μ-compare Inv-seconds μ-seconds Inv-firsts μ-firsts
-place-requires c κs = (sized c, on-a (turn (pair c)), inside c)
+place-requires c κs = (sized c, (on-a (turn (pair c)), inside c))
 
 place-requires-2 : tie.Need-place-requires-2 Inv-compare μ-compare Inv-seconds μ-seconds Inv-firsts μ-firsts
-place-requires-2 c κs = let e = c .before in (sized e, on-b (pair e), inside e)
+place-requires-2 c κs = let e = c .before in (sized e, (on-b (pair e), inside e))
 
 mul-seen-next : tie.Need-mul-seen-next Inv-compare μ-compare Inv-seconds μ-seconds Inv-firsts μ-firsts
 mul-seen-next c = let e = c .before .before in omega (arith, in-a e, c .before .place .ensures, pairs-fit (sized e))
@@ -241,7 +266,7 @@ shared-slice-copy-out-seen-next-2 c = let e = c .before .before .before in omega
 
 -- the two cells, as the code has them
 module _ (c : tie.After-seen-next-arg2 Inv-compare μ-compare Inv-seconds μ-seconds Inv-firsts μ-firsts) where
-  abbrev here : tie.Else3 Inv-compare μ-compare Inv-seconds μ-seconds Inv-firsts μ-firsts
+  abbrev here : tie.Else4 Inv-compare μ-compare Inv-seconds μ-seconds Inv-firsts μ-firsts
   here = c .before .before .before .before
 
   abbrev p : ℕ
@@ -288,28 +313,29 @@ compare-again : tie.Need-compare-again Inv-compare μ-compare Inv-seconds μ-sec
 compare-again c = (omega (arith, inside (here (c .before .before))), turned (c .before))
 
 -- where the ways out of the comparison meet, its answer
-answered : (c : tie.Joined3 Inv-compare μ-compare Inv-seconds μ-seconds Inv-firsts μ-firsts) → let k = c .before .before .before .before in differenceMeaning (c .if3 .difference) ≡ comparedBy (the-side k) (the-board k) (table k) (a (turn k)) (b k)
+answered : (c : tie.Joined4 Inv-compare μ-compare Inv-seconds μ-seconds Inv-firsts μ-firsts) → let k = c .before .before .before .before in differenceMeaning (c .if4 .difference) ≡ comparedBy (the-side k) (the-board k) (table k) (a (turn k)) (b k)
 answered c =
     let l = c .before in
     let k = l .before .before .before in
     let total = acrossOf (the-side k) (the-board k .inputs) (the-board k .outputs) in
-    split (c .if3 .came)
+    split (c .if4 .came)
     (λ w.
     let e : l .compare .j ≡ total = omega (arith, w .0 .taken, l .compare .inv .0, across-is (renewed (turn k))) in
     ap differenceMeaning (w .2 ∙ w .1 .ensures ∙ ap settled (l .compare .inv .1 ∙ ap (λ (x : ℕ). seen x (line-a k) (line-b k)) e)) ∙ seen-common (line-a k) (line-b k) total)
     (λ w.
-    let p : tie.After-seen-next Inv-compare μ-compare Inv-seconds μ-seconds Inv-firsts μ-firsts = record { before = record { before = record { before = record { before = record { before = record { before = l; if3 = w .0 }; place = w .1 }; place2 = w .2 }; seen-next-arg = w .3 }; seen-next-arg2 = w .4 }; seen-next = w .5 } in
+    let p : tie.After-seen-next Inv-compare μ-compare Inv-seconds μ-seconds Inv-firsts μ-firsts = record { before = record { before = record { before = record { before = record { before = record { before = l; if4 = w .0 }; place = w .1 }; place2 = w .2 }; seen-next-arg = w .3 }; seen-next-arg2 = w .4 }; seen-next = w .5 } in
     ap differenceMeaning (w .8) ∙ sym (ap (λ (s : Seen). differenceMeaning (settled s)) (seen-clash (line-a k) (line-b k) (l .compare .j + 1) total (omega (arith, inside (here (p .before)))) (sym (turned p) ∙ w .7 .given .1)))
     ∙ seen-common (line-a k) (line-b k) total)
+
+slice-aggregate-try-share : tie.Need-slice-aggregate-try-share Inv-compare μ-compare Inv-seconds μ-seconds Inv-firsts μ-firsts
+slice-aggregate-try-share c = let k = c .before .before .before .before .before .before .before .before in sym (seconds k .seconds .inv .2 .rows .long)
 
 try-share-requires : tie.Need-try-share-requires Inv-compare μ-compare Inv-seconds μ-seconds Inv-firsts μ-firsts
 try-share-requires c κs =
     let l = c .before .before .before .before .before in
     let k = l .before .before .before in
     let h = seconds k .seconds .inv .2 in
-    let f = firsts (turn k) .firsts .inv .2 in
-    let pre = start (renewed (turn k)) .pre in
-    (h .running, h .ready, h .counted, record { one = on-a (turn k); other = on-b k; two = l .before .before .if1 .taken }, answered (c .before .before .before .before), omega (arith, pre .3, h .scratch-long, f .scratch-long))
+    (h .running, (h .ready, (h .counted, (h .rows, (record { one = on-a (turn k); other = on-b k; two = l .before .before .if2 .taken }, answered (c .before .before .before .before))))))
 
 add-b : tie.Need-add-b Inv-compare μ-compare Inv-seconds μ-seconds Inv-firsts μ-firsts
 add-b c = let k = c .before in omega (arith, on-b k .below, end-few (renewed (turn k)))
@@ -327,17 +353,17 @@ seconds-again c =
     let new = atSecond (board r) (side r) (a (turn k)) (b k + 1) in (
       omega (arith, on-b k .from),
       omega (arith, on-b k .below),
-      split (c .if1 .came)
-          (λ w. sharing-is (w .11) (w .12) (w .13) (w .14) (w .15) (sharing-on h
+      split (c .if2 .came)
+          (λ w. sharing-is (w .11) (w .12) (w .14) (w .13) (w .15) (sharing-on h
           (sharing-one (x .tally) (a (turn k)) (b k) old new (another k (w .0 .taken)) (h .running) (h .held) _ _ _ _ _
-          (w .8 .ensures .0) (w .8 .ensures .1 .0 .0) (w .8 .ensures .1 .0 .1) (w .8 .kept .1 .1 .1 .1 .0) (w .8 .ensures .1 .1))))
+          (w .8 .ensures .0) (w .8 .ensures .1 .0 .0) (w .8 .ensures .1 .0 .1) (w .8 .ensures .1 .1 .0) (w .8 .ensures .1 .1 .1))))
           (λ w. split w
           (λ w.
-          let poor = share-passed (board r) (table k) (x .list) (side r) (a (turn k)) (b k) (x .tally .fresh) (x .tally .steps) (h .running) (h .ready) (sym (h .counted .each (b k) (on-b k)) ∙ w .1 .left) in
-          sharing-is (w .2) (w .3) (w .4) (w .5) (w .6) (sharing-on h
-          (sharing-one (x .tally) (a (turn k)) (b k) old new (another k (w .0 .taken)) (h .running) (h .held) _ _ _ _ _ poor (h .ready) (h .counted) refl refl)))
-          (λ w. sharing-is (w .1) (w .2) (w .3) (w .4) (w .5) (sharing-on h
-          (sharing-none (x .tally) old new (λ q. seconds-same (tryShare (m r) (n r) (board r .vertices) (side r) q) (firstOf (side r) (m r)) (countOf (side r) (m r) (n r)) (a (turn k)) (b k) (on-b k .below) (w .0 .left)) (h .running) (h .held) (h .ready) (h .counted))))),
+          let poor = share-passed (board r) (table k) (x .order) (side r) (a (turn k)) (b k) (x .tally .fresh) (x .tally .steps) (h .running) (h .ready) (sym (h .counted .each (b k) (on-b k)) ∙ w .1 .left) in
+          sharing-is (w .2) (w .3) (w .5) (w .4) (w .6) (sharing-on h
+          (sharing-one (x .tally) (a (turn k)) (b k) old new (another k (w .0 .taken)) (h .running) (h .held) _ _ _ _ _ poor (h .ready) (h .counted) (h .rows) (λ _. refl))))
+          (λ w. sharing-is (w .1) (w .2) (w .4) (w .3) (w .5) (sharing-on h
+          (sharing-none (x .tally) old new (λ q. seconds-same (tryShare (m r) (n r) (board r .vertices) (side r) q) (firstOf (side r) (m r)) (countOf (side r) (m r) (n r)) (a (turn k)) (b k) (on-b k .below) (w .0 .left)) (h .running) (h .held) (h .ready) (h .counted) (h .rows))))),
     )
 
 add-a : tie.Need-add-a Inv-compare μ-compare Inv-seconds μ-seconds Inv-firsts μ-firsts
@@ -353,24 +379,21 @@ firsts-again c =
     let r = renewed f in
     let h = firsts f .firsts .inv .2 in
     let k = l .seconds .inv .2 in
-    let begun = sharing-none (firsts f .firsts .tally) (atFirst (board r) (side r) (a f)) (atSecond (board r) (side r) (a f) (firstOf (side r) (m r))) (λ q. seconds-all (tryShare (m r) (n r) (board r .vertices) (side r) q) (firstOf (side r) (m r)) (countOf (side r) (m r) (n r)) (a f) (on-a f .below)) (h .running) (h .held) (h .ready) (h .counted) in
-    let ended = sharing-none (l .seconds .tally) (atSecond (board r) (side r) (a f) (l .seconds .b)) (atFirst (board r) (side r) (a f + 1)) (λ q. seconds-done (tryShare (m r) (n r) (board r .vertices) (side r) q) (firstOf (side r) (m r)) (countOf (side r) (m r) (n r)) (a f) (l .seconds .b) (omega (arith, c .seconds-test .left, end-is r))) (k .running) (k .held) (k .ready) (k .counted) in
+    let begun = sharing-none (firsts f .firsts .tally) (atFirst (board r) (side r) (a f)) (atSecond (board r) (side r) (a f) (firstOf (side r) (m r))) (λ q. seconds-all (tryShare (m r) (n r) (board r .vertices) (side r) q) (firstOf (side r) (m r)) (countOf (side r) (m r) (n r)) (a f) (on-a f .below)) (h .running) (h .held) (h .ready) (h .counted) (h .rows) in
+    let ended = sharing-none (l .seconds .tally) (atSecond (board r) (side r) (a f) (l .seconds .b)) (atFirst (board r) (side r) (a f + 1)) (λ q. seconds-done (tryShare (m r) (n r) (board r .vertices) (side r) q) (firstOf (side r) (m r)) (countOf (side r) (m r) (n r)) (a f) (l .seconds .b) (omega (arith, c .seconds-test .left, end-is r))) (k .running) (k .held) (k .ready) (k .counted) (k .rows) in
     (omega (arith, on-a f .from), omega (arith, on-a f .below), sharing-on (sharing-on (sharing-on h begun) k) ended)
 
-same-length : tie.Need-same-length Inv-compare μ-compare Inv-seconds μ-seconds Inv-firsts μ-firsts
-same-length c = c .before .firsts .inv .2 .long
-
 same-length-2 : tie.Need-same-length-2 Inv-compare μ-compare Inv-seconds μ-seconds Inv-firsts μ-firsts
-same-length-2 c = c .before .firsts .inv .2 .scratch-long
+same-length-2 c = c .before .firsts .inv .2 .long
 
-returns : tie.Need-returns Inv-compare μ-compare Inv-seconds μ-seconds Inv-firsts μ-firsts
+returns-2 : tie.Need-returns-2 Inv-compare μ-compare Inv-seconds μ-seconds Inv-firsts μ-firsts
 unfolding round
-returns c =
+returns-2 c =
     let h = c .before .firsts .inv .2 in
-    let r = c .before .before in
+    let r = c .before .before .before in
     let l = c .before .firsts in
     let none : (q : ℕ) → atFirst (board r) (side r) (l .a) q ≡ [] = λ q. firsts-done (tryShare (m r) (n r) (board r .vertices) (side r) q) (firstOf (side r) (m r)) (countOf (side r) (m r) (n r)) (l .a) (omega (arith, c .firsts-test .left, end-is r)) in
-    (λ q room. sym (h .way q room) ∙ ap (λ (qs : List Try). round qs (progress (l .table) (l .tally .steps))) (none q), ((h .ready .long, h .ready .order), h .past))
+    (λ q room. sym (h .way q room) ∙ ap (λ (qs : List Try). round qs (progress (l .table) (l .tally .steps))) (none q), ((h .ready .long, h .ready .order), λ is. h .same is ∙ r .before .before .before .before .renew .ensures .1 is))
 
 pub shares-spec : {M : Type 1} → statement M
 shares-spec =
@@ -386,10 +409,14 @@ shares-spec =
     end-requires
     across-requires
     renew-requires
+    is-full-requires
+    same-length
+    returns
     rich-ones-requires
+    words-requires
     firsts-holds
     seconds-holds
-    array-read-if2
+    array-read-if3
     compare-holds
     settle-requires
     place-requires
@@ -403,6 +430,7 @@ shares-spec =
     add-j
     compare-less
     compare-again
+    slice-aggregate-try-share
     try-share-requires
     add-b
     seconds-less
@@ -410,6 +438,5 @@ shares-spec =
     add-a
     firsts-less
     firsts-again
-    same-length
     same-length-2
-    returns)
+    returns-2)

@@ -18,7 +18,7 @@ enum-told-2 c = search needs
 -- the place, on the side that is told
 module _ (s : tie.Start) where
   on : (side : Side) → s .args .side ≡ side → placeOf side (s .args .board .inputs) (s .args .board .outputs) (s .args .v) (s .args .j) < 2026
-  on side e = subst (λ (x : Side). placeOf x (s .args .board .inputs) (s .args .board .outputs) (s .args .v) (s .args .j) < 2026) e (omega (arith, place-in (s .args .board) (s .args .side) (s .args .v) (s .args .j) (s .pre .1) (s .pre .2), pairs-fit (s .pre .0)))
+  on side e = subst (λ (x : Side). placeOf x (s .args .board .inputs) (s .args .board .outputs) (s .args .v) (s .args .j) < 2026) e (omega (arith, place-in (s .args .board) (s .args .side) (s .args .v) (s .args .j) (s .pre .1 .0) (s .pre .1 .1), pairs-fit (s .pre .0)))
 
 mul-result : tie.Need-mul-result
 mul-result c = omega (arith, on (c .before .before) Inputs (c .enum-told .given .1))
@@ -30,7 +30,7 @@ mul-result-2 : tie.Need-mul-result-2
 mul-result-2 c = omega (arith, on (c .before .before) Outputs (c .enum-told2 .given .1))
 
 sub-result : tie.Need-sub-result
-sub-result c = let s = c .before .before in subst (λ (x : Side). firstOf x (s .args .board .inputs) ≤ s .args .v) (c .enum-told2 .given .1) (s .pre .1 .from)
+sub-result c = let s = c .before .before in subst (λ (x : Side). firstOf x (s .args .board .inputs) ≤ s .args .v) (c .enum-told2 .given .1) (s .pre .1 .0 .from)
 
 add-result-2 : tie.Need-add-result-2
 add-result-2 c = omega (arith, on (c .before .before) Outputs (c .enum-told2 .given .1))

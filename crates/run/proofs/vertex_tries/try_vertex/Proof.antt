@@ -7,7 +7,7 @@ use lib.IntN.{ℤ}
 use Rattle.timing.specs.Table.{graphOf}
 use Rattle.paths.specs.declared.board.Board.{Board}
 use Rattle.plans.specs.declared.verdict.Fit.{Fit}
-use Rattle.steps.specs.Reduces.{newTable, Applies}
+use Rattle.plans.specs.OnBoards.{tableBy, Applies}
 use Rattle.run.specs.declared.vertex_tries.VertexStep.{VertexStep}
 use Rattle.run.specs.Accepted.{wasAccepted}
 use Rattle.run.specs.Running.{Tries}
@@ -18,10 +18,10 @@ use Rattle.run.proofs.vertex_tries.try_vertex.Tie as tie
 
 -- the try of the kind that the code has found
 named : (b : Board) (t : List ℤ) (v : ℕ) (kind k : VertexStep) → kind ≡ k → (after : List ℤ) (fit : Fit) (r : Bool)
-    → Applies (newTable (vertexStep k v) t (b .inputs) (b .outputs) (b .vertices) (graphOf (b .vertices) t)) t after fit → r ≡ wasAccepted fit
-    → Tries (newTable (vertexStep kind v) t (b .inputs) (b .outputs) (b .vertices) (graphOf (b .vertices) t)) t after r
+    → Applies b (vertexStep k v) t after fit → r ≡ wasAccepted fit
+    → Tries (tableBy b (vertexStep kind v) t) t after r
 named b t v kind k e after fit r h q =
-    subst (λ (x : VertexStep). Tries (newTable (vertexStep x v) t (b .inputs) (b .outputs) (b .vertices) (graphOf (b .vertices) t)) t after r) (sym e) (applied-tries b t (vertexStep k v) after fit r h q)
+    subst (λ (x : VertexStep). Tries (tableBy b (vertexStep x v) t) t after r) (sym e) (applied-tries b t (vertexStep k v) after fit r h q)
 
 enum-told : tie.Need-enum-told
 enum-told c = search needs

@@ -6,7 +6,8 @@ use Rattle.timing.proofs.Checks.{sound-fits}
 use Rattle.reduction.specs.MergeBack.{mergedBack}
 use Rattle.reduction.specs.Steps.{merge-back, plan}
 use Rattle.plans.specs.Verdict.{drivenMeaning}
-use Rattle.steps.proofs.Reducing.{said, step-handed, step-refused}
+use Rattle.plans.proofs.Applying.{step-handed, step-refused}
+use Rattle.timing.proofs.Verdict.{said}
 use Rattle.steps.proofs.Ready.{merge-ready}
 use Rattle.steps.proofs.apply.apply_merge_back.Statement.{statement}
 use Rattle.steps.proofs.apply.apply_merge_back.Tie as tie
@@ -17,13 +18,13 @@ merge-back-verdict-requires c κs = (c .before .pre .lent, sound-fits (c .before
 enum-known-driven : tie.Need-enum-known-driven
 enum-known-driven c = search needs
 
-merge-back-apply-requires : tie.Need-merge-back-apply-requires
-merge-back-apply-requires c κs =
+rewrite-requires : tie.Need-rewrite-requires
+rewrite-requires c κs =
     let d = c .before .before in
     let v = d .before .before in
     let s = v .before .before in
     let r = merge-ready (s .args .board) (s .args .table .now) (s .args .o) (s .pre) (d .driven .given .0 .0) (d .driven .given .0 .1 .0) (said drivenMeaning (v .merge-back-verdict .ensures) (d .driven .given .1)) in
-    (s .pre .lent, r .1, r .2)
+    (s .pre .lent, (r .1, r .2))
 
 enum-known-driven-2 : tie.Need-enum-known-driven-2
 enum-known-driven-2 c = search needs
@@ -44,7 +45,7 @@ returns c =
     let y = d .driven .given .0 .1 .0 in
     let e = said drivenMeaning (v .merge-back-verdict .ensures) (d .driven .given .1) in
     let r = merge-ready b t (s .args .o) (s .pre) x y e in
-    step-handed b t (merge-back (s .args .o)) (λ z. mergedBack (z .0) (s .args .o) (z .1) (graphOf (b .vertices) t)) e (ap (λ (z : ℤ). (x, z)) (r .0)) refl (a .merge-back-apply .last .1 .0) (a .merge-back-apply .ensures)
+    step-handed b t (merge-back (s .args .o)) (λ z. mergedBack (z .0) (s .args .o) (z .1) (graphOf (b .vertices) t)) e (ap (λ (z : ℤ). (x, z)) (r .0)) refl (a .rewrite .last .1 .0) (a .rewrite .ensures)
 
 same-length-2 : tie.Need-same-length-2
 same-length-2 c = search needs
@@ -64,7 +65,7 @@ apply-merge-back-spec =
     (tie.spec
     merge-back-verdict-requires
     enum-known-driven
-    merge-back-apply-requires
+    rewrite-requires
     enum-known-driven-2
     same-length
     returns

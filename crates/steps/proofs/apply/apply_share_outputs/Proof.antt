@@ -10,7 +10,8 @@ use Rattle.timing.specs.Table.{graphOf}
 use Rattle.reduction.specs.ShareOutputs.{shareOutputsVerdict, outputsShared}
 use Rattle.reduction.specs.Steps.{share-outputs, plan}
 use Rattle.plans.specs.Verdict.{differenceMeaning}
-use Rattle.steps.proofs.Reducing.{said, step-handed, step-refused}
+use Rattle.plans.proofs.Applying.{step-handed, step-refused}
+use Rattle.timing.proofs.Verdict.{said}
 use Rattle.steps.proofs.Ready.{share-outputs-ready, narrow-fits, narrowed}
 use Rattle.steps.proofs.apply.apply_share_outputs.Statement.{statement}
 use Rattle.steps.proofs.apply.apply_share_outputs.Tie as tie
@@ -33,17 +34,17 @@ module _ (d : tie.After-difference) where
   found = said differenceMeaning (d .before .before .before .share-outputs-verdict .ensures .0) (d .difference .given .1)
 
   ready : (start .args .b < start .args .board .vertices) × T (fits delayLimit (at e))
-  ready = share-outputs-ready (start .args .board .inputs) (start .args .board .outputs) (start .args .board .vertices) (start .args .a) (start .args .b) (graphOf (start .args .board .vertices) (start .args .table .now)) e (start .pre .0 .lent .sized .roles) found
+  ready = share-outputs-ready (start .args .board .inputs) (start .args .board .outputs) (start .args .board .vertices) (start .args .a) (start .args .b) (graphOf (start .args .board .vertices) (start .args .table .now)) e (start .pre .0 .checked .lent .sized .roles) found
 
 narrow-requires : tie.Need-narrow-requires
-narrow-requires c κs = let d = c .before .before in narrow-fits (e d) (ready d .1)
+narrow-requires c κs = let d = c .before in narrow-fits (e d) (ready d .1)
 
-share-outputs-apply-requires : tie.Need-share-outputs-apply-requires
-share-outputs-apply-requires c κs =
+rewrite-requires : tie.Need-rewrite-requires
+rewrite-requires c κs =
     let d = c .before .before .before in
     let s = start d in
     let r = ready d in
-    (s .pre .0 .lent, r .0)
+    (s .pre .0 .checked .lent, r .0)
 
 enum-known-difference-2 : tie.Need-enum-known-difference-2
 enum-known-difference-2 c = search needs
@@ -58,13 +59,13 @@ returns : tie.Need-returns
 unfolding plan
 returns c =
     let a = c .before in
-    let n = a .before in
-    let d = n .before .before .before in
+    let n = a .before .before in
+    let d = n .before .before in
     let s = start d in
     let b = s .args .board in
     let t = s .args .table .now in
     let same = narrowed (e d) (ready d .1) _ (n .narrow .ok) (n .narrow .ensures) in (
-      step-handed b t (share-outputs (s .args .a) (s .args .b)) (λ x. outputsShared (s .args .a) (s .args .b) x (graphOf (b .vertices) t)) (found d) same refl (a .share-outputs-apply .last .1 .0) (a .share-outputs-apply .ensures),
+      step-handed b t (share-outputs (s .args .a) (s .args .b)) (λ x. outputsShared (s .args .a) (s .args .b) x (graphOf (b .vertices) t)) (found d) same refl (a .rewrite .last .1 .0) (a .rewrite .ensures),
       d .before .before .before .share-outputs-verdict .ensures .1,
     )
 
@@ -92,7 +93,7 @@ apply-share-outputs-spec =
     share-outputs-verdict-requires
     enum-known-difference
     narrow-requires
-    share-outputs-apply-requires
+    rewrite-requires
     enum-known-difference-2
     same-length
     same-length-2

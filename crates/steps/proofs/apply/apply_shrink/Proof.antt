@@ -4,7 +4,8 @@ use Rattle.timing.specs.Table.{graphOf}
 use Rattle.reduction.specs.Shrink.{shrunk}
 use Rattle.reduction.specs.Steps.{shrink, plan}
 use Rattle.plans.specs.Verdict.{fitMeaning}
-use Rattle.steps.proofs.Reducing.{said, step-done, step-refused}
+use Rattle.plans.proofs.Applying.{step-done, step-refused}
+use Rattle.timing.proofs.Verdict.{said}
 use Rattle.steps.proofs.Ready.{shrink-ready}
 use Rattle.steps.proofs.apply.apply_shrink.Statement.{statement}
 use Rattle.steps.proofs.apply.apply_shrink.Tie as tie
@@ -15,13 +16,13 @@ shrink-verdict-requires c κs = search needs
 enum-told : tie.Need-enum-told
 enum-told c = search needs
 
-shrink-apply-requires : tie.Need-shrink-apply-requires
-shrink-apply-requires c κs =
+rewrite-requires : tie.Need-rewrite-requires
+rewrite-requires c κs =
     let v = c .before .before .before in
     let s = v .before .before in
     let b = s .args .board in
     let r = shrink-ready (b .inputs) (b .outputs) (b .vertices) (s .args .k) (graphOf (b .vertices) (s .args .table .now)) (said fitMeaning (v .shrink-verdict .ensures) (c .before .enum-told .given .1)) in
-    (s .pre .lent, r .0, r .1)
+    (s .pre .lent, (r .0, r .1))
 
 enum-known-fit : tie.Need-enum-known-fit
 enum-known-fit c = search needs
@@ -37,7 +38,7 @@ returns c =
     let s = v .before .before in
     let b = s .args .board in
     let t = s .args .table .now in
-    step-done b t (shrink (s .args .k)) (λ _. shrunk (s .args .k) (graphOf (b .vertices) t)) tt (said fitMeaning (v .shrink-verdict .ensures) (a .before .before .enum-told .given .1)) refl (a .shrink-apply .last .1 .0) (a .shrink-apply .ensures)
+    step-done b t (shrink (s .args .k)) (λ _. shrunk (s .args .k) (graphOf (b .vertices) t)) tt (said fitMeaning (v .shrink-verdict .ensures) (a .before .before .enum-told .given .1)) refl (a .rewrite .last .1 .0) (a .rewrite .ensures)
 
 same-length-2 : tie.Need-same-length-2
 same-length-2 c = search needs
@@ -57,7 +58,7 @@ apply-shrink-spec =
     (tie.spec
     shrink-verdict-requires
     enum-told
-    shrink-apply-requires
+    rewrite-requires
     enum-known-fit
     same-length
     returns

@@ -5,8 +5,9 @@ use Rattle.timing.proofs.Checks.{sound-fits}
 use Rattle.reduction.specs.Star.{starred}
 use Rattle.reduction.specs.Steps.{star, plan}
 use Rattle.plans.specs.Verdict.{fitMeaning}
-use Rattle.plans.proofs.StarChain.{star-ready}
-use Rattle.steps.proofs.Reducing.{said, step-done, step-refused}
+use Rattle.stars.proofs.StarChain.{star-ready}
+use Rattle.plans.proofs.Applying.{step-done, step-refused}
+use Rattle.timing.proofs.Verdict.{said}
 use Rattle.steps.proofs.apply.apply_star.Statement.{statement}
 use Rattle.steps.proofs.apply.apply_star.Tie as tie
 

@@ -6,8 +6,8 @@ use Rattle.steps.proofs.Reducing.{still-lent, call-done, call-refuses}
 use Rattle.steps.proofs.calls.reduce.Statement.{statement}
 use Rattle.steps.proofs.calls.reduce.Tie as tie
 
-bytes-requires : tie.Need-bytes-requires
-bytes-requires c κs = search needs
+vertex-bytes-requires : tie.Need-vertex-bytes-requires
+vertex-bytes-requires c κs = search needs
 
 checked-requires : tie.Need-checked-requires
 checked-requires c κs = search needs
@@ -24,7 +24,7 @@ counted-requires : tie.Need-counted-requires
 counted-requires c κs =
     let a = c .before .before .before in
     let k = a .before .before .before .before .before in
-    still-lent (k .before .before .checked .ensures .passable _ (k .lent .given .1) .0 .lent) (a .apply-step .last .1 .0) (a .apply-step .kept .1 .0)
+    still-lent (k .before .before .checked .ensures .passable _ (k .lent .given .1) .0 .checked .lent) (a .apply-step .last .1 .0) (a .apply-step .kept .1 .0)
 
 enum-known-lent-2 : tie.Need-enum-known-lent-2
 enum-known-lent-2 c = search needs
@@ -56,7 +56,7 @@ pub reduce-spec : {M : Type 1} → statement M
 reduce-spec =
     tie.close
     (tie.spec
-    bytes-requires
+    vertex-bytes-requires
     checked-requires
     enum-known-lent
     apply-step-requires

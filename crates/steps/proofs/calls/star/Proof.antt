@@ -2,12 +2,12 @@ use borrow.Author.Needs.{needs}
 use mathlib.Core.Path.{refl}
 use Rattle.reduction.specs.Steps.{star}
 use Rattle.paths.proofs.Answering.{scratch-on, scratch-same}
-use Rattle.steps.proofs.Reducing.{passed, still-lent, call-done, call-refuses}
+use Rattle.steps.proofs.Reducing.{still-lent, call-done, call-refuses}
 use Rattle.steps.proofs.calls.star.Statement.{statement}
 use Rattle.steps.proofs.calls.star.Tie as tie
 
-bytes-requires : tie.Need-bytes-requires
-bytes-requires c κs = search needs
+vertex-bytes-requires : tie.Need-vertex-bytes-requires
+vertex-bytes-requires c κs = search needs
 
 checked-requires : tie.Need-checked-requires
 checked-requires c κs = search needs
@@ -18,13 +18,13 @@ enum-known-lent c = search needs
 apply-star-requires : tie.Need-apply-star-requires
 apply-star-requires c κs =
     let k = c .before .before in
-    passed (k .before .before .checked .ensures .passable _ (k .lent .given .1) .0)
+    k .before .before .checked .ensures .passable _ (k .lent .given .1) .0 .checked
 
 counted-requires : tie.Need-counted-requires
 counted-requires c κs =
     let a = c .before .before in
     let k = a .before .before .before in
-    still-lent (k .before .before .checked .ensures .passable _ (k .lent .given .1) .0 .lent) (a .apply-star .last .1 .0) (a .apply-star .kept .1 .0)
+    still-lent (k .before .before .checked .ensures .passable _ (k .lent .given .1) .0 .checked .lent) (a .apply-star .last .1 .0) (a .apply-star .kept .1 .0)
 
 enum-known-lent-2 : tie.Need-enum-known-lent-2
 enum-known-lent-2 c = search needs
@@ -53,7 +53,7 @@ pub star-spec : {M : Type 1} → statement M
 star-spec =
     tie.close
     (tie.spec
-    bytes-requires
+    vertex-bytes-requires
     checked-requires
     enum-known-lent
     apply-star-requires

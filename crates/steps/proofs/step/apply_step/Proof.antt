@@ -1,6 +1,6 @@
 use borrow.Author.Needs.{needs}
 use mathlib.Core.Path.{refl}
-use Rattle.steps.proofs.Reducing.{passed, step-is}
+use Rattle.steps.proofs.Reducing.{step-is}
 use Rattle.steps.proofs.step.apply_step.Statement.{statement}
 use Rattle.steps.proofs.step.apply_step.Tie as tie
 
@@ -8,7 +8,7 @@ enum-known-step : tie.Need-enum-known-step
 enum-known-step c = search needs
 
 apply-shrink-requires : tie.Need-apply-shrink-requires
-apply-shrink-requires c κs = passed (c .before .before .before .before .pre .0)
+apply-shrink-requires c κs = c .before .before .before .before .pre .0 .checked
 
 enum-known-step-2 : tie.Need-enum-known-step-2
 enum-known-step-2 c = search needs
@@ -25,14 +25,14 @@ apply-share-outputs-requires c κs = search needs
 enum-told : tie.Need-enum-told
 enum-told c = search needs
 
-apply-prune-requires : tie.Need-apply-prune-requires
-apply-prune-requires c κs = search needs
+prune-step-requires : tie.Need-prune-step-requires
+prune-step-requires c κs = search needs
 
 enum-known-step-4 : tie.Need-enum-known-step-4
 enum-known-step-4 c = search needs
 
 apply-merge-back-requires : tie.Need-apply-merge-back-requires
-apply-merge-back-requires c κs = passed (c .before .before .before .before .pre .0)
+apply-merge-back-requires c κs = c .before .before .before .before .pre .0 .checked
 
 same-length : tie.Need-same-length
 same-length c = search needs
@@ -81,7 +81,7 @@ returns-4 c =
     let a = c .before .before in
     let k = a .before .before .before in
     let s = k .before .before in
-    (step-is (s .args .board) (s .args .table .now) (s .args .step) _ (k .enum-told .given .1) _ _ (a .apply-prune .ensures .0), a .apply-prune .ensures .1)
+    (step-is (s .args .board) (s .args .table .now) (s .args .step) _ (k .enum-told .given .1) _ _ (a .prune-step .ensures .0), a .prune-step .ensures .1)
 
 same-length-8 : tie.Need-same-length-8
 same-length-8 c = search needs
@@ -104,7 +104,7 @@ apply-step-spec =
     enum-known-step-3
     apply-share-outputs-requires
     enum-told
-    apply-prune-requires
+    prune-step-requires
     enum-known-step-4
     apply-merge-back-requires
     same-length

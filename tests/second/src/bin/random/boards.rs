@@ -1,5 +1,6 @@
 //! Random boards: sizes, a table, and the shapes that steps look for.
 
+use crate::ladders;
 use crate::rng::Rng;
 use second::board::{Board, Sizes};
 
@@ -233,8 +234,19 @@ impl Draft {
     }
 }
 
+/// A board that passes the checks, at times a ladder, with the stars planted in it.
+pub fn board(rng: &mut Rng) -> (Board, Vec<i32>, Vec<Star>) {
+    if rng.chance(15) {
+        let (board, table) = ladders::board(rng);
+        return (board, table, Vec::new());
+    }
+    let board = sizes(rng);
+    let (table, stars) = table(rng, board);
+    (board, table, stars)
+}
+
 /// Sizes within the limits.
-pub fn sizes(rng: &mut Rng) -> Board {
+fn sizes(rng: &mut Rng) -> Board {
     let vertices = match rng.below(200) {
         0..=39 => 2 + rng.below(5),
         40..=169 => 6 + rng.below(7),
@@ -327,8 +339,7 @@ pub fn length(rng: &mut Rng, right: usize) -> usize {
 
 /// What a list starts from: mostly sensible.
 pub fn lent(rng: &mut Rng) -> Lent {
-    let board = sizes(rng);
-    let (mut cells, stars) = table(rng, board);
+    let (board, mut cells, stars) = board(rng);
     if rng.chance(8) {
         for _ in 0..1 + rng.below(2) {
             damage(rng, board, &mut cells);

@@ -2,7 +2,7 @@
 
 use second::board::{Board, Sizes};
 use second::file::RefusedRead;
-use second::{delays, file, run, steps};
+use second::{delays, file, literal, steps};
 use std::fmt::Write;
 
 #[derive(Clone, Debug)]
@@ -24,7 +24,7 @@ pub enum Call {
 #[derive(Clone, Copy, Debug, PartialEq, Eq)]
 pub enum Accepted {
     Left(u64),
-    Ran(run::Outcome),
+    Ran(literal::Ran),
     Done,
     Bytes(u64),
     Board(Sizes),
@@ -134,7 +134,7 @@ impl Call {
             Call::Star { sources, targets, k } => {
                 answer(steps::star(sizes, table, scratch, sources, targets, *k), left)
             }
-            Call::Run => answer(run::run(sizes, table, scratch), Accepted::Ran),
+            Call::Run => answer(literal::run(sizes, table, scratch), Accepted::Ran),
             Call::Matrix { destination } => {
                 let mut cells = vec![i64::from(DESTINATION_FILL); *destination];
                 let result = delays::matrix(sizes, table, scratch, &mut cells);
@@ -206,7 +206,7 @@ pub fn text(performed: &Performed, table: &[i32]) -> String {
         }
         Answer::Accepted(Accepted::Left(arcs)) => format!("left {arcs}\n"),
         Answer::Accepted(Accepted::Ran(ran)) => {
-            format!("accepted {} arcs {}\n", ran.steps, ran.arcs)
+            format!("accepted {} arcs {}\n", ran.outcome.steps, ran.outcome.arcs)
         }
         Answer::Accepted(Accepted::Done) => "ok\n".to_string(),
         Answer::Accepted(Accepted::Bytes(bytes)) => format!("bytes {bytes}\n"),

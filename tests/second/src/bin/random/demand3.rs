@@ -59,9 +59,9 @@ impl Claim {
                 }
             }
             Answer::Accepted(Accepted::Ran(ran)) => {
-                self.accepted += ran.steps;
-                if ran.arcs != arcs {
-                    return Err(format!("{} arcs answered, {arcs} present", ran.arcs));
+                self.accepted += ran.outcome.steps;
+                if ran.outcome.arcs != arcs {
+                    return Err(format!("{} arcs answered, {arcs} present", ran.outcome.arcs));
                 }
             }
             _ => {}

@@ -6,8 +6,13 @@ use second::board::Board;
 
 /// The bytes of a file; `like` gives the sizes to use, else they are random.
 pub fn file(rng: &mut Rng, like: Option<Board>) -> Vec<u8> {
-    let board = like.unwrap_or_else(|| boards::sizes(rng));
-    let (table, _) = boards::table(rng, board);
+    let (board, table) = match like {
+        Some(board) => (board, boards::table(rng, board).0),
+        None => {
+            let (board, table, _) = boards::board(rng);
+            (board, table)
+        }
+    };
     let mut records =
         vec![vec![b'B', b'D', board.inputs as u8, board.outputs as u8, board.vertices as u8]];
     // cell records where the delay is a cell's

@@ -19,6 +19,15 @@ pub struct Maker<'r> {
 }
 
 impl Maker<'_> {
+    /// A list's first call, often a run, which finds the most to do then.
+    pub fn first(&mut self, table: &[i32]) -> Call {
+        if self.rng.chance(25) {
+            Call::Run
+        } else {
+            self.call(table)
+        }
+    }
+
     pub fn call(&mut self, table: &[i32]) -> Call {
         // a search for a call that is accepted, where that is cheap
         if self.rng.chance(45) && table.len() <= 1_000 {

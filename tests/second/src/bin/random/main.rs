@@ -4,8 +4,8 @@
 //!
 //! Run it at the repository's root. Each list is one process of `replay`, whose whole output is
 //! compared; some lists also give a file to `thin`; with the feature `host` the C exports get each
-//! list's first and last table. Demand 3 is checked on the second implementation's own side. `--only`
-//! repeats one list of a seed alone.
+//! list's first and last table. Runs are held against the literal one. Demand 3 is checked on the
+//! second implementation's own side. `--only` repeats one list of a seed alone.
 
 mod boards;
 mod calls;
@@ -13,16 +13,20 @@ mod demand3;
 mod files;
 #[cfg(feature = "host")]
 mod host;
+mod ladders;
 mod lists;
 mod programs;
 mod rng;
 mod tally;
 
-use calls::Call;
+use calls::{Accepted, Answer, Call};
 use demand3::Claim;
 use lists::Maker;
 use programs::{Expected, Program};
 use rng::Rng;
+use second::board::Sizes;
+use second::literal::{self, Ran};
+use second::{run, thin};
 use std::panic::{catch_unwind, AssertUnwindSafe};
 use std::path::{Path, PathBuf};
 use std::process::ExitCode;
@@ -156,9 +160,14 @@ fn one_list(
     }
     for place in 0..lists::calls(&mut rng, table.len()) {
         let mut maker = Maker { rng: &mut rng, sizes, scratch: lent.scratch, stars: &lent.stars };
-        let call = maker.call(&table);
+        let call = if place == 0 { maker.first(&table) } else { maker.call(&table) };
+        let before = table.clone();
         let performed = call.perform(sizes, &mut table, lent.scratch);
         tally.count(call.code().into(), performed.answer.number());
+        if let Answer::Accepted(Accepted::Ran(ran)) = performed.answer {
+            tally.count_run(ran.rounds);
+            check_peer(sizes, before, lent.scratch, ran, &table)?;
+        }
         if show {
             println!("call {place}: {call:?}: {:?}", performed.answer);
         }
@@ -190,14 +199,43 @@ fn one_list(
     }
 
     if rng.chance(50) {
-        let bytes = lists::thin_input(&mut rng);
-        let expected = second::thin::thin(&bytes);
-        tally.count(tally::THIN, refusal_in(&expected));
-        let output = programs.thin.output(&bytes, spool)?;
-        if output != expected.as_bytes() {
-            let got = String::from_utf8_lossy(&output);
-            return Err(format!("thin on {bytes:?}\nexpected:\n{expected}got:\n{got}"));
-        }
+        check_thin(&lists::thin_input(&mut rng), programs, spool, tally)?;
+    }
+    Ok(())
+}
+
+/// The run that the benchmark takes leaves the same.
+fn check_peer(
+    sizes: Sizes,
+    mut table: Vec<i32>,
+    scratch: usize,
+    ran: Ran,
+    after: &[i32],
+) -> Result<(), String> {
+    let outcome = run::run(sizes, &mut table, scratch);
+    if outcome != Ok(ran.outcome) || table != after {
+        return Err(format!("the literal run: {ran:?}, the other: {outcome:?}"));
+    }
+    Ok(())
+}
+
+fn check_thin(
+    bytes: &[u8],
+    programs: &Programs,
+    spool: &Path,
+    tally: &mut Tally,
+) -> Result<(), String> {
+    let run = |sizes, table: &mut [i32], scratch| {
+        let ran = literal::run(sizes, table, scratch)?;
+        tally.count_run(ran.rounds);
+        Ok(ran.outcome)
+    };
+    let expected = thin::thin_by(run, bytes);
+    tally.count(tally::THIN, refusal_in(&expected));
+    let output = programs.thin.output(bytes, spool)?;
+    if output != expected.as_bytes() {
+        let got = String::from_utf8_lossy(&output);
+        return Err(format!("thin on {bytes:?}\nexpected:\n{expected}got:\n{got}"));
     }
     Ok(())
 }

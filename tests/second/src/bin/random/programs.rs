@@ -23,14 +23,15 @@ impl Program {
         }
     }
 
-    /// All that the program prints on an input; `spool` is a file to use for it.
+    /// All that the program prints on an input, none of it on standard error; `spool` is a file to
+    /// use for the input.
     pub fn output(&self, input: &[u8], spool: &Path) -> Result<Vec<u8>, String> {
         self.run(input, spool).map_err(|error| format!("{}: {error}", self.path.display()))
     }
 
     fn run(&self, input: &[u8], spool: &Path) -> Result<Vec<u8>, String> {
         let mut command = Command::new(&self.path);
-        command.stdout(Stdio::piped());
+        command.stdout(Stdio::piped()).stderr(Stdio::piped());
         if input.len() <= PIPED {
             command.stdin(Stdio::piped());
         } else {
@@ -43,6 +44,9 @@ impl Program {
             let _ = pipe.write_all(input);
         }
         let output = child.wait_with_output().map_err(|error| error.to_string())?;
+        if !output.stderr.is_empty() {
+            return Err(format!("standard error: {}", String::from_utf8_lossy(&output.stderr)));
+        }
         if output.status.success() {
             Ok(output.stdout)
         } else {

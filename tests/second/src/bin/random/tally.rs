@@ -1,4 +1,4 @@
-//! How often each call was accepted, and refused by which number.
+//! How often each call was accepted, and refused by which number; how many rounds the runs took.
 
 /// A call, and the numbers by which it can be refused.
 pub struct Kind {
@@ -40,9 +40,16 @@ pub const C_PRUNE: usize = 15;
 /// Number 0 counts the accepted calls.
 const NUMBERS: usize = 23;
 
+/// Runs with more rounds are counted with the last.
+const ROUNDS: usize = 8;
+
+/// How many runs must have had exactly so many rounds that accepted something.
+const LEAST_RUNS: [(usize, u64); 2] = [(2, 200), (3, 20)];
+
 #[derive(Default)]
 pub struct Tally {
     counts: [[u64; NUMBERS]; KINDS.len()],
+    runs: [u64; ROUNDS],
 }
 
 impl Tally {
@@ -50,11 +57,15 @@ impl Tally {
         self.counts[kind][number as usize] += 1;
     }
 
+    /// A run, by its rounds that accepted something.
+    pub fn count_run(&mut self, rounds: u64) {
+        self.runs[(rounds as usize).min(ROUNDS - 1)] += 1;
+    }
+
     pub fn add(&mut self, other: &Tally) {
-        for (row, others) in self.counts.iter_mut().zip(&other.counts) {
-            for (count, other) in row.iter_mut().zip(others) {
-                *count += other;
-            }
+        let ours = self.counts.as_flattened_mut().iter_mut().chain(&mut self.runs);
+        for (count, other) in ours.zip(other.counts.as_flattened().iter().chain(&other.runs)) {
+            *count += other;
         }
     }
 
@@ -71,6 +82,11 @@ impl Tally {
         print!("every call    accepted {:6}", self.total(0));
         for number in 1..NUMBERS {
             print!("  {number}:{}", self.total(number));
+        }
+        println!();
+        print!("runs by rounds that accepted something");
+        for (rounds, count) in self.runs.iter().enumerate() {
+            print!("  {rounds}:{count}");
         }
         println!();
     }
@@ -94,6 +110,12 @@ impl Tally {
                 if !possible && count > 0 {
                     faults.push(format!("{} was refused by {number}", kind.name));
                 }
+            }
+        }
+        for (rounds, least) in LEAST_RUNS {
+            let count = self.runs[rounds];
+            if count < least {
+                faults.push(format!("{count} runs of {rounds} rounds, fewer than {least}"));
             }
         }
         faults

@@ -1,9 +1,0 @@
--- Numbers that a line may tell.
-use lib.Dec.{T}
-use lib.IntN.{ℤ}
-use Rattle.graph.specs.Delay.{at}
-use Rattle.timing.specs.Limits.{delayLimit, fits}
-
--- a delay that a cell may hold
-abbrev pub Legal : ℤ → Type 0
-Legal d = T (fits delayLimit (at d))

@@ -1,0 +1,8 @@
+pub mod CellCodes
+pub mod Ends
+pub mod AcceptedRecords
+pub mod Appending
+pub mod Remaining
+pub mod Decimal
+pub mod Signs
+pub mod Wording

@@ -1,0 +1,9 @@
+pub mod Members
+pub mod Sets
+pub mod LeastOf
+pub mod Marking
+pub mod CentreCells
+pub mod StarChain
+pub mod Rewriting
+pub mod RowCells
+pub mod StarTable

@@ -1,0 +1,18 @@
+use mathlib.Core.Path.{ap₂, _∙_}
+use lib.IntN.{_-ℤ_}
+use mir.Facts.{toZ-ofZ}
+use Rattle.laws.proofs.Truth.{difference-bits}
+use Rattle.stars.proofs.star.is_covered.Statement.{statement}
+use Rattle.stars.proofs.star.is_covered.Tie as tie
+
+difference-requires : tie.Need-difference-requires
+difference-requires c κs = tt
+
+returns : tie.Need-returns
+returns c =
+    let s = c .before in
+    difference-bits (s .args .delay) (s .args .first) (s .args .e) (c .difference .result) (s .fits .e) (record { sfits = c .difference .ok })
+    (c .difference .ensures ∙ ap₂ _-ℤ_ (toZ-ofZ (s .fits .delay)) (toZ-ofZ (s .fits .first)))
+
+pub is-covered-spec : {M : Type 1} → statement M
+is-covered-spec = tie.close (tie.spec difference-requires returns)

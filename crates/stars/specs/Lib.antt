@@ -1,0 +1,4 @@
+pub mod Members
+pub mod StarCells
+pub mod StarReady
+pub mod StarOn

@@ -1,0 +1,2 @@
+// Star, over a table that has passed its checks.
+pub mod star;

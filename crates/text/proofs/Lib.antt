@@ -1,0 +1,4 @@
+pub mod TextLengths
+pub mod Offsets
+pub mod RunTexts
+pub mod ThinTexts
