@@ -1,38 +1,74 @@
--- Arcs into a vertex, as a loop down its column counts them.
-use mathlib.Core.Path.{_≡_, ap}
-use Prim.Native.Nat.{ℕ, zero, suc, _+_, _≤_}
-use native.Mathlib.Decide.{ℕ-discrete}
+-- Arcs into a vertex, as a search down its column finds them.
+use mathlib.Core.Path.{_≡_, sym, ap, _∙_}
+use mathlib.Core.Bool.{true, false}
+use Prim.Native.Nat.{ℕ, zero, _+_, _<_}
+use native.Mathlib.Decide.{ℕ-discrete, decLt}
 use native.Mathlib.Omega.{arith}
-use Rattle.laws.specs.Bounded.{sum}
-use Rattle.laws.proofs.Sums.{sum-more}
+use borrow.Author.Tests.{eq-eqb, ne-eqb}
+use lib.Dec.{eqb}
+use Rattle.laws.specs.Bounded.{first}
+use Rattle.laws.proofs.Booleans.{T-true}
+use Rattle.laws.proofs.Bounded.{first-none, first-found}
+use Rattle.laws.proofs.Sums.{sum-zero, sum-term, sum-pick}
+use Rattle.laws.proofs.Update.{update, update-same, update-other}
+use Rattle.graph.specs.Delay.{present}
 use Rattle.graph.specs.Graph.{Graph}
 use Rattle.graph.specs.Count.{bit, fanIn}
+use Rattle.graph.proofs.Presence.{present-bit, absent-bit}
+use Rattle.paths.specs.Cells.{NextInto}
 
--- how many of the first u vertices have an arc to v
-abbrev pub above : Graph → ℕ → ℕ → ℕ
-above g u v = sum u (λ x. bit (g x v))
+module _ (N : ℕ) (g : Graph) (v : ℕ) where
+  abbrev into : ℕ → ℕ
+  into u = bit (g u v)
 
-sum-upto : (f : ℕ → ℕ) (u n : ℕ) → u ≤ n → sum u f ≤ sum n f
-unfolding sum
-sum-upto f u zero l = go (ℕ-discrete u zero)
-  where
-    go : Dec (u ≡ zero) → sum u f ≤ zero
-    go (yes e) = rw e (omega arith)
-    go (no ne) = absurd (omega arith)
-sum-upto f u (suc n) l = go (sum-upto f u n) (ℕ-discrete u (suc n))
-  where
-    go : (u ≤ n → sum u f ≤ sum n f) → Dec (u ≡ suc n) → sum u f ≤ sum n f + f n
-    go ih (yes e) = rw e (omega arith)
-    go ih (no ne) = omega (arith, ih (omega arith))
+  pub no-arc : (r : ℕ) → NextInto N g v 0 r → r ≡ N → fanIn N g v ≡ 0
+  unfolding fanIn
+  no-arc r s e = sum-zero N into (λ u l. s .none u (omega arith) (omega arith))
 
--- another arc, at u
-pub above-more : (g : Graph) (u v : ℕ) → above g (u + 1) v ≡ above g u v + bit (g u v)
-above-more g u v = sum-more (λ x. bit (g x v)) u
+  pub an-arc : (r : ℕ) → NextInto N g v 0 r → r < N → 0 < fanIn N g v
+  unfolding fanIn
+  an-arc r s l = omega (arith, sum-term N into r l, s .arc l)
 
-pub above-fan : (n : ℕ) (g : Graph) (u v : ℕ) → u ≤ n → above g u v ≤ fanIn n g v
-unfolding fanIn
-above-fan n g u v l = sum-upto (λ x. bit (g x v)) u n l
+  module _ (p : ℕ) (s : NextInto N g v 0 p) (l : p < N) where
+    -- the others
+    abbrev rest : ℕ → ℕ
+    rest = update into p zero
 
-pub above-all : (n : ℕ) (g : Graph) (u v : ℕ) → u ≡ n → above g u v ≡ fanIn n g v
-unfolding fanIn
-above-all n g u v e = ap (λ (k : ℕ). above g k v) e
+    pub one-arc : (r : ℕ) → NextInto N g v (p + 1) r → r ≡ N → fanIn N g v ≡ 1
+    unfolding fanIn
+    one-arc r n e = omega (arith, sum-pick N into p l, s .arc l, sum-zero N rest (λ u k. go u k (ℕ-discrete u p) (decLt u p)))
+      where
+        go : (u : ℕ) → u < N → Dec (u ≡ p) → Dec (u < p) → rest u ≡ 0
+        go u k (yes q) _ = rw (q, update-same into p zero)
+        go u k (no ne) (yes h) = update-other into p zero u ne ∙ s .none u (omega arith) h
+        go u k (no ne) (no h) = update-other into p zero u ne ∙ n .none u (omega arith) (omega arith)
+
+    pub two-arcs : (r : ℕ) → NextInto N g v (p + 1) r → r < N → 1 < fanIn N g v
+    unfolding fanIn
+    two-arcs r n k = omega (arith, sum-pick N into p l, s .arc l, sum-term N rest r k, update-other into p zero r (λ e. absurd (omega (arith, n .past))), n .arc k)
+
+  -- what the searches answer
+  pub none-says : (r : ℕ) → NextInto N g v 0 r → eqb r N ≡ eqb (fanIn N g v) 0
+  none-says r s = go (ℕ-discrete r N)
+    where
+      go : Dec (r ≡ N) → eqb r N ≡ eqb (fanIn N g v) 0
+      go (yes e) = eq-eqb r N e ∙ sym (eq-eqb (fanIn N g v) 0 (no-arc r s e))
+      go (no ne) = ne-eqb r N ne ∙ sym (ne-eqb (fanIn N g v) 0 (λ e. omega (arith, an-arc r s (omega (arith, s .upto)))))
+
+  pub one-says : (p : ℕ) → NextInto N g v 0 p → p < N → (r : ℕ) → NextInto N g v (p + 1) r → eqb r N ≡ eqb (fanIn N g v) 1
+  one-says p s l r n = go (ℕ-discrete r N)
+    where
+      go : Dec (r ≡ N) → eqb r N ≡ eqb (fanIn N g v) 1
+      go (yes e) = eq-eqb r N e ∙ sym (eq-eqb (fanIn N g v) 1 (one-arc p s l r n e))
+      go (no ne) = ne-eqb r N ne ∙ sym (ne-eqb (fanIn N g v) 1 (λ e. omega (arith, two-arcs p s l r n (omega (arith, n .upto)))))
+
+  -- from 0 on it is the first of all
+  pub next-first : (r : ℕ) → NextInto N g v 0 r → r ≡ first N (λ u. present (g u v))
+  next-first r s = go (decLt r N)
+    where
+      off : (u : ℕ) → u < r → present (g u v) ≡ false
+      off u l = ap present (absent-bit (g u v) (s .none u (omega arith) l))
+
+      go : Dec (r < N) → r ≡ first N (λ u. present (g u v))
+      go (yes l) = sym (first-found N (λ u. present (g u v)) r l off (T-true (present-bit (g r v) (omega (arith, s .arc l)))))
+      go (no n) = let e : r ≡ N = omega (arith, s .upto) in e ∙ sym (first-none N (λ u. present (g u v)) (λ u l. off u (omega (arith, e))))

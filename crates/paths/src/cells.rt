@@ -13,7 +13,7 @@ ghost use Rattle.timing.specs.Limits.{delayLimit, absentCell, fits};
 ghost use Rattle.timing.specs.Table.{readCell};
 ghost use Rattle.timing.specs.Checks.{cellsFit, noArcIntoInput};
 ghost use Rattle.paths.specs.Board.{Lent, graphIn};
-ghost use Rattle.paths.specs.Cells.{cellAt, InTable};
+ghost use Rattle.paths.specs.Cells.{cellAt, InTable, NextInto};
 
 // The limits of a delay, as a cell has them.
 const MIN_TICKS: i32 = Board::MIN_DELAY as i32;
@@ -143,6 +143,25 @@ pub fn fan_in(board: Board, table: &[i32], v: usize) -> usize
     count(table, v, n, n)
 }
 
+// The first vertex from `from` on with an arc to v, or N.
+pub fn next_into(board: Board, table: &[i32], v: usize, from: usize) -> usize
+    requires { ⌜ Lent board (now table) ⌝ }
+    requires { ⌜ v < board .vertices ⌝ }
+    requires { ⌜ from ≤ board .vertices ⌝ }
+    ensures { λ r. ⌜ NextInto (board .vertices) (graphIn board (was table)) v from r ⌝ }
+{
+    let n = board.vertices;
+    let mut u = from;
+    while u < n {
+        let at = n * u + v;
+        if is_arc(table[at]) {
+            return u;
+        }
+        u += 1;
+    }
+    u
+}
+
 // Whether no arc leads into v. The first settles it.
 pub fn none_into(board: Board, table: &[i32], v: usize) -> bool
     requires { ⌜ Lent board (now table) ⌝ }
@@ -150,15 +169,7 @@ pub fn none_into(board: Board, table: &[i32], v: usize) -> bool
     ensures { λ r. ⌜ r ≡ eqb (fanIn (board .vertices) (graphIn board (was table)) v) 0 ⌝ }
 {
     let n = board.vertices;
-    let mut u = 0;
-    while u < n {
-        let at = n * u + v;
-        if is_arc(table[at]) {
-            return false;
-        }
-        u += 1;
-    }
-    true
+    next_into(board, table, v, 0) == n
 }
 
 // Whether one arc leads into v. The second settles it.
@@ -168,19 +179,11 @@ pub fn one_into(board: Board, table: &[i32], v: usize) -> bool
     ensures { λ r. ⌜ r ≡ eqb (fanIn (board .vertices) (graphIn board (was table)) v) 1 ⌝ }
 {
     let n = board.vertices;
-    let mut found = false;
-    let mut u = 0;
-    while u < n {
-        let at = n * u + v;
-        if is_arc(table[at]) {
-            if found {
-                return false;
-            }
-            found = true;
-        }
-        u += 1;
+    let u = next_into(board, table, v, 0);
+    if u == n {
+        return false;
     }
-    found
+    next_into(board, table, v, u + 1) == n
 }
 
 // All arcs: the present cells.

@@ -12,7 +12,7 @@ ghost use Prim.Native.Nat.{_+_, _*_, _≤_};
 ghost use lib.IntN.{pos};
 ghost use lib.ListN.{length, getD};
 ghost use Rattle.laws.specs.Lists.{tabulate};
-ghost use Rattle.laws.specs.Lent.{was, Past};
+ghost use Rattle.laws.specs.Lent.{was, size, Past};
 ghost use Rattle.timing.specs.Limits.{arrivalLimit, absentWide, fits};
 ghost use Rattle.timing.specs.Table.{readCell};
 ghost use Rattle.timing.specs.Delays.{arrivalsFit};
@@ -95,7 +95,7 @@ pub fn delay_matrix(
     scratch: &mut [i64],
     destination: &mut [i64],
 ) -> Answer
-    ensures { λ r. ⌜ Fills (matrixCall inputs outputs vertices (length (was scratch)) (was table) (was destination)) (was destination) (now (destination .exit)) r ⌝ }
+    ensures { λ r. ⌜ Fills (matrixCall inputs outputs vertices (size scratch) (was table) (was destination)) (was destination) (now (destination .exit)) r ⌝ }
     ensures { λ _. ⌜ ScratchAfter inputs outputs vertices (was table) (was scratch) (now (scratch .exit)) ⌝ }
 {
     let mut order = room::vertex_bytes();
@@ -174,7 +174,7 @@ pub fn output_arrivals(
     given: &[i64],
     answers: &mut [i64],
 ) -> Answer
-    ensures { λ r. ⌜ Fills (arrivalCall inputs outputs vertices (length (was scratch)) (was table) (was given) (was answers)) (was answers) (now (answers .exit)) r ⌝ }
+    ensures { λ r. ⌜ Fills (arrivalCall inputs outputs vertices (size scratch) (was table) (was given) (was answers)) (was answers) (now (answers .exit)) r ⌝ }
     ensures { λ _. ⌜ ScratchAfter inputs outputs vertices (was table) (was scratch) (now (scratch .exit)) ⌝ }
 {
     let mut order = room::vertex_bytes();

@@ -28,16 +28,7 @@ fn driver(board: Board, table: &[i32], o: usize) -> usize
     requires { ⌜ o < board .vertices ⌝ }
     ensures { λ r. ⌜ r ≡ driver (board .vertices) (graphIn board (was table)) o ⌝ }
 {
-    let n = board.vertices;
-    let mut u = 0;
-    while u < n {
-        let at = n * u + o;
-        if cells::is_arc(table[at]) {
-            return u;
-        }
-        u += 1;
-    }
-    n
+    cells::next_into(board, table, o, 0)
 }
 
 // What is added where d is taken off.

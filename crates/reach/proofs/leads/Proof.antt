@@ -66,9 +66,6 @@ has-requires c κs = omega (arith, below c, start c .pre .0)
 at-requires-2 : tie.Need-at-requires-2 Inv-loop μ-loop
 at-requires-2 c κs = let e = c .before .before in omega (arith, below e, start e .pre .1 .1 .1 .1 .sets .long)
 
-or-requires : tie.Need-or-requires Inv-loop μ-loop
-or-requires c κs = search needs
-
 add-p : tie.Need-add-p Inv-loop μ-loop
 add-p c = let e = c .before .before in omega (arith, inner e .loop-test .taken, start e .pre .0)
 
@@ -122,7 +119,7 @@ leads-spec =
     cast-x
     has-requires
     at-requires-2
-    or-requires
+    (λ c κs. search needs)
     add-p
     loop-less
     loop-again

@@ -22,29 +22,8 @@ Inv-loop row n s₀ v₀ s v = (v ≤ n) × Below (λ u. present (cellAt row u))
 abbrev μ-loop : tie.MeasureT-loop
 μ-loop row n s₀ v₀ s v = n - v
 
-empty-requires : tie.Need-empty-requires Inv-loop μ-loop
-empty-requires c κs = search needs
-
 loop-holds : tie.Need-loop-holds Inv-loop μ-loop
 loop-holds c = (omega arith, below-start (λ u. present (cellAt (c .before .args .row .now) u)) (c .empty .result) (c .empty .ensures))
-
-mul-is-arc : tie.Need-mul-is-arc Inv-loop μ-loop
-mul-is-arc c = omega arith
-
-shared-slice-copy-out-is-arc : tie.Need-shared-slice-copy-out-is-arc Inv-loop μ-loop
-shared-slice-copy-out-is-arc c = omega arith
-
-is-arc-requires : tie.Need-is-arc-requires Inv-loop μ-loop
-is-arc-requires c κs = search needs
-
-plus-requires : tie.Need-plus-requires Inv-loop μ-loop
-plus-requires c κs = omega arith
-
-add-v : tie.Need-add-v Inv-loop μ-loop
-add-v c = omega arith
-
-loop-less : tie.Need-loop-less Inv-loop μ-loop
-loop-less c = omega arith
 
 said : (c : tie.After-is-arc Inv-loop μ-loop) → present (cellAt (c .before .before .before .before .before .args .row .now) (c .before .before .before .loop .v)) ≡ c .is-arc .result
 said c = sym (c .is-arc .ensures ∙ ap (λ (z : ℤ). present (readCell absentCell z)) (back w32 _ (c .before .is-arc-arg .given)))
@@ -73,13 +52,13 @@ row-set-spec =
     (tie.spec
     Inv-loop
     μ-loop
-    empty-requires
+    (λ c κs. search needs)
     loop-holds
-    mul-is-arc
-    shared-slice-copy-out-is-arc
-    is-arc-requires
-    plus-requires
-    add-v
-    loop-less
+    (λ c. omega arith)
+    (λ c. omega arith)
+    (λ c κs. search needs)
+    (λ c κs. omega arith)
+    (λ c. omega arith)
+    (λ c. omega arith)
     loop-again
     returns)

@@ -34,9 +34,6 @@ sub-row-set c = omega (arith, row c, c .pre .0 .room)
 part-row-set-start : tie.Need-part-row-set-start
 part-row-set-start c = omega (arith, row c, c .pre .0 .room)
 
-part-row-set-end : tie.Need-part-row-set-end
-part-row-set-end c = search needs
-
 row-set-requires : tie.Need-row-set-requires
 row-set-requires c κs = let s = c .before in (s .pre .0 .sized .few, lent-long (n s) (t s) (s .args .u) (s .pre .0 .room) (s .pre .1))
 
@@ -54,6 +51,6 @@ targets-spec =
     mul-row-set
     sub-row-set
     part-row-set-start
-    part-row-set-end
+    (λ c. search needs)
     row-set-requires
     returns)

@@ -9,11 +9,8 @@ use Rattle.sets.proofs.Words.{one-digit}
 use Rattle.sets.proofs.one.Statement.{statement}
 use Rattle.sets.proofs.one.Tie as tie
 
-shl-result : tie.Need-shl-result
-shl-result c = search needs
-
 returns : tie.Need-returns
 returns c j = ap (λ (x : ℕ). odd x j) (shl-exact {a = 1} 1 (c .args .i) 64 (lit< tt) (omega arith)) ∙ one-digit (c .args .i) j
 
 pub one-spec : {M : Type 1} → statement M
-one-spec = tie.close (tie.spec shl-result returns)
+one-spec = tie.close (tie.spec (λ c. search needs) returns)

@@ -59,9 +59,6 @@ counts-line-requires c κs =
       ),
     )
 
-same-length : tie.Need-same-length
-same-length c = search needs
-
 returns : tie.Need-returns
 returns c =
     let last = c .before .before in
@@ -82,4 +79,4 @@ returns c =
 
 pub reduced-text-spec : {M : Type 1} → statement M
 reduced-text-spec =
-    tie.close (tie.spec board-line-requires put-arcs-requires counts-line-requires same-length returns)
+    tie.close (tie.spec board-line-requires put-arcs-requires counts-line-requires (λ c. search needs) returns)

@@ -19,12 +19,6 @@ module _ (c : tie.After-run) where
   text : (x : Ran) → c .run .result ≡ x → runText (sizesOf (s .args .board)) (ranMeaning x (c .run .last .1 .1 .1 .0)) ≡ textOf (s .args .table .now) (got (sizesOf (s .args .board)))
   text x q = let b = s .args .board in ran-text (b .inputs) (b .outputs) (b .vertices) (length (s .args .scratch .now)) (s .args .table .now) (c .run .ensures .0) x q (s .pre .0)
 
-run-requires : tie.Need-run-requires
-run-requires c κs = search needs
-
-enum-known-ran : tie.Need-enum-known-ran
-enum-known-ran c = search needs
-
 reduced-text-requires : tie.Need-reduced-text-requires
 reduced-text-requires c κs =
     let k = c .before .before .before in
@@ -33,35 +27,11 @@ reduced-text-requires c κs =
     let h = ran-checked (a .board .inputs) (a .board .outputs) (a .board .vertices) (length (a .scratch .now)) (a .table .now) (call .run .ensures .0) _ _ (k .ran .given .1) in
     (h .0, (h .1, (h .2, s call .pre .1)))
 
-enum-known-ran-2 : tie.Need-enum-known-ran-2
-enum-known-ran-2 c = search needs
-
-refused-text-requires : tie.Need-refused-text-requires
-refused-text-requires c κs = search needs
-
-same-length : tie.Need-same-length
-same-length c = search needs
-
-same-length-2 : tie.Need-same-length-2
-same-length-2 c = search needs
-
-same-length-3 : tie.Need-same-length-3
-same-length-3 c = search needs
-
 returns : tie.Need-returns
 returns c =
     let t = c .before .before in
     let k = t .before .before .before .before in
     (appends-same (text (k .before .before .before .before) _ (k .ran .given .1)) (t .reduced-text .ensures .0), t .reduced-text .ensures .1)
-
-same-length-4 : tie.Need-same-length-4
-same-length-4 c = search needs
-
-same-length-5 : tie.Need-same-length-5
-same-length-5 c = search needs
-
-same-length-6 : tie.Need-same-length-6
-same-length-6 c = search needs
 
 returns-2 : tie.Need-returns-2
 returns-2 c =
@@ -73,16 +43,16 @@ pub run-text-spec : {M : Type 1} → statement M
 run-text-spec =
     tie.close
     (tie.spec
-    run-requires
-    enum-known-ran
+    (λ c κs. search needs)
+    (λ c. search needs)
     reduced-text-requires
-    enum-known-ran-2
-    refused-text-requires
-    same-length
-    same-length-2
-    same-length-3
+    (λ c. search needs)
+    (λ c κs. search needs)
+    (λ c. search needs)
+    (λ c. search needs)
+    (λ c. search needs)
     returns
-    same-length-4
-    same-length-5
-    same-length-6
+    (λ c. search needs)
+    (λ c. search needs)
+    (λ c. search needs)
     returns-2)

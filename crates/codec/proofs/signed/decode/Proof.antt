@@ -7,9 +7,6 @@ use Rattle.codec.proofs.Places.{read-below}
 use Rattle.codec.proofs.signed.decode.Statement.{statement}
 use Rattle.codec.proofs.signed.decode.Tie as tie
 
-number-requires : tie.Need-number-requires
-number-requires c κs = search needs
-
 of-pattern-requires : tie.Need-of-pattern-requires
 of-pattern-requires c κs =
     let a = c .before .before .args in
@@ -19,4 +16,4 @@ returns : tie.Need-returns
 returns c = back w64 _ (c .of-pattern .ok) ∙ c .of-pattern .ensures ∙ ap (twos (c .before .before .before .args .width)) (c .before .number .ensures)
 
 pub decode-spec : {M : Type 1} → statement M
-decode-spec = tie.close (tie.spec number-requires of-pattern-requires returns)
+decode-spec = tie.close (tie.spec (λ c κs. search needs) of-pattern-requires returns)

@@ -7,9 +7,6 @@ use Rattle.codec.proofs.Patterns.{pattern-below}
 use Rattle.codec.proofs.signed.encode.Statement.{statement}
 use Rattle.codec.proofs.signed.encode.Tie as tie
 
-to-pattern-requires : tie.Need-to-pattern-requires
-to-pattern-requires c κs = search needs
-
 -- the number is handed on as its bits
 written : (c : tie.After-to-pattern) → c .to-pattern .result ≡ pattern (c .before .before .args .width) (c .before .before .args .x)
 written c = let s = c .before .before in c .to-pattern .ensures ∙ ap (pattern (s .args .width)) (toZ-ofZ {w = w64} (s .fits .x))
@@ -19,9 +16,6 @@ put-number-requires c κs =
     let s = c .before .before .before in
     (s .pre .0, rw (written (c .before)) (pattern-below (s .args .width) (s .args .x) (s .pre .1)))
 
-same-length : tie.Need-same-length
-same-length c = search needs
-
 returns : tie.Need-returns
 returns c =
     let put = c .before .before in
@@ -29,4 +23,4 @@ returns c =
     put .put-number .ensures ∙ ap (withNumber (a .width) (a .bytes .now) (a .at)) (written (put .before .before))
 
 pub encode-spec : {M : Type 1} → statement M
-encode-spec = tie.close (tie.spec to-pattern-requires put-number-requires same-length returns)
+encode-spec = tie.close (tie.spec (λ c κs. search needs) put-number-requires (λ c. search needs) returns)

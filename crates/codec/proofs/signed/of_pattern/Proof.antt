@@ -11,22 +11,10 @@ use Rattle.codec.proofs.Patterns.{twos-low, twos-high}
 use Rattle.codec.proofs.signed.of_pattern.Statement.{statement}
 use Rattle.codec.proofs.signed.of_pattern.Tie as tie
 
-greatest-requires : tie.Need-greatest-requires
-greatest-requires c κs = search needs
-
-cast-result : tie.Need-cast-result
-cast-result c = search needs
-
 returns : tie.Need-returns
 returns c =
     let s = c .before .before in
     toZ-pos w64 (omega (arith, power-fits (s .args .width) (s .pre .1 .0))) ∙ sym (twos-low (s .args .width) (s .args .x) (omega arith))
-
-sub-result : tie.Need-sub-result
-sub-result c = search needs
-
-cast-result-2 : tie.Need-cast-result-2
-cast-result-2 c = search needs
 
 returns-2 : tie.Need-returns-2
 returns-2 c =
@@ -40,4 +28,4 @@ returns-2 c =
 
 pub of-pattern-spec : {M : Type 1} → statement M
 of-pattern-spec =
-    tie.close (tie.spec greatest-requires cast-result returns sub-result cast-result-2 returns-2)
+    tie.close (tie.spec (λ c κs. search needs) (λ c. search needs) returns (λ c. search needs) (λ c. search needs) returns-2)

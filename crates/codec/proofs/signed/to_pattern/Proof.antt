@@ -44,9 +44,6 @@ below c = flips _ _ (c .before .fits .x) (c .before .pre .1 .1) (rw (toZ-ofZ {w 
 above : (c : tie.Else1) → let x = c .before .args .x in T (nonNeg x) × Fits w64 (natAbs x) × (natAbs x ≡ pattern (c .before .args .width) x)
 above c = stays _ _ (c .before .fits .x) (rw (toZ-ofZ {w = w64} (c .before .fits .x)) at (c .if1 .left))
 
-greatest-requires : tie.Need-greatest-requires
-greatest-requires c κs = search needs
-
 cast-result : tie.Need-cast-result
 cast-result c =
     let b = below (c .before) in
@@ -66,4 +63,4 @@ returns-2 c = simp (toZ-ofZ {w = w64} (c .before .fits .x)) (above c .2)
 
 pub to-pattern-spec : {M : Type 1} → statement M
 to-pattern-spec =
-    tie.close (tie.spec greatest-requires cast-result sub-result returns cast-result-2 returns-2)
+    tie.close (tie.spec (λ c κs. search needs) cast-result sub-result returns cast-result-2 returns-2)

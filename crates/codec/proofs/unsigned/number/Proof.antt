@@ -18,12 +18,6 @@ loop-holds : tie.Need-loop-holds Inv-loop μ-loop
 unfolding numberOf
 loop-holds c = (omega arith, refl)
 
-add-i : tie.Need-add-i Inv-loop μ-loop
-add-i c = omega arith
-
-sub-k : tie.Need-sub-k Inv-loop μ-loop
-sub-k c = omega arith
-
 -- one byte more has room
 room : (c : tie.In-loop Inv-loop μ-loop) → 256 * c .before .loop .x + 255 < 2 ^ 64
 room c =
@@ -36,20 +30,8 @@ room c =
 mul-x : tie.Need-mul-x Inv-loop μ-loop
 mul-x c = omega (arith, room c)
 
-add-wide : tie.Need-add-wide Inv-loop μ-loop
-add-wide c = omega arith
-
-shared-slice-read-wide : tie.Need-shared-slice-read-wide Inv-loop μ-loop
-shared-slice-read-wide c = omega arith
-
-wide-requires : tie.Need-wide-requires Inv-loop μ-loop
-wide-requires c κs = tt
-
 add-x : tie.Need-add-x Inv-loop μ-loop
 add-x c = omega (arith, room (c .before .before))
-
-loop-less : tie.Need-loop-less Inv-loop μ-loop
-loop-less c = omega arith
 
 loop-again : tie.Need-loop-again Inv-loop μ-loop
 loop-again c =
@@ -74,13 +56,13 @@ number-spec =
     Inv-loop
     μ-loop
     loop-holds
-    add-i
-    sub-k
+    (λ c. omega arith)
+    (λ c. omega arith)
     mul-x
-    add-wide
-    shared-slice-read-wide
-    wide-requires
+    (λ c. omega arith)
+    (λ c. omega arith)
+    (λ c κs. tt)
     add-x
-    loop-less
+    (λ c. omega arith)
     loop-again
     returns)

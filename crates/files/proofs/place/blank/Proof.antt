@@ -11,20 +11,8 @@ use Rattle.files.proofs.TableGraphs.{blanked}
 use Rattle.files.proofs.place.blank.Statement.{statement}
 use Rattle.files.proofs.place.blank.Tie as tie
 
-mul-end : tie.Need-mul-end
-mul-end c = search needs
-
-slice-relend-prefix-clear : tie.Need-slice-relend-prefix-clear
-slice-relend-prefix-clear c = search needs
-
 slice-aggregate-clear : tie.Need-slice-aggregate-clear
 slice-aggregate-clear c = let s = c .before in sym (length-take-le _ _ (s .pre .1))
-
-clear-requires : tie.Need-clear-requires
-clear-requires c κs = search needs
-
-same-length : tie.Need-same-length
-same-length c = search needs
 
 returns : tie.Need-returns
 returns c =
@@ -36,9 +24,9 @@ pub blank-spec : {M : Type 1} → statement M
 blank-spec =
     tie.close
     (tie.spec
-    mul-end
-    slice-relend-prefix-clear
+    (λ c. search needs)
+    (λ c. search needs)
     slice-aggregate-clear
-    clear-requires
-    same-length
+    (λ c κs. search needs)
+    (λ c. search needs)
     returns)

@@ -13,24 +13,6 @@ use Rattle.records.specs.Records.{ticksMeaning}
 use Rattle.files.proofs.place.delay_of.Statement.{statement}
 use Rattle.files.proofs.place.delay_of.Tie as tie
 
-enum-known-item : tie.Need-enum-known-item
-enum-known-item c = search needs
-
-enum-known-item-2 : tie.Need-enum-known-item-2
-enum-known-item-2 c = search needs
-
-cell-ticks-requires : tie.Need-cell-ticks-requires
-cell-ticks-requires c κs = search needs
-
-enum-known-ticks : tie.Need-enum-known-ticks
-enum-known-ticks c = search needs
-
-enum-told : tie.Need-enum-told
-enum-told c = search needs
-
-enum-told-2 : tie.Need-enum-told-2
-enum-told-2 c = search needs
-
 abbrev cell : Record → ℤ
 cell x = writeCell absentCell (delayOf x)
 
@@ -61,12 +43,12 @@ pub delay-of-spec : {M : Type 1} → statement M
 delay-of-spec =
     tie.close
     (tie.spec
-    enum-known-item
-    enum-known-item-2
-    cell-ticks-requires
-    enum-known-ticks
-    enum-told
-    enum-told-2
+    (λ c. search needs)
+    (λ c. search needs)
+    (λ c κs. search needs)
+    (λ c. search needs)
+    (λ c. search needs)
+    (λ c. search needs)
     returns
     returns-2
     returns-3

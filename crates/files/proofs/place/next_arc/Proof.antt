@@ -13,30 +13,6 @@ use Rattle.files.proofs.NextArcs.{arc-steps, cell-steps, end-steps, ref
 use Rattle.files.proofs.place.next_arc.Statement.{statement}
 use Rattle.files.proofs.place.next_arc.Tie as tie
 
-record-at-requires : tie.Need-record-at-requires
-record-at-requires c κs = search needs
-
-enum-known-found : tie.Need-enum-known-found
-enum-known-found c = search needs
-
-delay-of-requires : tie.Need-delay-of-requires
-delay-of-requires c κs = search needs
-
-enum-known-item : tie.Need-enum-known-item
-enum-known-item c = search needs
-
-add-t12 : tie.Need-add-t12
-add-t12 c = search needs
-
-enum-known-item-2 : tie.Need-enum-known-item-2
-enum-known-item-2 c = search needs
-
-add-t13 : tie.Need-add-t13
-add-t13 c = search needs
-
-enum-told : tie.Need-enum-told
-enum-told c = search needs
-
 -- a record has been found
 module _ (c : tie.After-delay-of) where
   abbrev start : tie.Start
@@ -64,9 +40,6 @@ returns-2 c =
 returns-3 : tie.Need-returns-3
 returns-3 c = end-steps _ _ _ _ (found-is (c .before .before) ∙ ap accepted (c .enum-told .given .1))
 
-enum-told-2 : tie.Need-enum-told-2
-enum-told-2 c = search needs
-
 returns-4 : tie.Need-returns-4
 returns-4 c = refused-steps _ _ _ _ (sym (c .before .before .record-at .ensures) ∙ ap foundMeaning (c .enum-told2 .given .1))
 
@@ -74,16 +47,16 @@ pub next-arc-spec : {M : Type 1} → statement M
 next-arc-spec =
     tie.close
     (tie.spec
-    record-at-requires
-    enum-known-found
-    delay-of-requires
-    enum-known-item
-    add-t12
-    enum-known-item-2
-    add-t13
-    enum-told
+    (λ c κs. search needs)
+    (λ c. search needs)
+    (λ c κs. search needs)
+    (λ c. search needs)
+    (λ c. search needs)
+    (λ c. search needs)
+    (λ c. search needs)
+    (λ c. search needs)
     returns
     returns-2
     returns-3
-    enum-told-2
+    (λ c. search needs)
     returns-4)

@@ -27,12 +27,6 @@ loop-holds c = placing-start _ _ _ (c .before .pre .0)
 next-arc-requires : tie.Need-next-arc-requires Inv-loop μ-loop
 next-arc-requires c κs = c .loop .inv .inside
 
-enum-known-found : tie.Need-enum-known-found Inv-loop μ-loop
-enum-known-found c = search needs
-
-enum-told : tie.Need-enum-told Inv-loop μ-loop
-enum-told c = search needs
-
 -- what the record does
 module _ (c : tie.After-next-arc Inv-loop μ-loop) where
   abbrev start : tie.Start Inv-loop μ-loop
@@ -105,8 +99,8 @@ place-spec =
     μ-loop
     loop-holds
     next-arc-requires
-    enum-known-found
-    enum-told
+    (λ c. search needs)
+    (λ c. search needs)
     same-length
     returns
     cell-of-requires

@@ -3,27 +3,6 @@ use Rattle.files.proofs.Loading.{filled, emptied}
 use Rattle.files.proofs.read.fill.Statement.{statement}
 use Rattle.files.proofs.read.fill.Tie as tie
 
-place-requires : tie.Need-place-requires
-place-requires c κs = search needs
-
-vertex-bytes-requires : tie.Need-vertex-bytes-requires
-vertex-bytes-requires c κs = search needs
-
-arcs-checked-requires : tie.Need-arcs-checked-requires
-arcs-checked-requires c κs = search needs
-
-enum-told : tie.Need-enum-told
-enum-told c = search needs
-
-enum-known-checked : tie.Need-enum-known-checked
-enum-known-checked c = search needs
-
-blank-requires : tie.Need-blank-requires
-blank-requires c κs = search needs
-
-same-length : tie.Need-same-length
-same-length c = search needs
-
 module _ (k : tie.After-arcs-checked) where
   abbrev p : tie.After-place
   p = k .before .before .before .before .before
@@ -36,9 +15,6 @@ returns c =
     let k = c .before .before in
     filled (s k .args .board) _ _ _ _ (s k .pre .1 .1) (p k .place .ensures .0) (p k .place .ensures .1) _ (k .arcs-checked .ensures) _ (c .enum-told .given .1)
 
-same-length-2 : tie.Need-same-length-2
-same-length-2 c = search needs
-
 returns-2 : tie.Need-returns-2
 returns-2 c =
     let r = c .before .before .before .before in
@@ -49,13 +25,13 @@ pub fill-spec : {M : Type 1} → statement M
 fill-spec =
     tie.close
     (tie.spec
-    place-requires
-    vertex-bytes-requires
-    arcs-checked-requires
-    enum-told
-    enum-known-checked
-    blank-requires
-    same-length
+    (λ c κs. search needs)
+    (λ c κs. search needs)
+    (λ c κs. search needs)
+    (λ c. search needs)
+    (λ c. search needs)
+    (λ c κs. search needs)
+    (λ c. search needs)
     returns
-    same-length-2
+    (λ c. search needs)
     returns-2)

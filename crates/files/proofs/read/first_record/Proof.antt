@@ -31,12 +31,6 @@ returns : tie.Need-returns
 unfolding header
 returns c = sym (simp (lt-leb 2 (length (c .before .before .args .bytes .now)) (c .if1 .taken)))
 
-mark-at-requires : tie.Need-mark-at-requires
-mark-at-requires c κs = search needs
-
-enum-told : tie.Need-enum-told
-enum-told c = search needs
-
 returns-2 : tie.Need-returns-2
 unfolding header
 returns-2 c =
@@ -48,15 +42,6 @@ unfolding header
 returns-3 c =
     let a = c .before .before .before in
     sym (simp (two a, mark-is a true (ap isBoard (c .before .enum-told .given .1)), lt-leb 5 (length (s a)) (c .if2 .taken)))
-
-byte-requires : tie.Need-byte-requires
-byte-requires c κs = search needs
-
-byte-requires-2 : tie.Need-byte-requires-2
-byte-requires-2 c κs = search needs
-
-byte-requires-3 : tie.Need-byte-requires-3
-byte-requires-3 c κs = search needs
 
 returns-4 : tie.Need-returns-4
 unfolding header
@@ -70,11 +55,11 @@ first-record-spec =
     tie.close
     (tie.spec
     returns
-    mark-at-requires
-    enum-told
+    (λ c κs. search needs)
+    (λ c. search needs)
     returns-2
     returns-3
-    byte-requires
-    byte-requires-2
-    byte-requires-3
+    (λ c κs. search needs)
+    (λ c κs. search needs)
+    (λ c κs. search needs)
     returns-4)

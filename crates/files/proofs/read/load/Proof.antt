@@ -6,23 +6,11 @@ use Rattle.files.proofs.Loading.{blank-graph, blank-lent, loaded, not-l
 use Rattle.files.proofs.read.load.Statement.{statement}
 use Rattle.files.proofs.read.load.Tie as tie
 
-blank-requires : tie.Need-blank-requires
-blank-requires c κs = search needs
-
-scan-requires : tie.Need-scan-requires
-scan-requires c κs = search needs
-
-enum-told : tie.Need-enum-told
-enum-told c = search needs
-
 fill-requires : tie.Need-fill-requires
 fill-requires c κs =
     let b = c .before .before .before .before .before in
     let s = b .before .before .before in
     (blank-lent _ _ _ (s .pre .0) (b .blank .ensures), (s .pre .1, ap (graphOf (s .args .board .vertices)) (b .blank .ensures) ∙ blank-graph _ _))
-
-same-length : tie.Need-same-length
-same-length c = search needs
 
 returns : tie.Need-returns
 returns c =
@@ -30,12 +18,6 @@ returns c =
     let n = a .before .before in
     let b = n .before .before in
     loaded (sizesOf (b .before .before .before .args .board)) _ _ _ (b .blank .ensures) _ (n .scan .ensures) (a .enum-told .given .1) _ _ (c .before .fill .ensures)
-
-enum-told-2 : tie.Need-enum-told-2
-enum-told-2 c = search needs
-
-same-length-2 : tie.Need-same-length-2
-same-length-2 c = search needs
 
 returns-2 : tie.Need-returns-2
 returns-2 c =
@@ -47,12 +29,12 @@ pub load-spec : {M : Type 1} → statement M
 load-spec =
     tie.close
     (tie.spec
-    blank-requires
-    scan-requires
-    enum-told
+    (λ c κs. search needs)
+    (λ c κs. search needs)
+    (λ c. search needs)
     fill-requires
-    same-length
+    (λ c. search needs)
     returns
-    enum-told-2
-    same-length-2
+    (λ c. search needs)
+    (λ c. search needs)
     returns-2)

@@ -7,18 +7,6 @@ use Rattle.files.proofs.Opening.{refusal, opened-on, opened-off}
 use Rattle.files.proofs.read.open.Statement.{statement}
 use Rattle.files.proofs.read.open.Tie as tie
 
-first-record-requires : tie.Need-first-record-requires
-first-record-requires c κs = search needs
-
-enum-known-header : tie.Need-enum-known-header
-enum-known-header c = search needs
-
-memory-checked-requires : tie.Need-memory-checked-requires
-memory-checked-requires c κs = search needs
-
-enum-known-header-2 : tie.Need-enum-known-header-2
-enum-known-header-2 c = search needs
-
 header-is : (c : tie.After-first-record) (x : Header) → c .first-record .result ≡ x → header (c .before .before .args .bytes .now) ≡ headerMeaning x
 header-is c x e = sym (c .first-record .ensures) ∙ ap headerMeaning e
 
@@ -34,9 +22,9 @@ pub open-spec : {M : Type 1} → statement M
 open-spec =
     tie.close
     (tie.spec
-    first-record-requires
-    enum-known-header
-    memory-checked-requires
-    enum-known-header-2
+    (λ c κs. search needs)
+    (λ c. search needs)
+    (λ c κs. search needs)
+    (λ c. search needs)
     returns
     returns-2)

@@ -9,12 +9,6 @@ use Rattle.files.proofs.Loading.{call-stopped, call-table, call-done, c
 use Rattle.files.proofs.read.read.Statement.{statement}
 use Rattle.files.proofs.read.read.Tie as tie
 
-open-requires : tie.Need-open-requires
-open-requires c κs = search needs
-
-enum-known-opened : tie.Need-enum-known-opened
-enum-known-opened c = search needs
-
 -- what the first record and checks 1 to 3 say
 said : (c : tie.After-open) (r : Made) → c .open .result ≡ r → let a = c .before .before .before .args in opened (a .bytes .now) (a .table .now) (length (a .scratch .now)) ≡ openMeaning r
 said c r e = sym (c .open .ensures .answer) ∙ ap openMeaning e
@@ -24,18 +18,6 @@ load-requires c κs =
     let a = c .before .before .before .before in
     (a .open .ensures .lent _ (c .before .before .opened .given .1), opened-long _ _ _ _ (said a _ (c .before .before .opened .given .1)))
 
-enum-told : tie.Need-enum-told
-enum-told c = search needs
-
-enum-known-loaded : tie.Need-enum-known-loaded
-enum-known-loaded c = search needs
-
-enum-known-opened-2 : tie.Need-enum-known-opened-2
-enum-known-opened-2 c = search needs
-
-same-length : tie.Need-same-length
-same-length c = search needs
-
 returns : tie.Need-returns
 returns c =
     let l = c .before .before .before in
@@ -43,18 +25,12 @@ returns c =
     let e = said (b .before .before) _ (b .opened .given .1) in
     (call-done _ _ _ _ e _ _ (l .load .ensures) (c .enum-told .given .1), call-table _ _ _ _ e _ _ (l .load .ensures))
 
-same-length-2 : tie.Need-same-length-2
-same-length-2 c = search needs
-
 returns-2 : tie.Need-returns-2
 returns-2 c =
     let l = c .before .before .before .before in
     let b = l .before .before .before in
     let e = said (b .before .before) _ (b .opened .given .1) in
     (call-refused _ _ _ _ e _ _ (l .load .ensures) _ _ (c .before .loaded .given .1), call-table _ _ _ _ e _ _ (l .load .ensures))
-
-same-length-3 : tie.Need-same-length-3
-same-length-3 c = search needs
 
 returns-3 : tie.Need-returns-3
 returns-3 c =
@@ -65,15 +41,15 @@ pub read-spec : {M : Type 1} → statement M
 read-spec =
     tie.close
     (tie.spec
-    open-requires
-    enum-known-opened
+    (λ c κs. search needs)
+    (λ c. search needs)
     load-requires
-    enum-told
-    enum-known-loaded
-    enum-known-opened-2
-    same-length
+    (λ c. search needs)
+    (λ c. search needs)
+    (λ c. search needs)
+    (λ c. search needs)
     returns
-    same-length-2
+    (λ c. search needs)
     returns-2
-    same-length-3
+    (λ c. search needs)
     returns-3)

@@ -11,9 +11,6 @@ use Rattle.files.proofs.Turning.{refuses, goes-on}
 use Rattle.files.proofs.scan.arc_turn.Statement.{statement}
 use Rattle.files.proofs.scan.arc_turn.Tie as tie
 
-cell-of-requires : tie.Need-cell-of-requires
-cell-of-requires c κs = search needs
-
 returns : tie.Need-returns
 returns c =
     let o = c .before .before in
@@ -22,9 +19,6 @@ returns c =
 
 add-t9 : tie.Need-add-t9
 add-t9 c = let o = c .before .before in omega (arith, o .cell-of .ensures .1, area (o .before .args .n) maxVertices (o .before .pre .0))
-
-add-t10 : tie.Need-add-t10
-add-t10 c = search needs
 
 returns-2 : tie.Need-returns-2
 returns-2 c =
@@ -39,4 +33,4 @@ returns-2 c =
     (record { inside = omega arith; few = omega arith })
 
 pub arc-turn-spec : {M : Type 1} → statement M
-arc-turn-spec = tie.close (tie.spec cell-of-requires returns add-t9 add-t10 returns-2)
+arc-turn-spec = tie.close (tie.spec (λ c κs. search needs) returns add-t9 (λ c. search needs) returns-2)

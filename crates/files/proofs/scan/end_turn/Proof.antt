@@ -7,9 +7,6 @@ use Rattle.files.proofs.Turning.{refuses, ends}
 use Rattle.files.proofs.scan.end_turn.Statement.{statement}
 use Rattle.files.proofs.scan.end_turn.Tie as tie
 
-add-end : tie.Need-add-end
-add-end c = search needs
-
 returns : tie.Need-returns
 returns c n =
     let a = c .before .before .before .args in
@@ -28,4 +25,4 @@ returns-3 c n =
     ends (λ onward. simp (eq-eqb (a .arcs) (a .cursor .count) (e .if1 .left), eq-eqb (a .cursor .at + 4) (length (a .bytes .now)) (c .if2 .left)))
 
 pub end-turn-spec : {M : Type 1} → statement M
-end-turn-spec = tie.close (tie.spec add-end returns returns-2 returns-3)
+end-turn-spec = tie.close (tie.spec (λ c. search needs) returns returns-2 returns-3)

@@ -11,12 +11,6 @@ use Rattle.files.proofs.scan.record_turn.Tie as tie
 known : (c : tie.Start) (x : Record) → c .args .item ≡ x → LegalRecord (c .args .n) (c .args .bytes .now) (c .args .cursor .at) x
 known c x e = subst (LegalRecord (c .args .n) (c .args .bytes .now) (c .args .cursor .at)) e (c .pre .1 .1)
 
-enum-known-item : tie.Need-enum-known-item
-enum-known-item c = search needs
-
-add-arc-turn : tie.Need-add-arc-turn
-add-arc-turn c = search needs
-
 arc-turn-requires : tie.Need-arc-turn-requires
 arc-turn-requires c κs =
     let i = c .before .before in
@@ -24,21 +18,12 @@ arc-turn-requires c κs =
     let l = known s _ (i .item .given .1) in
     (s .pre .0, (l .1, (l .2, (omega arith, s .pre .1 .0 .few))))
 
-enum-known-item-2 : tie.Need-enum-known-item-2
-enum-known-item-2 c = search needs
-
-add-arc-turn-2 : tie.Need-add-arc-turn-2
-add-arc-turn-2 c = search needs
-
 arc-turn-requires-2 : tie.Need-arc-turn-requires-2
 arc-turn-requires-2 c κs =
     let i = c .before .before in
     let s = i .before .before .before in
     let l = known s _ (i .item2 .given .1) in
     (s .pre .0, (l .1, (l .2, (omega arith, s .pre .1 .0 .few))))
-
-enum-known-item-3 : tie.Need-enum-known-item-3
-enum-known-item-3 c = search needs
 
 end-turn-requires : tie.Need-end-turn-requires
 end-turn-requires c κs = let i = c .before in known (i .before .before .before) _ (i .item3 .given .1)
@@ -67,13 +52,13 @@ pub record-turn-spec : {M : Type 1} → statement M
 record-turn-spec =
     tie.close
     (tie.spec
-    enum-known-item
-    add-arc-turn
+    (λ c. search needs)
+    (λ c. search needs)
     arc-turn-requires
-    enum-known-item-2
-    add-arc-turn-2
+    (λ c. search needs)
+    (λ c. search needs)
     arc-turn-requires-2
-    enum-known-item-3
+    (λ c. search needs)
     end-turn-requires
     returns
     returns-2

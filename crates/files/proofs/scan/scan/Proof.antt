@@ -18,9 +18,6 @@ records-holds c = all-left (c .before .args .n) (c .before .args .bytes .now) (c
 turn-requires : tie.Need-turn-requires Inv-records μ-records
 turn-requires c κs = (c .before .before .pre .1, c .records .inv .within)
 
-enum-known-turned : tie.Need-enum-known-turned Inv-records μ-records
-enum-known-turned c = search needs
-
 records-less : tie.Need-records-less Inv-records μ-records
 records-less c =
     let k = c .before in
@@ -33,12 +30,6 @@ records-again c =
     let k = c .before in
     let u = k .before .before in
     still-left (u .before .records .inv) (u .turn .ensures) _ (k .turned .given .1)
-
-enum-told : tie.Need-enum-told Inv-records μ-records
-enum-told c = search needs
-
-enum-known-turned-2 : tie.Need-enum-known-turned-2 Inv-records μ-records
-enum-known-turned-2 c = search needs
 
 returns : tie.Need-returns Inv-records μ-records
 returns c = let u = c .before .before in turn-says (u .before .records .inv) (u .turn .ensures) (c .enum-told .given .1)
@@ -57,10 +48,10 @@ scan-spec =
     μ-records
     records-holds
     turn-requires
-    enum-known-turned
+    (λ c. search needs)
     records-less
     records-again
-    enum-told
-    enum-known-turned-2
+    (λ c. search needs)
+    (λ c. search needs)
     returns
     returns-2)

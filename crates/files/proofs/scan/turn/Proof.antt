@@ -7,21 +7,12 @@ use Rattle.files.proofs.Turning.{refuses, found-is}
 use Rattle.files.proofs.scan.turn.Statement.{statement}
 use Rattle.files.proofs.scan.turn.Tie as tie
 
-record-at-requires : tie.Need-record-at-requires
-record-at-requires c κs = search needs
-
-enum-known-found : tie.Need-enum-known-found
-enum-known-found c = search needs
-
 record-turn-requires : tie.Need-record-turn-requires
 record-turn-requires c κs =
     let f = c .before in
     let r = f .before .before in
     let s = r .before .before in
     (s .pre .0, (s .pre .1, legal (s .args .n) (s .args .bytes .now) (s .args .cursor .at) _ (said foundMeaning (r .record-at .ensures) (f .found .given .1))))
-
-enum-known-found-2 : tie.Need-enum-known-found-2
-enum-known-found-2 c = search needs
 
 returns : tie.Need-returns
 returns c =
@@ -41,9 +32,9 @@ pub turn-spec : {M : Type 1} → statement M
 turn-spec =
     tie.close
     (tie.spec
-    record-at-requires
-    enum-known-found
+    (λ c κs. search needs)
+    (λ c. search needs)
     record-turn-requires
-    enum-known-found-2
+    (λ c. search needs)
     returns
     returns-2)

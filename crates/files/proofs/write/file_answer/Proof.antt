@@ -25,9 +25,6 @@ module _ (c : tie.Start) where
   long : length (fileOf (b .inputs) (b .outputs) (b .vertices) g) ≡ 9 + 8 * arcs (b .vertices) g
   long = file-length (b .vertices) g (b .inputs) (b .outputs)
 
-arcs-requires : tie.Need-arcs-requires
-arcs-requires c κs = search needs
-
 few : (c : tie.After-arcs) → c .arcs .result ≤ 8100
 few c = let s = c .before .before in omega (arith, c .arcs .ensures, arcs-few (b s .vertices) (g s), board-area (b s) (s .pre .lent .sized))
 
@@ -50,9 +47,6 @@ put-file-requires c κs =
     let s = a .before .before in
     (s .pre, (a .arcs .ensures, omega (arith, e .if1 .left, a .arcs .ensures, long s)))
 
-same-length : tie.Need-same-length
-same-length c = search needs
-
 returns-2 : tie.Need-returns-2
 returns-2 c =
     let p = c .before .before in
@@ -64,4 +58,4 @@ returns-2 c =
 pub file-answer-spec : {M : Type 1} → statement M
 file-answer-spec =
     tie.close
-    (tie.spec arcs-requires mul-if1 add-if1 returns put-file-requires same-length returns-2)
+    (tie.spec (λ c κs. search needs) mul-if1 add-if1 returns put-file-requires (λ c. search needs) returns-2)

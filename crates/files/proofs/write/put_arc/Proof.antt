@@ -16,18 +16,6 @@ use Rattle.records.proofs.Appending.{appends-more}
 use Rattle.files.proofs.write.put_arc.Statement.{statement}
 use Rattle.files.proofs.write.put_arc.Tie as tie
 
-put-mark-requires : tie.Need-put-mark-requires
-put-mark-requires c κs = search needs
-
-put-small-requires : tie.Need-put-small-requires
-put-small-requires c κs = search needs
-
-put-small-requires-2 : tie.Need-put-small-requires-2
-put-small-requires-2 c κs = search needs
-
-wide-requires : tie.Need-wide-requires
-wide-requires c κs = search needs
-
 module _ (c : tie.After-wide) where
   abbrev to : tie.After-put-small2
   to = c .before .before .before .before
@@ -57,9 +45,6 @@ put-signed-requires c κs = (
   subst (λ (z : ℤ). T (inWidth 4 z)) (sym (widened c)) (fits-in-width w32 4 (omega arith) (start c .fits .delay)),
 )
 
-same-length : tie.Need-same-length
-same-length c = search needs
-
 returns : tie.Need-returns
 returns c =
     let number = c .before .before in
@@ -71,10 +56,10 @@ pub put-arc-spec : {M : Type 1} → statement M
 put-arc-spec =
     tie.close
     (tie.spec
-    put-mark-requires
-    put-small-requires
-    put-small-requires-2
-    wide-requires
+    (λ c κs. search needs)
+    (λ c κs. search needs)
+    (λ c κs. search needs)
+    (λ c κs. search needs)
     put-signed-requires
-    same-length
+    (λ c. search needs)
     returns)

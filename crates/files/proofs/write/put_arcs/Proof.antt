@@ -51,12 +51,6 @@ put-row-requires c κs =
     let i = c .before in
     (s i .pre .0, (i .loop-test .taken, remains-fits (head i .loop .inv .1) (s i .pre .1) (as-form i (rowArcs (g i) (u i) 0 (n i))) (left (as-form i) (arcsBetween (n i) (g i)) (n i) (u i + 1)) (next-left i)))
 
-add-u : tie.Need-add-u Inv-loop μ-loop
-add-u c = omega arith
-
-loop-less : tie.Need-loop-less Inv-loop μ-loop
-loop-less c = omega arith
-
 loop-again : tie.Need-loop-again Inv-loop μ-loop
 loop-again c =
     let p = c .before .before in
@@ -81,8 +75,8 @@ put-arcs-spec =
     μ-loop
     loop-holds
     put-row-requires
-    add-u
-    loop-less
+    (λ c. omega arith)
+    (λ c. omega arith)
     loop-again
     same-length
     returns)

@@ -3,21 +3,6 @@ use Rattle.records.proofs.Appending.{appends-more}
 use Rattle.files.proofs.write.put_board.Statement.{statement}
 use Rattle.files.proofs.write.put_board.Tie as tie
 
-put-mark-requires : tie.Need-put-mark-requires
-put-mark-requires c κs = search needs
-
-put-small-requires : tie.Need-put-small-requires
-put-small-requires c κs = search needs
-
-put-small-requires-2 : tie.Need-put-small-requires-2
-put-small-requires-2 c κs = search needs
-
-put-small-requires-3 : tie.Need-put-small-requires-3
-put-small-requires-3 c κs = search needs
-
-same-length : tie.Need-same-length
-same-length c = search needs
-
 returns : tie.Need-returns
 returns c =
     let vertices = c .before .before in
@@ -30,9 +15,9 @@ pub put-board-spec : {M : Type 1} → statement M
 put-board-spec =
     tie.close
     (tie.spec
-    put-mark-requires
-    put-small-requires
-    put-small-requires-2
-    put-small-requires-3
-    same-length
+    (λ c κs. search needs)
+    (λ c κs. search needs)
+    (λ c κs. search needs)
+    (λ c κs. search needs)
+    (λ c. search needs)
     returns)

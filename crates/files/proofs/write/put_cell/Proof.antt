@@ -56,20 +56,11 @@ module _ (c : tie.Then1) where
       ∙ sym (cell-arc f (s .args .u) (s .args .v) (s .args .cell) is-arc)
       ∙ ap (λ (h : Form). arcsAs h (arcIn (s .args .u) (s .args .v) (readCell absentCell (s .args .cell)))) (sym e)
 
-is-arc-requires : tie.Need-is-arc-requires
-is-arc-requires c κs = search needs
-
-enum-told : tie.Need-enum-told
-enum-told c = search needs
-
 put-arc-requires : tie.Need-put-arc-requires
 put-arc-requires c κs =
     let k = c .before in
     let t = k .before .before in
     (s t .pre .0, (s t .pre .1 .0, omega (arith, s t .pre .1 .1 .1, ap length (arc-as t F.Record (k .enum-told .given .1)))))
-
-enum-told-2 : tie.Need-enum-told-2
-enum-told-2 c = search needs
 
 arc-line-requires : tie.Need-arc-line-requires
 arc-line-requires c κs =
@@ -77,17 +68,11 @@ arc-line-requires c κs =
     let t = k .before .before in
     (s t .pre .0, (s t .pre .1 .0, (legal t, omega (arith, s t .pre .1 .1 .1, ap length (arc-as t F.Line (k .enum-told2 .given .1))))))
 
-same-length : tie.Need-same-length
-same-length c = search needs
-
 returns : tie.Need-returns
 returns c =
     let a = c .before .before in
     let k = a .before .before in
     appends-same (arc-as (k .before .before) F.Record (k .enum-told .given .1)) (a .put-arc .ensures)
-
-same-length-2 : tie.Need-same-length-2
-same-length-2 c = search needs
 
 returns-2 : tie.Need-returns-2
 returns-2 c =
@@ -102,13 +87,13 @@ pub put-cell-spec : {M : Type 1} → statement M
 put-cell-spec =
     tie.close
     (tie.spec
-    is-arc-requires
-    enum-told
+    (λ c κs. search needs)
+    (λ c. search needs)
     put-arc-requires
-    enum-told-2
+    (λ c. search needs)
     arc-line-requires
-    same-length
+    (λ c. search needs)
     returns
-    same-length-2
+    (λ c. search needs)
     returns-2
     returns-3)

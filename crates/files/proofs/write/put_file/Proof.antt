@@ -58,9 +58,6 @@ put-end-requires c κs =
       ),
     )
 
-same-length : tie.Need-same-length
-same-length c = search needs
-
 returns : tie.Need-returns
 returns c =
     let end = c .before .before in
@@ -73,4 +70,4 @@ returns c =
 
 pub put-file-spec : {M : Type 1} → statement M
 put-file-spec =
-    tie.close (tie.spec put-board-requires put-arcs-requires put-end-requires same-length returns)
+    tie.close (tie.spec put-board-requires put-arcs-requires put-end-requires (λ c. search needs) returns)

@@ -99,12 +99,6 @@ put-cell-requires c κs =
     let room = remains-fits (head i .loop .inv .1) (s i .pre .1 .1) (as-form i (arcIn (u i) (v i) (readCell absentCell (z i)))) (left (as-form i) (rowArcs (graphOf (n i) (t i)) (u i)) (n i) (v i + 1)) (next-left i) in
     (omega (arith, few, s i .pre .1 .0), (omega (arith, few, i .loop-test .taken), (fits-handed, omega (arith, room, ap length (handed-on c)))))
 
-add-v : tie.Need-add-v Inv-loop μ-loop
-add-v c = omega arith
-
-loop-less : tie.Need-loop-less Inv-loop μ-loop
-loop-less c = omega arith
-
 loop-again : tie.Need-loop-again Inv-loop μ-loop
 loop-again c =
     let p = c .before .before in
@@ -133,8 +127,8 @@ put-row-spec =
     mul-put-cell
     shared-slice-copy-out-put-cell
     put-cell-requires
-    add-v
-    loop-less
+    (λ c. omega arith)
+    (λ c. omega arith)
     loop-again
     same-length
     returns)

@@ -21,12 +21,6 @@ small n h = omega (zneeds, neg (pos n))
 minus : (c : tie.After-number) → pos 0 -ℤ toZ w64 (c .number .result) ≡ negℤ (pos (c .number .result))
 minus c = ap (λ (z : ℤ). pos 0 -ℤ z) (toZ-pos w64 {n = c .number .result} (omega (arith, c .number .ensures .1))) ∙ less (c .number .result)
 
-number-requires : tie.Need-number-requires
-number-requires c κs = search needs
-
-cast-result : tie.Need-cast-result
-cast-result c = search needs
-
 sub-result : tie.Need-sub-result
 sub-result c = subst (SFits w64) (sym (minus c)) (small _ (c .number .ensures .1))
 
@@ -34,4 +28,4 @@ returns : tie.Need-returns
 returns c = handed w64 (minus c) (small _ (c .number .ensures .1)) ∙ ap (λ (n : ℕ). negℤ (pos n)) (c .number .ensures .0)
 
 pub refused-spec : {M : Type 1} → statement M
-refused-spec = tie.close (tie.spec number-requires cast-result sub-result returns)
+refused-spec = tie.close (tie.spec (λ c κs. search needs) (λ c. search needs) sub-result returns)

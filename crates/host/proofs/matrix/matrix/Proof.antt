@@ -51,47 +51,17 @@ module _ (c : tie.After-wide-cells2) where
       → (x ≡ matrixAnswer (verdict (wholeCells 8 (s .args .scratch .now)))) × (after ≡ matrixBytes (verdict (wholeCells 8 (s .args .scratch .now))) (s .args .matrix .now))
   seen x r after b p q = (b ∙ p ∙ ap matrixAnswer same, q ∙ ap (λ (v : Verdict (List ℤ)). matrixBytes v (s .args .matrix .now)) same)
 
-shown-requires : tie.Need-shown-requires
-shown-requires c κs = search needs
-
-shown-requires-2 : tie.Need-shown-requires-2
-shown-requires-2 c κs = search needs
-
-shown-requires-3 : tie.Need-shown-requires-3
-shown-requires-3 c κs = search needs
-
-cells-requires : tie.Need-cells-requires
-cells-requires c κs = search needs
-
-wide-cells-requires : tie.Need-wide-cells-requires
-wide-cells-requires c κs = search needs
-
-wide-cells-requires-2 : tie.Need-wide-cells-requires-2
-wide-cells-requires-2 c κs = search needs
-
-array-borrow-prefix-cells : tie.Need-array-borrow-prefix-cells
-array-borrow-prefix-cells c = search needs
-
 slice-aggregate-matrix-in : tie.Need-slice-aggregate-matrix-in
 slice-aggregate-matrix-in c = let w = c .before in sym (part-long _ _ (w .before .before .cells .ensures) (count w .shown .ensures .1))
 
-array-borrow-prefix-wide : tie.Need-array-borrow-prefix-wide
-array-borrow-prefix-wide c = search needs
-
 slice-aggregate-matrix-in-2 : tie.Need-slice-aggregate-matrix-in-2
 slice-aggregate-matrix-in-2 c = let w = c .before .before in sym (part-long _ _ (w .before .wide-cells .ensures) (room w .shown2 .ensures .1))
-
-array-borrow-prefix-delays : tie.Need-array-borrow-prefix-delays
-array-borrow-prefix-delays c = search needs
 
 slice-aggregate-matrix-in-3 : tie.Need-slice-aggregate-matrix-in-3
 slice-aggregate-matrix-in-3 c = let w = c .before .before .before .before in sym (part-long _ _ (w .wide-cells2 .ensures) (pairs w .shown3 .ensures .1))
 
 matrix-in-requires : tie.Need-matrix-in-requires
 matrix-in-requires c κs = let w = c .before .before .before .before in (cells-shown w, delays-shown w)
-
-same-length : tie.Need-same-length
-same-length c = search needs
 
 returns : tie.Need-returns
 returns c =
@@ -102,18 +72,18 @@ pub matrix-spec : {M : Type 1} → statement M
 matrix-spec =
     tie.close
     (tie.spec
-    shown-requires
-    shown-requires-2
-    shown-requires-3
-    cells-requires
-    wide-cells-requires
-    wide-cells-requires-2
-    array-borrow-prefix-cells
+    (λ c κs. search needs)
+    (λ c κs. search needs)
+    (λ c κs. search needs)
+    (λ c κs. search needs)
+    (λ c κs. search needs)
+    (λ c κs. search needs)
+    (λ c. search needs)
     slice-aggregate-matrix-in
-    array-borrow-prefix-wide
+    (λ c. search needs)
     slice-aggregate-matrix-in-2
-    array-borrow-prefix-delays
+    (λ c. search needs)
     slice-aggregate-matrix-in-3
     matrix-in-requires
-    same-length
+    (λ c. search needs)
     returns)

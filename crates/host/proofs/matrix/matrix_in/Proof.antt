@@ -30,46 +30,13 @@ module _ (c : tie.After-delay-matrix) where
 take-table-requires : tie.Need-take-table-requires
 take-table-requires c κs = let s = c .before .before .before in omega (arith, s .pre .0, shown-le (s .args .vertices) (s .args .vertices) (wholeCells 4 (s .args .table .now)))
 
-delay-matrix-requires : tie.Need-delay-matrix-requires
-delay-matrix-requires c κs = search needs
-
-enum-told : tie.Need-enum-told
-enum-told c = search needs
-
 put-matrix-requires : tie.Need-put-matrix-requires
 put-matrix-requires c κs = room (c .before .before .before .before .before .before)
-
-enum-known-answer : tie.Need-enum-known-answer
-enum-known-answer c = search needs
-
-refused-requires : tie.Need-refused-requires
-refused-requires c κs = search needs
-
-same-length : tie.Need-same-length
-same-length c = search needs
-
-same-length-2 : tie.Need-same-length-2
-same-length-2 c = search needs
-
-same-length-3 : tie.Need-same-length-3
-same-length-3 c = search needs
-
-same-length-4 : tie.Need-same-length-4
-same-length-4 c = search needs
 
 returns : tie.Need-returns
 returns c =
     let k = c .before .before .before .before .before in
     done (over (k .before .before .before .before)) (k .enum-told .given .1) _ (c .before .before .put-matrix .ensures)
-
-same-length-5 : tie.Need-same-length-5
-same-length-5 c = search needs
-
-same-length-6 : tie.Need-same-length-6
-same-length-6 c = search needs
-
-same-length-7 : tie.Need-same-length-7
-same-length-7 c = search needs
 
 returns-2 : tie.Need-returns-2
 returns-2 c =
@@ -82,17 +49,17 @@ matrix-in-spec =
     tie.close
     (tie.spec
     take-table-requires
-    delay-matrix-requires
-    enum-told
+    (λ c κs. search needs)
+    (λ c. search needs)
     put-matrix-requires
-    enum-known-answer
-    refused-requires
-    same-length
-    same-length-2
-    same-length-3
-    same-length-4
+    (λ c. search needs)
+    (λ c κs. search needs)
+    (λ c. search needs)
+    (λ c. search needs)
+    (λ c. search needs)
+    (λ c. search needs)
     returns
-    same-length-5
-    same-length-6
-    same-length-7
+    (λ c. search needs)
+    (λ c. search needs)
+    (λ c. search needs)
     returns-2)

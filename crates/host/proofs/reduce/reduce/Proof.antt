@@ -47,35 +47,14 @@ module _ (c : tie.After-wide-cells) where
       → (x ≡ stepAnswer (verdict (wholeCells 8 (s .args .scratch .now)))) × (after ≡ tableBytes (verdict (wholeCells 8 (s .args .scratch .now))) (s .args .table .now))
   seen x r after b p q = (b ∙ p ∙ ap stepAnswer same, q ∙ ap (λ (v : Verdict Reduced). tableBytes v (s .args .table .now)) same)
 
-shown-requires : tie.Need-shown-requires
-shown-requires c κs = search needs
-
-shown-requires-2 : tie.Need-shown-requires-2
-shown-requires-2 c κs = search needs
-
-cells-requires : tie.Need-cells-requires
-cells-requires c κs = search needs
-
-wide-cells-requires : tie.Need-wide-cells-requires
-wide-cells-requires c κs = search needs
-
-array-borrow-prefix-cells : tie.Need-array-borrow-prefix-cells
-array-borrow-prefix-cells c = search needs
-
 slice-aggregate-reduce-in : tie.Need-slice-aggregate-reduce-in
 slice-aggregate-reduce-in c = let w = c .before .before in sym (part-long _ _ (w .before .cells .ensures) (count w .shown .ensures .1))
-
-array-borrow-prefix-wide : tie.Need-array-borrow-prefix-wide
-array-borrow-prefix-wide c = search needs
 
 slice-aggregate-reduce-in-2 : tie.Need-slice-aggregate-reduce-in-2
 slice-aggregate-reduce-in-2 c = let w = c .before .before .before in sym (part-long _ _ (w .wide-cells .ensures) (room w .shown2 .ensures .1))
 
 reduce-in-requires : tie.Need-reduce-in-requires
 reduce-in-requires c κs = cells-shown (c .before .before .before)
-
-same-length : tie.Need-same-length
-same-length c = search needs
 
 returns : tie.Need-returns
 returns c =
@@ -86,14 +65,14 @@ pub reduce-spec : {M : Type 1} → statement M
 reduce-spec =
     tie.close
     (tie.spec
-    shown-requires
-    shown-requires-2
-    cells-requires
-    wide-cells-requires
-    array-borrow-prefix-cells
+    (λ c κs. search needs)
+    (λ c κs. search needs)
+    (λ c κs. search needs)
+    (λ c κs. search needs)
+    (λ c. search needs)
     slice-aggregate-reduce-in
-    array-borrow-prefix-wide
+    (λ c. search needs)
     slice-aggregate-reduce-in-2
     reduce-in-requires
-    same-length
+    (λ c. search needs)
     returns)

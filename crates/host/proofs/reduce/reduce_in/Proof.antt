@@ -39,12 +39,6 @@ fits a h = omega zneeds
 take-table-requires : tie.Need-take-table-requires
 take-table-requires c κs = let s = c .before .before .before in omega (arith, s .pre, shown-le (s .args .vertices) (s .args .vertices) (wholeCells 4 (s .args .table .now)))
 
-reduce-requires : tie.Need-reduce-requires
-reduce-requires c κs = search needs
-
-enum-known-answer : tie.Need-enum-known-answer
-enum-known-answer c = search needs
-
 put-table-requires : tie.Need-put-table-requires
 put-table-requires c κs = room (c .before .before .before .before .before .before .before)
 
@@ -54,21 +48,6 @@ cast-result c =
     let r = k .before .before .before .before in
     fits _ (arcs-small (over r) _ (k .answer .given .1))
 
-enum-known-answer-2 : tie.Need-enum-known-answer-2
-enum-known-answer-2 c = search needs
-
-refused-requires : tie.Need-refused-requires
-refused-requires c κs = search needs
-
-same-length : tie.Need-same-length
-same-length c = search needs
-
-same-length-2 : tie.Need-same-length-2
-same-length-2 c = search needs
-
-same-length-3 : tie.Need-same-length-3
-same-length-3 c = search needs
-
 returns : tie.Need-returns
 returns c =
     let k = c .before .before .before .before .before .before in
@@ -76,15 +55,6 @@ returns c =
     let h = arcs-small (over r) _ (k .answer .given .1) in
     let p = accepts (over r) _ (k .answer .given .1) _ (c .before .before .put-table .ensures) in
     (toZ-pos w64 {n = k .answer .given .0 .0} (omega (arith, h)) ∙ p .0, p .1)
-
-same-length-4 : tie.Need-same-length-4
-same-length-4 c = search needs
-
-same-length-5 : tie.Need-same-length-5
-same-length-5 c = search needs
-
-same-length-6 : tie.Need-same-length-6
-same-length-6 c = search needs
 
 returns-2 : tie.Need-returns-2
 returns-2 c =
@@ -98,17 +68,17 @@ reduce-in-spec =
     tie.close
     (tie.spec
     take-table-requires
-    reduce-requires
-    enum-known-answer
+    (λ c κs. search needs)
+    (λ c. search needs)
     put-table-requires
     cast-result
-    enum-known-answer-2
-    refused-requires
-    same-length
-    same-length-2
-    same-length-3
+    (λ c. search needs)
+    (λ c κs. search needs)
+    (λ c. search needs)
+    (λ c. search needs)
+    (λ c. search needs)
     returns
-    same-length-4
-    same-length-5
-    same-length-6
+    (λ c. search needs)
+    (λ c. search needs)
+    (λ c. search needs)
     returns-2)

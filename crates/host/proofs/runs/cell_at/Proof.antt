@@ -22,12 +22,6 @@ module _ (c : tie.After-decode) where
   read : toZ w64 (ofZ w64 (c .decode .result)) ≡ cell
   read = handed w64 (c .decode .ensures) (widens small)
 
-mul-decode : tie.Need-mul-decode
-mul-decode c = search needs
-
-decode-requires : tie.Need-decode-requires
-decode-requires c κs = search needs
-
 cast-result : tie.Need-cast-result
 cast-result c = rw (read c) (small c)
 
@@ -35,4 +29,4 @@ returns : tie.Need-returns
 returns c = handed w32 (read c) (small c)
 
 pub cell-at-spec : {M : Type 1} → statement M
-cell-at-spec = tie.close (tie.spec mul-decode decode-requires cast-result returns)
+cell-at-spec = tie.close (tie.spec (λ c. search needs) (λ c κs. search needs) cast-result returns)

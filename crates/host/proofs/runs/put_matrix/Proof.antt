@@ -18,25 +18,10 @@ abbrev μ-loop : tie.MeasureT-loop
 loop-holds : tie.Need-loop-holds Inv-loop μ-loop
 loop-holds c = (omega arith, refl, fill-start 8 (c .before .args .cells .now) (c .before .args .bytes .now))
 
-mul-encode : tie.Need-mul-encode Inv-loop μ-loop
-mul-encode c = omega arith
-
-mul-encode-2 : tie.Need-mul-encode-2 Inv-loop μ-loop
-mul-encode-2 c = omega arith
-
-shared-slice-copy-out-encode : tie.Need-shared-slice-copy-out-encode Inv-loop μ-loop
-shared-slice-copy-out-encode c = omega arith
-
 encode-requires : tie.Need-encode-requires Inv-loop μ-loop
 encode-requires c κs =
     let g = c .encode-arg2 .given in
     (record { some = omega arith; few = omega arith; inside = omega arith }, rw (back w64 _ g) (fits-in-width w64 8 (omega arith) (record { sfits = g })))
-
-add-x : tie.Need-add-x Inv-loop μ-loop
-add-x c = omega arith
-
-loop-less : tie.Need-loop-less Inv-loop μ-loop
-loop-less c = omega arith
 
 loop-again : tie.Need-loop-again Inv-loop μ-loop
 loop-again c =
@@ -61,12 +46,12 @@ put-matrix-spec =
     Inv-loop
     μ-loop
     loop-holds
-    mul-encode
-    mul-encode-2
-    shared-slice-copy-out-encode
+    (λ c. omega arith)
+    (λ c. omega arith)
+    (λ c. omega arith)
     encode-requires
-    add-x
-    loop-less
+    (λ c. omega arith)
+    (λ c. omega arith)
     loop-again
     same-length
     returns)

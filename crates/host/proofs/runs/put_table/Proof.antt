@@ -31,27 +31,9 @@ module _ (c : tie.After-wide Inv-loop μ-loop) where
 loop-holds : tie.Need-loop-holds Inv-loop μ-loop
 loop-holds c = (omega arith, refl, fill-start 4 (c .before .args .cells .now) (c .before .args .bytes .now))
 
-mul-encode : tie.Need-mul-encode Inv-loop μ-loop
-mul-encode c = omega arith
-
-mul-wide : tie.Need-mul-wide Inv-loop μ-loop
-mul-wide c = omega arith
-
-shared-slice-copy-out-wide : tie.Need-shared-slice-copy-out-wide Inv-loop μ-loop
-shared-slice-copy-out-wide c = omega arith
-
-wide-requires : tie.Need-wide-requires Inv-loop μ-loop
-wide-requires c κs = search needs
-
 encode-requires : tie.Need-encode-requires Inv-loop μ-loop
 encode-requires c κs =
     (record { some = omega arith; few = omega arith; inside = omega arith }, rw (widened c) (fits-in-width w32 4 (omega arith) (narrow c)))
-
-add-x : tie.Need-add-x Inv-loop μ-loop
-add-x c = omega arith
-
-loop-less : tie.Need-loop-less Inv-loop μ-loop
-loop-less c = omega arith
 
 loop-again : tie.Need-loop-again Inv-loop μ-loop
 loop-again c =
@@ -76,13 +58,13 @@ put-table-spec =
     Inv-loop
     μ-loop
     loop-holds
-    mul-encode
-    mul-wide
-    shared-slice-copy-out-wide
-    wide-requires
+    (λ c. omega arith)
+    (λ c. omega arith)
+    (λ c. omega arith)
+    (λ c κs. search needs)
     encode-requires
-    add-x
-    loop-less
+    (λ c. omega arith)
+    (λ c. omega arith)
     loop-again
     same-length
     returns)

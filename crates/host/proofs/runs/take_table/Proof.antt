@@ -20,21 +20,6 @@ abbrev μ-loop : tie.MeasureT-loop
 loop-holds : tie.Need-loop-holds Inv-loop μ-loop
 loop-holds c = (omega arith, refl, fill-none _ _)
 
-cell-at-requires : tie.Need-cell-at-requires Inv-loop μ-loop
-cell-at-requires c κs = omega arith
-
-mul-t4 : tie.Need-mul-t4 Inv-loop μ-loop
-mul-t4 c = omega arith
-
-slice-set-from-cells : tie.Need-slice-set-from-cells Inv-loop μ-loop
-slice-set-from-cells c = omega arith
-
-add-x : tie.Need-add-x Inv-loop μ-loop
-add-x c = omega arith
-
-loop-less : tie.Need-loop-less Inv-loop μ-loop
-loop-less c = omega arith
-
 loop-again : tie.Need-loop-again Inv-loop μ-loop
 loop-again c =
     let l = c .before .before in
@@ -57,11 +42,11 @@ take-table-spec =
     Inv-loop
     μ-loop
     loop-holds
-    cell-at-requires
-    mul-t4
-    slice-set-from-cells
-    add-x
-    loop-less
+    (λ c κs. omega arith)
+    (λ c. omega arith)
+    (λ c. omega arith)
+    (λ c. omega arith)
+    (λ c. omega arith)
     loop-again
     same-length
     returns)

@@ -20,9 +20,6 @@ propagate-requires c κs =
       s .pre .1 .0,
     )
 
-same-length : tie.Need-same-length
-same-length c = search needs
-
 returns : tie.Need-returns
 returns c =
     let q = c .before in
@@ -33,4 +30,4 @@ returns c =
     ∙ inputs-propagated (s .pre .0) (s .args .inputs .now) (s .pre .1 .1 .0) (s .args .f .now) (s .pre .1 .1 .1)
 
 pub arrivals-spec : {M : Type 1} → statement M
-arrivals-spec = tie.close (tie.spec start-inputs-requires propagate-requires same-length returns)
+arrivals-spec = tie.close (tie.spec start-inputs-requires propagate-requires (λ c. search needs) returns)

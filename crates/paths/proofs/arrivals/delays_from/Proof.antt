@@ -20,9 +20,6 @@ propagate-requires c κs =
       s .pre .1 .0,
     )
 
-same-length : tie.Need-same-length
-same-length c = search needs
-
 returns : tie.Need-returns
 returns c =
     let q = c .before in
@@ -33,4 +30,4 @@ returns c =
     ∙ one-propagated (s .pre .0) (s .args .i) (s .pre .1 .1 .0) (s .args .f .now) (s .pre .1 .1 .1)
 
 pub delays-from-spec : {M : Type 1} → statement M
-delays-from-spec = tie.close (tie.spec start-at-requires propagate-requires same-length returns)
+delays-from-spec = tie.close (tie.spec start-at-requires propagate-requires (λ c. search needs) returns)

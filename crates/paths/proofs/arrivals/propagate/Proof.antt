@@ -75,17 +75,11 @@ sub-push c = let i = c .before .before .before in omega (arith, row i, room i, v
 part-push-start : tie.Need-part-push-start Inv-loop μ-loop
 part-push-start c = let i = c .before .before .before in omega (arith, row i, room i, vertex i)
 
-part-push-end : tie.Need-part-push-end Inv-loop μ-loop
-part-push-end c = omega arith
-
 sub-push-2 : tie.Need-sub-push-2 Inv-loop μ-loop
 sub-push-2 c = let i = c .before .before .before .before in omega (arith, row i, start i .pre .1 .room)
 
 part-push-start-2 : tie.Need-part-push-start-2 Inv-loop μ-loop
 part-push-start-2 c = let i = c .before .before .before .before in omega (arith, row i, start i .pre .1 .room)
-
-part-push-end-2 : tie.Need-part-push-end-2 Inv-loop μ-loop
-part-push-end-2 c = omega arith
 
 push-requires : tie.Need-push-requires Inv-loop μ-loop
 push-requires c κs =
@@ -138,10 +132,10 @@ propagate-spec =
     mul-push
     sub-push
     part-push-start
-    part-push-end
+    (λ c. omega arith)
     sub-push-2
     part-push-start-2
-    part-push-end-2
+    (λ c. omega arith)
     push-requires
     add-p
     loop-less

@@ -28,18 +28,6 @@ signal n i f l =
     go v h (yes e) = rw (e, getD-set-same (tabulate n none) i (pos 0) (pos 0) (omega (arith, length-tabulate none n)), eqb-same i)
     go v h (no ne) = rw (getD-set-other (tabulate n none) i v (pos 0) (pos 0) ne, eqb-other v i ne) (getD-tabulate none n v (pos 0) h)
 
-start-none-requires : tie.Need-start-none-requires
-start-none-requires c κs = search needs
-
-mul-f : tie.Need-mul-f
-mul-f c = search needs
-
-slice-set-of-f : tie.Need-slice-set-of-f
-slice-set-of-f c = search needs
-
-same-length : tie.Need-same-length
-same-length c = search needs
-
 returns : tie.Need-returns
 returns c =
     let k = c .before in
@@ -47,4 +35,4 @@ returns c =
     ap (λ (x : List ℤ). set x (s .args .i) (pos 0)) (k .start-none .ensures) ∙ signal (s .args .n) (s .args .i) (s .args .f .now) (s .pre .1)
 
 pub start-at-spec : {M : Type 1} → statement M
-start-at-spec = tie.close (tie.spec start-none-requires mul-f slice-set-of-f same-length returns)
+start-at-spec = tie.close (tie.spec (λ c κs. search needs) (λ c. search needs) (λ c. search needs) (λ c. search needs) returns)

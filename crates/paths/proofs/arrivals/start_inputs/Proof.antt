@@ -18,20 +18,8 @@ abbrev μ-loop : tie.MeasureT-loop
 loop-holds : tie.Need-loop-holds Inv-loop μ-loop
 loop-holds c = (omega arith, refl, fill-none _ _)
 
-from-list-requires : tie.Need-from-list-requires Inv-loop μ-loop
-from-list-requires c κs = tt
-
 mul-t7 : tie.Need-mul-t7 Inv-loop μ-loop
 mul-t7 c = omega (arith, c .before .before .before .good .1 .0)
-
-slice-set-from-f : tie.Need-slice-set-from-f Inv-loop μ-loop
-slice-set-from-f c = omega arith
-
-add-v : tie.Need-add-v Inv-loop μ-loop
-add-v c = omega arith
-
-loop-less : tie.Need-loop-less Inv-loop μ-loop
-loop-less c = omega arith
 
 loop-again : tie.Need-loop-again Inv-loop μ-loop
 loop-again c =
@@ -57,11 +45,11 @@ start-inputs-spec =
     Inv-loop
     μ-loop
     loop-holds
-    from-list-requires
+    (λ c κs. tt)
     mul-t7
-    slice-set-from-f
-    add-v
-    loop-less
+    (λ c. omega arith)
+    (λ c. omega arith)
+    (λ c. omega arith)
     loop-again
     same-length
     returns)

@@ -20,15 +20,6 @@ loop-holds c = (omega arith, refl, fill-none _ _)
 mul-f : tie.Need-mul-f Inv-loop μ-loop
 mul-f c = omega (arith, c .before .before .good .0)
 
-slice-set-of-f : tie.Need-slice-set-of-f Inv-loop μ-loop
-slice-set-of-f c = omega arith
-
-add-v : tie.Need-add-v Inv-loop μ-loop
-add-v c = omega arith
-
-loop-less : tie.Need-loop-less Inv-loop μ-loop
-loop-less c = omega arith
-
 loop-again : tie.Need-loop-again Inv-loop μ-loop
 loop-again c =
     let l = c .before in
@@ -54,9 +45,9 @@ start-none-spec =
     μ-loop
     loop-holds
     mul-f
-    slice-set-of-f
-    add-v
-    loop-less
+    (λ c. omega arith)
+    (λ c. omega arith)
+    (λ c. omega arith)
     loop-again
     same-length
     returns)

@@ -55,9 +55,6 @@ sub-row-fits c = omega (arith, row c, c .before .before .pre .room)
 part-row-fits-start : tie.Need-part-row-fits-start Inv-loop μ-loop
 part-row-fits-start c = omega (arith, row c, c .before .before .pre .room)
 
-part-row-fits-end : tie.Need-part-row-fits-end Inv-loop μ-loop
-part-row-fits-end c = omega arith
-
 row-fits-requires : tie.Need-row-fits-requires Inv-loop μ-loop
 row-fits-requires c κs = let i = c .before in omega (arith, lent-long (n i) (t i) (head i .loop .u) (head i .before .pre .room) (i .loop-test .taken))
 
@@ -70,12 +67,6 @@ said c =
 returns : tie.Need-returns Inv-loop μ-loop
 unfolding cellsFit
 returns c = let i = c .before .before .before in sym (every-broken _ _ (head i .loop .u) (i .loop-test .taken) (said (c .before) ∙ not-true _ (c .if1 .taken)))
-
-add-u : tie.Need-add-u Inv-loop μ-loop
-add-u c = omega arith
-
-loop-less : tie.Need-loop-less Inv-loop μ-loop
-loop-less c = omega arith
 
 loop-again : tie.Need-loop-again Inv-loop μ-loop
 loop-again c = let i = c .before .before .before in (omega (arith, i .loop-test .taken), every-more _ _ (head i .loop .inv .1) (said (c .before) ∙ not-false _ (c .if1 .left)))
@@ -97,10 +88,10 @@ cells-fit-spec =
     mul-row-fits
     sub-row-fits
     part-row-fits-start
-    part-row-fits-end
+    (λ c. omega arith)
     row-fits-requires
     returns
-    add-u
-    loop-less
+    (λ c. omega arith)
+    (λ c. omega arith)
     loop-again
     returns-2)

@@ -18,18 +18,6 @@ abbrev μ-loop : tie.MeasureT-loop
 loop-holds : tie.Need-loop-holds Inv-loop μ-loop
 loop-holds c = (omega arith, refl, fill-none _ _)
 
-mul-row : tie.Need-mul-row Inv-loop μ-loop
-mul-row c = omega arith
-
-slice-set-of-row : tie.Need-slice-set-of-row Inv-loop μ-loop
-slice-set-of-row c = omega arith
-
-add-v : tie.Need-add-v Inv-loop μ-loop
-add-v c = omega arith
-
-loop-less : tie.Need-loop-less Inv-loop μ-loop
-loop-less c = omega arith
-
 loop-again : tie.Need-loop-again Inv-loop μ-loop
 loop-again c =
     let l = c .before in
@@ -48,10 +36,10 @@ clear-spec =
     Inv-loop
     μ-loop
     loop-holds
-    mul-row
-    slice-set-of-row
-    add-v
-    loop-less
+    (λ c. omega arith)
+    (λ c. omega arith)
+    (λ c. omega arith)
+    (λ c. omega arith)
     loop-again
     same-length
     returns)

@@ -50,18 +50,6 @@ mul-is-arc c = omega (arith, small c, c .before .before .pre .low)
 shared-slice-copy-out-is-arc : tie.Need-shared-slice-copy-out-is-arc Inv-loop μ-loop
 shared-slice-copy-out-is-arc c = c .before .before .pre .inside _ (c .loop-test .taken)
 
-is-arc-requires : tie.Need-is-arc-requires Inv-loop μ-loop
-is-arc-requires c κs = tt
-
-add-total : tie.Need-add-total Inv-loop μ-loop
-add-total c = omega arith
-
-add-i : tie.Need-add-i Inv-loop μ-loop
-add-i c = omega arith
-
-loop-less : tie.Need-loop-less Inv-loop μ-loop
-loop-less c = omega arith
-
 said : (c : tie.After-is-arc Inv-loop μ-loop) → let l = c .before .before .before in let s = l .before in present (cellAt (s .args .table .now) (s .args .from + s .args .stride * l .loop .i)) ≡ c .is-arc .result
 said c = sym (c .is-arc .ensures ∙ ap (λ (z : ℤ). present (readCell absentCell z)) (back w32 _ (c .before .is-arc-arg .given)))
 
@@ -94,10 +82,10 @@ count-spec =
     add-at
     mul-is-arc
     shared-slice-copy-out-is-arc
-    is-arc-requires
-    add-total
-    add-i
-    loop-less
+    (λ c κs. tt)
+    (λ c. omega arith)
+    (λ c. omega arith)
+    (λ c. omega arith)
     loop-again
     cast-result
     returns)

@@ -66,12 +66,6 @@ counted c =
 returns : tie.Need-returns Inv-loop μ-loop
 returns c = let a = c .before in let i = a .before in sym (arc-found (m i) (n i) (graphOf (n i) (t i)) (u i) (i .loop-test .taken) (λ e. c .if1 .taken (counted a ∙ e)))
 
-add-u : tie.Need-add-u Inv-loop μ-loop
-add-u c = omega arith
-
-loop-less : tie.Need-loop-less Inv-loop μ-loop
-loop-less c = omega arith
-
 loop-again : tie.Need-loop-again Inv-loop μ-loop
 loop-again c = let a = c .before in let i = a .before in (omega (arith, i .loop-test .taken), below-more _ _ (i .before .loop .inv .1) (sym (counted a) ∙ c .if1 .left))
 
@@ -88,7 +82,7 @@ no-arc-into-input-spec =
     mul-count
     count-requires
     returns
-    add-u
-    loop-less
+    (λ c. omega arith)
+    (λ c. omega arith)
     loop-again
     returns-2)

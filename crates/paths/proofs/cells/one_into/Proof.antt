@@ -1,129 +1,37 @@
-use mathlib.Core.Path.{_≡_, refl, sym, ap, _∙_}
-use mathlib.Core.Bool.{Bool, true, false, cond}
-use Prim.Native.Nat.{ℕ, _≤_, _+_, _-_, _*_}
+use mathlib.Core.Path.{_≡_, sym}
+use Prim.Native.Nat.{_<_}
 use native.Mathlib.Omega.{arith}
-use borrow.Author.Tests.{eq-eqb, ne-eqb}
-use lib.Dec.{eqb}
-use lib.IntN.{ℤ}
-use mir.Syntax.{w32}
-use Rattle.laws.specs.Bounded.{sum}
-use Rattle.laws.proofs.Grid.{row-in}
-use Rattle.laws.proofs.Booleans.{split}
-use Rattle.laws.proofs.Signed.{back}
-use Rattle.graph.specs.Delay.{present}
-use Rattle.graph.specs.Graph.{Graph}
+use borrow.Author.Tests.{ne-eqb}
 use Rattle.graph.specs.Count.{fanIn}
-use Rattle.timing.specs.Limits.{absentCell}
-use Rattle.timing.specs.Table.{readCell, graphOf}
-use Rattle.timing.proofs.Table.{graphOf-at}
-use Rattle.paths.proofs.Columns.{above, above-more, above-fan, above-all}
-use Rattle.paths.proofs.ReadCells.{bit-of}
+use Rattle.timing.specs.Table.{graphOf}
+use Rattle.paths.proofs.Columns.{no-arc, one-says}
 use Rattle.paths.proofs.cells.one_into.Statement.{statement}
 use Rattle.paths.proofs.cells.one_into.Tie as tie
 
--- the arcs found
-abbrev ones : Bool → ℕ
-ones found = cond found 1 0
+next-into-requires : tie.Need-next-into-requires
+next-into-requires c κs = (c .pre .0, (c .pre .1, omega arith))
 
-abbrev Inv-loop : tie.InvT-loop
-Inv-loop table v n found₀ u₀ found u = (u ≤ n) × (above (graphOf n table) u v ≡ ones found)
-
-abbrev μ-loop : tie.MeasureT-loop
-μ-loop table v n found₀ u₀ found u = n - u
-
-loop-holds : tie.Need-loop-holds Inv-loop μ-loop
-unfolding sum
-loop-holds c = (omega arith, refl)
-
-module _ (c : tie.In-loop Inv-loop μ-loop) where
-  abbrev start : tie.Start Inv-loop μ-loop
-  start = c .before .before
-
-  abbrev n : ℕ
-  n = start .args .board .vertices
-
-  abbrev g : Graph
-  g = graphOf n (start .args .table .now)
-
-  abbrev v : ℕ
-  v = start .args .v
-
-  abbrev u : ℕ
-  u = c .before .loop .u
-
-  row : n * u + n ≤ n * n
-  row = row-in n u (c .loop-test .taken)
-
-mul-at : tie.Need-mul-at Inv-loop μ-loop
-mul-at c = omega (arith, row c, start c .pre .0 .room)
-
-add-at : tie.Need-add-at Inv-loop μ-loop
-add-at c = omega (arith, row c, start c .pre .0 .room, start c .pre .1)
-
-mul-is-arc : tie.Need-mul-is-arc Inv-loop μ-loop
-mul-is-arc c = omega (arith, row c, start c .pre .0 .room, start c .pre .1)
-
-shared-slice-copy-out-is-arc : tie.Need-shared-slice-copy-out-is-arc Inv-loop μ-loop
-shared-slice-copy-out-is-arc c = omega (arith, row c, start c .pre .0 .room, start c .pre .1)
-
-is-arc-requires : tie.Need-is-arc-requires Inv-loop μ-loop
-is-arc-requires c κs = tt
-
-said : (c : tie.After-is-arc Inv-loop μ-loop) → let i = c .before .before in present (g i (u i) (v i)) ≡ c .is-arc .result
-said c =
-    let i = c .before .before in
-    ap present (graphOf-at (n i) (start i .args .table .now) (u i) (v i) (i .loop-test .taken) (start i .pre .1))
-    ∙ sym (c .is-arc .ensures ∙ ap (λ (z : ℤ). present (readCell absentCell z)) (back w32 _ (c .before .is-arc-arg .given)))
-
-returns : tie.Need-returns Inv-loop μ-loop
+returns : tie.Need-returns
 returns c =
-    let a = c .before .before in
-    let i = a .before .before in
-    let e : above (g i) (u i) (v i) ≡ 1 = i .before .loop .inv .1 ∙ ap ones (c .if2 .taken) in
-    sym (ne-eqb (fanIn (n i) (g i) (v i)) 1 (λ q. omega (arith, e, i .loop-test .taken, above-fan (n i) (g i) (u i + 1) (v i) (omega (arith, i .loop-test .taken)), above-more (g i) (u i) (v i), bit-of (g i (u i) (v i)) true (said a ∙ c .before .if1 .taken))))
-
-add-u : tie.Need-add-u Inv-loop μ-loop
-add-u c = omega arith
-
-loop-less : tie.Need-loop-less Inv-loop μ-loop
-loop-less c = omega arith
-
-loop-again : tie.Need-loop-again Inv-loop μ-loop
-loop-again c =
-    let a = c .before in
-    let i = a .before .before in
-    let l = i .before .loop in
-    let more = above-more (g i) (u i) (v i) in
-    split (c .if1 .came)
-    (λ w. (omega (arith, i .loop-test .taken), omega (arith, more, bit-of (g i (u i) (v i)) true (said a ∙ w .0 .taken), l .inv .1 ∙ ap ones (w .1 .left)) ∙ sym (ap ones (w .2))))
-    (λ w. (omega (arith, i .loop-test .taken), omega (arith, more, bit-of (g i (u i) (v i)) false (said a ∙ w .0 .left)) ∙ l .inv .1 ∙ sym (ap ones (w .1))))
-
-says : (found : Bool) (x y : ℕ) → x ≡ ones found → x ≡ y → found ≡ eqb y 1
-says true x y e q = sym (eq-eqb y 1 (sym q ∙ e))
-says false x y e q = sym (ne-eqb y 1 (λ h. omega (arith, e, q)))
-
-returns-2 : tie.Need-returns-2 Inv-loop μ-loop
-returns-2 c =
-    let l = c .before in
-    let s = l .before in
+    let s = c .before .before in
     let n = s .args .board .vertices in
     let g = graphOf n (s .args .table .now) in
-    says (l .loop .found) (above g (l .loop .u) (s .args .v)) (fanIn n g (s .args .v)) (l .loop .inv .1) (above-all n g (l .loop .u) (s .args .v) (omega arith))
+    let z : fanIn n g (s .args .v) ≡ 0 = no-arc n g (s .args .v) (c .before .next-into .result) (c .before .next-into .ensures) (c .if1 .taken) in
+    sym (ne-eqb (fanIn n g (s .args .v)) 1 (λ e. omega (arith, z, e)))
+
+-- the first arc
+low : (c : tie.Else1) → c .before .next-into .result < c .before .before .args .board .vertices
+low c = let ne = c .if1 .left in omega (arith, c .before .next-into .ensures .upto)
+
+add-next-into : tie.Need-add-next-into
+add-next-into c = omega (arith, low c, c .before .before .pre .0 .sized .few)
+
+next-into-requires-2 : tie.Need-next-into-requires-2
+next-into-requires-2 c κs = (c .before .before .pre .0, (c .before .before .pre .1, omega (arith, low c)))
+
+returns-2 : tie.Need-returns-2
+returns-2 c = one-says _ _ _ (c .before .before .next-into .result) (c .before .before .next-into .ensures) (low (c .before)) (c .next-into2 .result) (c .next-into2 .ensures)
 
 pub one-into-spec : {M : Type 1} → statement M
 one-into-spec =
-    tie.close
-    (tie.spec
-    Inv-loop
-    μ-loop
-    loop-holds
-    mul-at
-    add-at
-    mul-is-arc
-    shared-slice-copy-out-is-arc
-    is-arc-requires
-    returns
-    add-u
-    loop-less
-    loop-again
-    returns-2)
+    tie.close (tie.spec next-into-requires returns add-next-into next-into-requires-2 returns-2)

@@ -28,21 +28,6 @@ abbrev μ-loop : tie.MeasureT-loop
 loop-holds : tie.Need-loop-holds Inv-loop μ-loop
 loop-holds c = (omega arith, sym (every-none _))
 
-mul-cell-fits : tie.Need-mul-cell-fits Inv-loop μ-loop
-mul-cell-fits c = omega arith
-
-shared-slice-copy-out-cell-fits : tie.Need-shared-slice-copy-out-cell-fits Inv-loop μ-loop
-shared-slice-copy-out-cell-fits c = omega arith
-
-cell-fits-requires : tie.Need-cell-fits-requires Inv-loop μ-loop
-cell-fits-requires c κs = tt
-
-add-v : tie.Need-add-v Inv-loop μ-loop
-add-v c = omega arith
-
-loop-less : tie.Need-loop-less Inv-loop μ-loop
-loop-less c = omega arith
-
 said : (c : tie.After-cell-fits Inv-loop μ-loop) → c .cell-fits .result ≡ fits delayLimit (cellAt (c .before .before .before .before .args .row .now) (c .before .before .before .loop .v))
 said c = c .cell-fits .ensures ∙ ap (λ (z : ℤ). fits delayLimit (readCell absentCell z)) (back w32 _ (c .before .cell-fits-arg .given))
 
@@ -61,10 +46,10 @@ row-fits-spec =
     Inv-loop
     μ-loop
     loop-holds
-    mul-cell-fits
-    shared-slice-copy-out-cell-fits
-    cell-fits-requires
-    add-v
-    loop-less
+    (λ c. omega arith)
+    (λ c. omega arith)
+    (λ c κs. tt)
+    (λ c. omega arith)
+    (λ c. omega arith)
     loop-again
     returns)

@@ -41,9 +41,6 @@ mul-is-arc c = omega (arith, c .before .loop .inv, c .before .before .before .pr
 shared-slice-copy-out-is-arc : tie.Need-shared-slice-copy-out-is-arc Inv-loop μ-loop
 shared-slice-copy-out-is-arc c = omega (arith, c .loop-test .taken, c .before .loop .inv, c .before .before .before .pre .1)
 
-is-arc-requires : tie.Need-is-arc-requires Inv-loop μ-loop
-is-arc-requires c κs = tt
-
 -- a turn
 module _ (a : tie.After-is-arc Inv-loop μ-loop) where
   abbrev t : tie.In-loop Inv-loop μ-loop
@@ -98,7 +95,7 @@ chain-row-spec =
     slice-write-chain
     mul-is-arc
     shared-slice-copy-out-is-arc
-    is-arc-requires
+    (λ c κs. tt)
     loop-less
     loop-again
     loop-less-2

@@ -49,15 +49,6 @@ sub-chain-row c = omega (arith, row c, s c .pre .0 .room)
 part-chain-row-start : tie.Need-part-chain-row-start Inv-loop μ-loop
 part-chain-row-start c = omega (arith, row c, s c .pre .0 .room)
 
-part-chain-row-end : tie.Need-part-chain-row-end Inv-loop μ-loop
-part-chain-row-end c = omega arith
-
-sub-chain-row-2 : tie.Need-sub-chain-row-2 Inv-loop μ-loop
-sub-chain-row-2 c = omega arith
-
-part-chain-row-start-2 : tie.Need-part-chain-row-start-2 Inv-loop μ-loop
-part-chain-row-start-2 c = omega arith
-
 part-chain-row-end-2 : tie.Need-part-chain-row-end-2 Inv-loop μ-loop
 part-chain-row-end-2 c = let t = c .before in omega (arith, row t, s t .pre .1, t .before .loop .inv .size)
 
@@ -99,9 +90,9 @@ chains-spec =
     mul-chain-row
     sub-chain-row
     part-chain-row-start
-    part-chain-row-end
-    sub-chain-row-2
-    part-chain-row-start-2
+    (λ c. omega arith)
+    (λ c. omega arith)
+    (λ c. omega arith)
     part-chain-row-end-2
     chain-row-requires
     add-u

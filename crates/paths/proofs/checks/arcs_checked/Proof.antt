@@ -10,17 +10,11 @@ use Rattle.paths.proofs.Checking.{arcs-refusal}
 use Rattle.paths.proofs.checks.arcs_checked.Statement.{statement}
 use Rattle.paths.proofs.checks.arcs_checked.Tie as tie
 
-no-arc-into-input-requires : tie.Need-no-arc-into-input-requires
-no-arc-into-input-requires c κs = search needs
-
 returns : tie.Need-returns
 returns c = arcs-refusal ArcIntoInput (simp (sym (c .before .no-arc-into-input .ensures) ∙ not-true _ (c .if1 .taken)))
 
 five : (c : tie.Else1) → let a = c .before .before .args in noArcIntoInput (a .board .inputs) (a .board .vertices) (graphIn (a .board) (a .table .now)) ≡ true
 five c = sym (c .before .no-arc-into-input .ensures) ∙ not-false _ (c .if1 .left)
-
-topological-order-requires : tie.Need-topological-order-requires
-topological-order-requires c κs = search needs
 
 returns-2 : tie.Need-returns-2
 returns-2 c =
@@ -41,8 +35,8 @@ pub arcs-checked-spec : {M : Type 1} → statement M
 arcs-checked-spec =
     tie.close
     (tie.spec
-    no-arc-into-input-requires
+    (λ c κs. search needs)
     returns
-    topological-order-requires
+    (λ c κs. search needs)
     returns-2
     returns-3)

@@ -5,12 +5,6 @@ use Rattle.paths.proofs.Checking.{memory-refused, odd-cell, arcs-next}
 use Rattle.paths.proofs.checks.checked.Statement.{statement}
 use Rattle.paths.proofs.checks.checked.Tie as tie
 
-memory-checked-requires : tie.Need-memory-checked-requires
-memory-checked-requires c κs = search needs
-
-enum-known-made : tie.Need-enum-known-made
-enum-known-made c = search needs
-
 cells-fit-requires : tie.Need-cells-fit-requires
 cells-fit-requires c κs = let a = c .before in a .before .before .memory-checked .ensures .lent _ (a .made .given .1) .0
 
@@ -25,9 +19,6 @@ arcs-checked-requires c κs =
     let m = a .before .before in
     (m .memory-checked .ensures .lent _ (a .made .given .1) .0, m .before .pre)
 
-enum-told : tie.Need-enum-told
-enum-told c = search needs
-
 returns-2 : tie.Need-returns-2
 returns-2 c =
     let e = c .before .before in
@@ -41,11 +32,11 @@ pub checked-spec : {M : Type 1} → statement M
 checked-spec =
     tie.close
     (tie.spec
-    memory-checked-requires
-    enum-known-made
+    (λ c κs. search needs)
+    (λ c. search needs)
     cells-fit-requires
     returns
     arcs-checked-requires
     returns-2
-    enum-told
+    (λ c. search needs)
     returns-3)

@@ -13,12 +13,6 @@ use Rattle.paths.proofs.Checking.{memory-refusal, sizes-refused, board-
 use Rattle.paths.proofs.checks.memory_checked.Statement.{statement}
 use Rattle.paths.proofs.checks.memory_checked.Tie as tie
 
-new-requires : tie.Need-new-requires
-new-requires c κs = search needs
-
-enum-known-made : tie.Need-enum-known-made
-enum-known-made c = search needs
-
 -- the board has been made
 module _ (c : tie.After-made) where
   abbrev start : tie.Start
@@ -61,9 +55,6 @@ returns-2 c =
     let h : k a < scratchCells (b a .vertices) = omega (arith, c .if2 .taken, c .before .scratch-cells .ensures) in
     memory-refusal ScratchShort (scratch-short _ _ _ (k a) (t a) _ (made a) (b a) (a .made .given .1) (two e) h)
 
-enum-told : tie.Need-enum-told
-enum-told c = search needs
-
 returns-3 : tie.Need-returns-3
 returns-3 c =
     let e = c .before .before in
@@ -77,12 +68,12 @@ pub memory-checked-spec : {M : Type 1} → statement M
 memory-checked-spec =
     tie.close
     (tie.spec
-    new-requires
-    enum-known-made
+    (λ c κs. search needs)
+    (λ c. search needs)
     cells-requires
     returns
     scratch-cells-requires
     returns-2
-    enum-told
+    (λ c. search needs)
     returns-3
     returns-4)

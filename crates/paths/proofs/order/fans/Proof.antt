@@ -8,23 +8,23 @@ use lib.IntN.{ℤ}
 use lib.ListN.{length, getD}
 use Rattle.laws.specs.Bounded.{sum}
 use Rattle.laws.proofs.Grid.{row-in}
-use Rattle.laws.proofs.Sums.{sum-bound}
+use Rattle.laws.proofs.Sums.{sum-more, sum-bound}
 use Rattle.graph.specs.Graph.{Graph}
-use Rattle.graph.specs.Count.{bit}
+use Rattle.graph.specs.Count.{bit, fanIn}
 use Rattle.graph.proofs.Presence.{bit-le}
 use Rattle.timing.specs.Limits.{maxVertices}
 use Rattle.timing.specs.Table.{graphOf}
-use Rattle.paths.proofs.Columns.{above, above-more, above-all}
 use Rattle.paths.proofs.Rows.{lent-cell, lent-long}
+
+-- how many arcs lead into v from the vertices below u
+abbrev above : Graph → ℕ → ℕ → ℕ
+above g u v = sum u (λ x. bit (g x v))
 
 abbrev Inv-loop : tie.InvT-loop
 Inv-loop table n fan₀ u₀ fan u = (u ≤ n) × (length fan ≡ maxVertices) × ((v : ℕ) → v < n → getD fan v 0 ≡ above (graphOf n table) u v)
 
 abbrev μ-loop : tie.MeasureT-loop
 μ-loop table n fan₀ u₀ fan u = n - u
-
-no-fans-requires : tie.Need-no-fans-requires Inv-loop μ-loop
-no-fans-requires c κs = tt
 
 loop-holds : tie.Need-loop-holds Inv-loop μ-loop
 unfolding sum
@@ -59,9 +59,6 @@ sub-raise c = omega (arith, row c, start c .pre .room)
 part-raise-start : tie.Need-part-raise-start Inv-loop μ-loop
 part-raise-start c = omega (arith, row c, start c .pre .room)
 
-part-raise-end : tie.Need-part-raise-end Inv-loop μ-loop
-part-raise-end c = omega arith
-
 few : (g : Graph) (u v : ℕ) → above g u v ≤ u
 few g u v = sum-bound u (λ x. bit (g x v)) (λ x. bit-le (g x v))
 
@@ -83,15 +80,15 @@ loop-again c =
     let l = i .before .loop in (
       omega (arith, i .loop-test .taken),
       c .raise .ensures .0,
-      λ v h. omega (arith, c .raise .ensures .1 v h, l .inv .2 v h, ap bit (lent-cell (n i) (t i) (u i) (start i .pre .room) (i .loop-test .taken) v h), above-more (graphOf (n i) (t i)) (u i) v),
+      λ v h. omega (arith, c .raise .ensures .1 v h, l .inv .2 v h, ap bit (lent-cell (n i) (t i) (u i) (start i .pre .room) (i .loop-test .taken) v h), sum-more (λ x. bit (graphOf (n i) (t i) x v)) (u i)),
     )
 
 returns : tie.Need-returns Inv-loop μ-loop
+unfolding fanIn
 returns c =
     let l = c .before in
-    let s = l .before .before in
-    let n = s .args .board .vertices in
-    (l .loop .inv .1, λ v h. l .loop .inv .2 v h ∙ above-all n (graphOf n (s .args .table .now)) (l .loop .u) v (omega (arith, l .loop .inv .0, c .loop-test .left)))
+    let e : l .loop .u ≡ l .before .before .args .board .vertices = omega (arith, l .loop .inv .0, c .loop-test .left) in
+    (l .loop .inv .1, λ v h. l .loop .inv .2 v h ∙ ap (λ (x : ℕ). above (graphOf (l .before .before .args .board .vertices) (l .before .before .args .table .now)) x v) e)
 
 pub fans-spec : {M : Type 1} → statement M
 fans-spec =
@@ -99,13 +96,13 @@ fans-spec =
     (tie.spec
     Inv-loop
     μ-loop
-    no-fans-requires
+    (λ c κs. tt)
     loop-holds
     mul-at
     mul-raise
     sub-raise
     part-raise-start
-    part-raise-end
+    (λ c. omega arith)
     raise-requires
     add-u
     loop-less

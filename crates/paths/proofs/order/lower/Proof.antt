@@ -50,12 +50,6 @@ lowered-requires c κs = omega (arith, cell-is c, head c .loop .inv .1 .left (he
 element-write-fan : tie.Need-element-write-fan Inv-loop μ-loop
 element-write-fan c = omega (arith, c .before .before .before .before .before .pre .0)
 
-add-v : tie.Need-add-v Inv-loop μ-loop
-add-v c = omega arith
-
-loop-less : tie.Need-loop-less Inv-loop μ-loop
-loop-less c = omega arith
-
 loop-again : tie.Need-loop-again Inv-loop μ-loop
 loop-again c =
     let h = head (c .before) in (
@@ -78,7 +72,7 @@ lower-spec =
     shared-slice-copy-out-lowered
     lowered-requires
     element-write-fan
-    add-v
-    loop-less
+    (λ c. omega arith)
+    (λ c. omega arith)
     loop-again
     returns)

@@ -10,9 +10,6 @@ use Rattle.paths.proofs.ReadCells.{bit-of}
 use Rattle.paths.proofs.order.lowered.Statement.{statement}
 use Rattle.paths.proofs.order.lowered.Tie as tie
 
-is-arc-requires : tie.Need-is-arc-requires
-is-arc-requires c κs = tt
-
 said : (c : tie.After-is-arc) → present (readCell absentCell (c .before .args .cell)) ≡ c .is-arc .result
 said c = sym (c .is-arc .ensures ∙ ap (λ (z : ℤ). present (readCell absentCell z)) (toZ-ofZ (c .before .fits .cell)))
 
@@ -26,4 +23,4 @@ returns-2 : tie.Need-returns-2
 returns-2 c = omega (arith, bit-of (readCell absentCell (c .before .before .args .cell)) false (said (c .before) ∙ c .if1 .left))
 
 pub lowered-spec : {M : Type 1} → statement M
-lowered-spec = tie.close (tie.spec is-arc-requires sub-result returns returns-2)
+lowered-spec = tie.close (tie.spec (λ c κs. tt) sub-result returns returns-2)

@@ -50,12 +50,6 @@ raised-requires c κs = omega (arith, head c .loop .inv .1 .left (head c .loop .
 element-write-fan : tie.Need-element-write-fan Inv-loop μ-loop
 element-write-fan c = omega (arith, c .before .before .before .before .before .pre .0)
 
-add-v : tie.Need-add-v Inv-loop μ-loop
-add-v c = omega arith
-
-loop-less : tie.Need-loop-less Inv-loop μ-loop
-loop-less c = omega arith
-
 loop-again : tie.Need-loop-again Inv-loop μ-loop
 loop-again c =
     let h = head (c .before) in (
@@ -78,7 +72,7 @@ raise-spec =
     shared-slice-copy-out-raised
     raised-requires
     element-write-fan
-    add-v
-    loop-less
+    (λ c. omega arith)
+    (λ c. omega arith)
     loop-again
     returns)

@@ -28,17 +28,8 @@ abbrev μ-loop : tie.MeasureT-loop
 loop-holds : tie.Need-loop-holds Inv-loop μ-loop
 loop-holds c = (c .pre .1, λ j a b. absurd (omega arith))
 
-element-copy-out-if1 : tie.Need-element-copy-out-if1 Inv-loop μ-loop
-element-copy-out-if1 c = omega arith
-
 returns : tie.Need-returns Inv-loop μ-loop
 returns c = (omega arith, λ _. c .if1 .taken, c .before .before .before .loop .inv .1)
-
-add-v : tie.Need-add-v Inv-loop μ-loop
-add-v c = omega arith
-
-loop-less : tie.Need-loop-less Inv-loop μ-loop
-loop-less c = omega arith
 
 loop-again : tie.Need-loop-again Inv-loop μ-loop
 loop-again c = let l = c .before .before .before in (omega arith, passed-more (l .before .args .fan .now) (l .before .args .from) (l .loop .v) (l .loop .inv .1) (c .if1 .left))
@@ -53,9 +44,9 @@ ready-spec =
     Inv-loop
     μ-loop
     loop-holds
-    element-copy-out-if1
+    (λ c. omega arith)
     returns
-    add-v
-    loop-less
+    (λ c. omega arith)
+    (λ c. omega arith)
     loop-again
     returns-2)

@@ -59,23 +59,11 @@ abbrev μ-loop : tie.MeasureT-loop
 loop-holds : tie.Need-loop-holds Inv-loop μ-loop
 loop-holds c = record { upto = omega arith; not-a = below-none _; not-b = below-none _ }
 
-element-copy-out-vertex : tie.Need-element-copy-out-vertex Inv-loop μ-loop
-element-copy-out-vertex c = omega arith
-
-vertex-requires : tie.Need-vertex-requires Inv-loop μ-loop
-vertex-requires c κs = tt
-
 returns : tie.Need-returns Inv-loop μ-loop
 returns c =
     let v = c .before .before in
     let i = v .before .before in
     sym (meets-a (i .before .loop .inv) (i .loop-test .taken) (sym (v .vertex .ensures) ∙ c .if2 .taken) (λ e. c .before .if1 .left (v .vertex .ensures ∙ e)))
-
-add-p : tie.Need-add-p Inv-loop μ-loop
-add-p c = omega arith
-
-loop-less : tie.Need-loop-less Inv-loop μ-loop
-loop-less c = omega arith
 
 loop-again : tie.Need-loop-again Inv-loop μ-loop
 loop-again c =
@@ -99,11 +87,11 @@ stands-before-spec =
     Inv-loop
     μ-loop
     loop-holds
-    element-copy-out-vertex
-    vertex-requires
+    (λ c. omega arith)
+    (λ c κs. tt)
     returns
-    add-p
-    loop-less
+    (λ c. omega arith)
+    (λ c. omega arith)
     loop-again
     returns-2
     returns-3)

@@ -128,9 +128,6 @@ sub-lower c = omega (arith, row c, start c .pre .0 .room)
 part-lower-start : tie.Need-part-lower-start Inv-loop μ-loop
 part-lower-start c = omega (arith, row c, start c .pre .0 .room)
 
-part-lower-end : tie.Need-part-lower-end Inv-loop μ-loop
-part-lower-end c = omega arith
-
 lower-requires : tie.Need-lower-requires Inv-loop μ-loop
 lower-requires c κs =
     let e = c .before .before in (start e .pre .0 .sized .few, (lent-long (n e) (t e) (u e) (start e .pre .0 .room) (in-n e), (head e .loop .inv .0, λ v h. omega (arith, low e v h, ap bit (lent-cell (n e) (t e) (u e) (start e .pre .0 .room) (in-n e) v h)))))
@@ -192,7 +189,7 @@ topological-order-spec =
     mul-lower
     sub-lower
     part-lower-start
-    part-lower-end
+    (λ c. omega arith)
     lower-requires
     array-write-fan
     cast-order

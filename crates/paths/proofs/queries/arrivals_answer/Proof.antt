@@ -15,9 +15,6 @@ use Rattle.paths.proofs.Starting.{filled-drop}
 use Rattle.paths.proofs.queries.arrivals_answer.Statement.{statement}
 use Rattle.paths.proofs.queries.arrivals_answer.Tie as tie
 
-arrivals-fit-requires : tie.Need-arrivals-fit-requires
-arrivals-fit-requires c κs = search needs
-
 returns : tie.Need-returns
 returns c = (lists-refused _ _ _ _ _ _ (inl (sym (c .before .arrivals-fit .ensures) ∙ not-true _ (c .if1 .taken))), refl)
 
@@ -34,9 +31,6 @@ module _ (e : tie.Else2) where
 
   least : start .args .board .vertices ≤ start .args .board .vertices * start .args .board .vertices
   least = square (start .args .board .vertices) (omega (arith, start .pre .0 .checked .lent .sized .some-inputs, start .pre .0 .checked .lent .sized .roles))
-
-cell-bytes-requires : tie.Need-cell-bytes-requires
-cell-bytes-requires c κs = tt
 
 slice-aggregate-chains : tie.Need-slice-aggregate-chains
 slice-aggregate-chains c = sym (c .before .cell-bytes .ensures)
@@ -64,12 +58,6 @@ copy-out-requires c κs =
     let e = lists (a .before .before .before .before) in
     omega (arith, e .if2 .left, a .arrivals .kept .1 .1 .1 .1 .1 .0, start e .pre .0 .checked .sound .room, start e .pre .1, least e)
 
-same-length : tie.Need-same-length
-same-length c = search needs
-
-same-length-2 : tie.Need-same-length-2
-same-length-2 c = search needs
-
 returns-3 : tie.Need-returns-3
 returns-3 c =
     let o = c .before in
@@ -85,15 +73,15 @@ pub arrivals-answer-spec : {M : Type 1} → statement M
 arrivals-answer-spec =
     tie.close
     (tie.spec
-    arrivals-fit-requires
+    (λ c κs. search needs)
     returns
     returns-2
-    cell-bytes-requires
+    (λ c κs. tt)
     slice-aggregate-chains
     chains-requires
     slice-aggregate-arrivals
     arrivals-requires
     copy-out-requires
-    same-length
-    same-length-2
+    (λ c. search needs)
+    (λ c. search needs)
     returns-3)

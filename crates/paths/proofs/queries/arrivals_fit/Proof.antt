@@ -30,15 +30,6 @@ returns c = simp (eqb-other _ _ (c .if1 .taken))
 loop-holds : tie.Need-loop-holds Inv-loop μ-loop
 loop-holds c = (omega arith, every-none _)
 
-mul-arrival-fits : tie.Need-mul-arrival-fits Inv-loop μ-loop
-mul-arrival-fits c = omega arith
-
-shared-slice-copy-out-arrival-fits : tie.Need-shared-slice-copy-out-arrival-fits Inv-loop μ-loop
-shared-slice-copy-out-arrival-fits c = omega arith
-
-arrival-fits-requires : tie.Need-arrival-fits-requires Inv-loop μ-loop
-arrival-fits-requires c κs = tt
-
 module _ (c : tie.After-arrival-fits Inv-loop μ-loop) where
   abbrev inside : tie.In-loop Inv-loop μ-loop
   inside = c .before .before
@@ -59,12 +50,6 @@ returns-2 c =
     let broken : every (start a .args .board .inputs) (λ k. fits arrivalLimit (arrivalIn (start a .args .given .now) k)) ≡ false =
     every-broken _ _ (inside a .before .loop .i) (inside a .loop-test .taken) (said a ∙ not-true _ (c .if2 .taken)) in
     simp (long a, broken)
-
-add-i : tie.Need-add-i Inv-loop μ-loop
-add-i c = omega arith
-
-loop-less : tie.Need-loop-less Inv-loop μ-loop
-loop-less c = omega arith
 
 loop-again : tie.Need-loop-again Inv-loop μ-loop
 loop-again c = let a = c .before in (omega (arith, inside a .loop-test .taken), every-more _ _ (inside a .before .loop .inv .1) (said a ∙ not-false _ (c .if2 .left)))
@@ -87,11 +72,11 @@ arrivals-fit-spec =
     μ-loop
     returns
     loop-holds
-    mul-arrival-fits
-    shared-slice-copy-out-arrival-fits
-    arrival-fits-requires
+    (λ c. omega arith)
+    (λ c. omega arith)
+    (λ c κs. tt)
     returns-2
-    add-i
-    loop-less
+    (λ c. omega arith)
+    (λ c. omega arith)
     loop-again
     returns-3)

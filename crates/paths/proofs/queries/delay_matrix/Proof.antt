@@ -5,28 +5,10 @@ use Rattle.paths.proofs.Answering.{answers-on, answers-refused, scratch
 use Rattle.paths.proofs.queries.delay_matrix.Statement.{statement}
 use Rattle.paths.proofs.queries.delay_matrix.Tie as tie
 
-vertex-bytes-requires : tie.Need-vertex-bytes-requires
-vertex-bytes-requires c κs = search needs
-
-checked-requires : tie.Need-checked-requires
-checked-requires c κs = search needs
-
-enum-known-lent : tie.Need-enum-known-lent
-enum-known-lent c = search needs
-
 matrix-answer-requires : tie.Need-matrix-answer-requires
 matrix-answer-requires c κs =
     let k = c .before .before .before .before in
     k .before .before .checked .ensures .passable _ (k .lent .given .1)
-
-enum-known-lent-2 : tie.Need-enum-known-lent-2
-enum-known-lent-2 c = search needs
-
-same-length : tie.Need-same-length
-same-length c = search needs
-
-same-length-2 : tie.Need-same-length-2
-same-length-2 c = search needs
 
 returns : tie.Need-returns
 unfolding matrixCall
@@ -49,12 +31,12 @@ pub delay-matrix-spec : {M : Type 1} → statement M
 delay-matrix-spec =
     tie.close
     (tie.spec
-    vertex-bytes-requires
-    checked-requires
-    enum-known-lent
+    (λ c κs. search needs)
+    (λ c κs. search needs)
+    (λ c. search needs)
     matrix-answer-requires
-    enum-known-lent-2
-    same-length
-    same-length-2
+    (λ c. search needs)
+    (λ c. search needs)
+    (λ c. search needs)
     returns
     returns-2)

@@ -22,9 +22,6 @@ Inv-loop board table order scratch₀ destination₀ chain m n i₀ scratch dest
 abbrev μ-loop : tie.MeasureT-loop
 μ-loop board table order scratch₀ destination₀ chain m n i₀ scratch destination i = m - i
 
-cell-bytes-requires : tie.Need-cell-bytes-requires Inv-loop μ-loop
-cell-bytes-requires c κs = tt
-
 slice-aggregate-chains : tie.Need-slice-aggregate-chains Inv-loop μ-loop
 slice-aggregate-chains c = sym (c .before .cell-bytes .ensures)
 
@@ -65,12 +62,6 @@ add-end c = let i = c .before .before .before .before in omega (arith, row i, s 
 
 mul-copy-out : tie.Need-mul-copy-out Inv-loop μ-loop
 mul-copy-out c = let i = c .before .before .before .before in omega (arith, row i, s i .pre .1 .1, s i .good)
-
-sub-copy-out : tie.Need-sub-copy-out Inv-loop μ-loop
-sub-copy-out c = omega arith
-
-part-copy-out-start : tie.Need-part-copy-out-start Inv-loop μ-loop
-part-copy-out-start c = omega arith
 
 part-copy-out-end : tie.Need-part-copy-out-end Inv-loop μ-loop
 part-copy-out-end c = let i = c .before .before .before .before in omega (arith, row i, s i .pre .1 .1, long i)
@@ -129,7 +120,7 @@ fill-matrix-spec =
     (tie.spec
     Inv-loop
     μ-loop
-    cell-bytes-requires
+    (λ c κs. tt)
     slice-aggregate-chains
     chains-requires
     loop-holds
@@ -138,8 +129,8 @@ fill-matrix-spec =
     mul-at
     add-end
     mul-copy-out
-    sub-copy-out
-    part-copy-out-start
+    (λ c. omega arith)
+    (λ c. omega arith)
     part-copy-out-end
     copy-out-requires
     add-i

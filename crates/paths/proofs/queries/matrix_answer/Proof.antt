@@ -28,12 +28,6 @@ fill-matrix-requires c κs =
     let s = c .before .before .before .before in
     (s .pre .0, (omega (arith, s .pre .1, least s), c .before .before .if1 .taken))
 
-same-length : tie.Need-same-length
-same-length c = search needs
-
-same-length-2 : tie.Need-same-length-2
-same-length-2 c = search needs
-
 returns : tie.Need-returns
 returns c =
     let f = c .before .before in
@@ -48,4 +42,4 @@ returns-2 c = (matrix-short _ _ _ _ _ (c .if1 .left), refl)
 
 pub matrix-answer-spec : {M : Type 1} → statement M
 matrix-answer-spec =
-    tie.close (tie.spec mul-if1 fill-matrix-requires same-length same-length-2 returns returns-2)
+    tie.close (tie.spec mul-if1 fill-matrix-requires (λ c. search needs) (λ c. search needs) returns returns-2)

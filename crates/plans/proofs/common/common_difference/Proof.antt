@@ -27,9 +27,6 @@ abbrev μ-compare : tie.MeasureT-compare
 compare-holds : tie.Need-compare-holds Inv-compare μ-compare
 compare-holds c = (omega arith, seen-none _ _)
 
-settle-requires : tie.Need-settle-requires Inv-compare μ-compare
-settle-requires c κs = tt
-
 -- a turn
 module _ (c : tie.Else1 Inv-compare μ-compare) where
   abbrev start : tie.Start Inv-compare μ-compare
@@ -43,12 +40,6 @@ module _ (c : tie.Else1 Inv-compare μ-compare) where
 
   abbrev j : ℕ
   j = c .before .compare .j
-
-mul-seen-next : tie.Need-mul-seen-next Inv-compare μ-compare
-mul-seen-next c = omega arith
-
-shared-slice-copy-out-seen-next : tie.Need-shared-slice-copy-out-seen-next Inv-compare μ-compare
-shared-slice-copy-out-seen-next c = omega arith
 
 mul-seen-next-2 : tie.Need-mul-seen-next-2 Inv-compare μ-compare
 mul-seen-next-2 c = omega (arith, start (c .before) .pre .long)
@@ -67,15 +58,6 @@ seen-next-requires : tie.Need-seen-next-requires Inv-compare μ-compare
 seen-next-requires c κs =
     let t = c .before .before in
     simp (x-is (c .before), y-is c) (start t .pre .near-x (j t) (omega arith), start t .pre .near-y (j t) (omega (arith, start t .pre .long)))
-
-enum-told : tie.Need-enum-told Inv-compare μ-compare
-enum-told c = search needs
-
-add-j : tie.Need-add-j Inv-compare μ-compare
-add-j c = omega arith
-
-compare-less : tie.Need-compare-less Inv-compare μ-compare
-compare-less c = omega arith
 
 -- what is seen after the turn
 turned : (c : tie.After-seen-next Inv-compare μ-compare) → let t = c .before .before .before in c .seen-next .result ≡ seen (j t + 1) (arrivalIn (xs t)) (arrivalIn (ys t))
@@ -113,15 +95,15 @@ common-difference-spec =
     Inv-compare
     μ-compare
     compare-holds
-    settle-requires
-    mul-seen-next
-    shared-slice-copy-out-seen-next
+    (λ c κs. tt)
+    (λ c. omega arith)
+    (λ c. omega arith)
     mul-seen-next-2
     shared-slice-copy-out-seen-next-2
     seen-next-requires
-    enum-told
-    add-j
-    compare-less
+    (λ c. search needs)
+    (λ c. omega arith)
+    (λ c. omega arith)
     compare-again
     returns
     returns-2)

@@ -63,15 +63,6 @@ module _ (c : tie.Else3) where
 sub-d : tie.Need-sub-d
 sub-d c = simp (toZ-ofZ {w = w64} (start c .fits .y), toZ-ofZ {w = w64} (start c .fits .x)) (search (difference-fits, x-near c, y-near c))
 
-enum-told : tie.Need-enum-told
-enum-told c = search needs
-
-enum-known-seen : tie.Need-enum-known-seen
-enum-known-seen c = search needs
-
-enum-told-2 : tie.Need-enum-told-2
-enum-told-2 c = search needs
-
 returns-4 : tie.Need-returns-4
 returns-4 c =
     let e = c .before .before in
@@ -108,9 +99,9 @@ seen-next-spec =
     returns-2
     returns-3
     sub-d
-    enum-told
-    enum-known-seen
-    enum-told-2
+    (λ c. search needs)
+    (λ c. search needs)
+    (λ c. search needs)
     returns-4
     returns-5
     returns-6

@@ -5,15 +5,6 @@ use Rattle.plans.specs.Comparing.{settled}
 use Rattle.plans.proofs.common.settle.Statement.{statement}
 use Rattle.plans.proofs.common.settle.Tie as tie
 
-enum-told : tie.Need-enum-told
-enum-told c = search needs
-
-enum-known-seen : tie.Need-enum-known-seen
-enum-known-seen c = search needs
-
-enum-told-2 : tie.Need-enum-told-2
-enum-told-2 c = search needs
-
 returns : tie.Need-returns
 returns c = sym (ap settled (c .enum-told .given .1))
 
@@ -24,4 +15,4 @@ returns-3 : tie.Need-returns-3
 returns-3 c = sym (ap settled (c .enum-told2 .given .1))
 
 pub settle-spec : {M : Type 1} → statement M
-settle-spec = tie.close (tie.spec enum-told enum-known-seen enum-told-2 returns returns-2 returns-3)
+settle-spec = tie.close (tie.spec (λ c. search needs) (λ c. search needs) (λ c. search needs) returns returns-2 returns-3)

@@ -63,9 +63,6 @@ mul-sum-fits c = omega (arith, row c, start c .pre .0 .room)
 shared-slice-copy-out-sum-fits : tie.Need-shared-slice-copy-out-sum-fits Inv-loop μ-loop
 shared-slice-copy-out-sum-fits c = omega (arith, row c, start c .pre .0 .room, start c .pre .1 .0)
 
-sum-fits-requires : tie.Need-sum-fits-requires Inv-loop μ-loop
-sum-fits-requires c κs = tt
-
 -- a turn's sum, with the number as the loop carries it
 said : (c : tie.After-sum-fits Inv-loop μ-loop) → let i = c .before .before in right (n i) (t i) (v i) (toZ w32 (ofZ w32 (start i .args .d))) (u i) ≡ c .sum-fits .result
 said c =
@@ -79,12 +76,6 @@ returns : tie.Need-returns Inv-loop μ-loop
 returns c =
     let i = c .before .before .before in
     sym (every-broken (n i) (right (n i) (t i) (v i) (start i .args .d)) (u i) (i .loop-test .taken) (rw (toZ-ofZ {w = w32} (start i .fits .d)) at (said (c .before)) ∙ not-true _ (c .if1 .taken)))
-
-add-u : tie.Need-add-u Inv-loop μ-loop
-add-u c = omega arith
-
-loop-less : tie.Need-loop-less Inv-loop μ-loop
-loop-less c = omega arith
 
 loop-again : tie.Need-loop-again Inv-loop μ-loop
 loop-again c = let i = c .before .before .before in (omega (arith, i .loop-test .taken), every-more _ _ (i .before .loop .inv .1) (said (c .before) ∙ not-false _ (c .if1 .left)))
@@ -106,9 +97,9 @@ column-sums-fit-spec =
     add-at
     mul-sum-fits
     shared-slice-copy-out-sum-fits
-    sum-fits-requires
+    (λ c κs. tt)
     returns
-    add-u
-    loop-less
+    (λ c. omega arith)
+    (λ c. omega arith)
     loop-again
     returns-2)

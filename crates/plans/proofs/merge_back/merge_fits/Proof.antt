@@ -61,9 +61,6 @@ sub-row-sums-fit c = let s = c .before .before .before in omega (arith, row s, s
 part-row-sums-fit-start : tie.Need-part-row-sums-fit-start
 part-row-sums-fit-start c = let s = c .before .before .before in omega (arith, row s, s .pre .0 .room)
 
-part-row-sums-fit-end : tie.Need-part-row-sums-fit-end
-part-row-sums-fit-end c = omega arith
-
 row-sums-fit-requires : tie.Need-row-sums-fit-requires
 row-sums-fit-requires c κs = let s = c .before .before .before .before in lent-long (n s) (s .args .table .now) (v s) (s .pre .0 .room) (s .pre .1 .from-below)
 
@@ -90,6 +87,6 @@ merge-fits-spec =
     mul-row-sums-fit
     sub-row-sums-fit
     part-row-sums-fit-start
-    part-row-sums-fit-end
+    (λ c. omega arith)
     row-sums-fit-requires
     returns-2)

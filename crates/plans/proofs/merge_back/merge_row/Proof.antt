@@ -23,12 +23,6 @@ use Rattle.plans.proofs.MergedRows.{driver-row, output-row, other-row}
 use Rattle.plans.proofs.merge_back.merge_row.Statement.{statement}
 use Rattle.plans.proofs.merge_back.merge_row.Tie as tie
 
-clear-requires : tie.Need-clear-requires
-clear-requires c κs = tt
-
-same-length : tie.Need-same-length
-same-length c = search needs
-
 returns : tie.Need-returns
 returns c =
     let t = c .before .before .before in
@@ -113,8 +107,8 @@ pub merge-row-spec : {M : Type 1} → statement M
 merge-row-spec =
     tie.close
     (tie.spec
-    clear-requires
-    same-length
+    (λ c κs. tt)
+    (λ c. search needs)
     returns
     mul-into
     slice-copy-out-into

@@ -22,15 +22,6 @@ mul-t7 c = omega (arith, c .before .pre .to-inside)
 slice-set-from-row : tie.Need-slice-set-from-row
 slice-set-from-row c = c .before .pre .to-inside
 
-mul-row : tie.Need-mul-row
-mul-row c = search needs
-
-slice-set-of-row : tie.Need-slice-set-of-row
-slice-set-of-row c = search needs
-
-same-length : tie.Need-same-length
-same-length c = search needs
-
 returns : tie.Need-returns
 returns c =
     let s = c .before in
@@ -42,4 +33,4 @@ returns c =
 pub redirect-spec : {M : Type 1} → statement M
 redirect-spec =
     tie.close
-    (tie.spec sum-requires mul-t7 slice-set-from-row mul-row slice-set-of-row same-length returns)
+    (tie.spec sum-requires mul-t7 slice-set-from-row (λ c. search needs) (λ c. search needs) (λ c. search needs) returns)

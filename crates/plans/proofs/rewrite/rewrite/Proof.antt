@@ -23,9 +23,6 @@ Inv-loop table₀ how n from via u₀ table u = (u ≤ n) × (length table ≡ l
 abbrev μ-loop : tie.MeasureT-loop
 μ-loop table₀ how n from via u₀ table u = n - u
 
-origin-requires : tie.Need-origin-requires Inv-loop μ-loop
-origin-requires c κs = tt
-
 -- the origin is known
 module _ (c : tie.After-origin Inv-loop μ-loop) where
   abbrev start : tie.Start Inv-loop μ-loop
@@ -119,12 +116,6 @@ rewrite-row-requires c κs =
     let b = o i in
     row-fit (n b) (t b) (via i) (u i) (i .loop-test .taken) (lent i) (lent-is i) (how b) (copied i) (start b .pre .1)
 
-add-u : tie.Need-add-u Inv-loop μ-loop
-add-u c = omega arith
-
-loop-less : tie.Need-loop-less Inv-loop μ-loop
-loop-less c = omega arith
-
 loop-again : tie.Need-loop-again Inv-loop μ-loop
 loop-again c =
     let i = c .before .before .before .before in
@@ -151,7 +142,7 @@ rewrite-spec =
     (tie.spec
     Inv-loop
     μ-loop
-    origin-requires
+    (λ c κs. tt)
     mul-from
     row-copy-requires
     loop-holds
@@ -162,8 +153,8 @@ rewrite-spec =
     part-rewrite-row-start
     part-rewrite-row-end
     rewrite-row-requires
-    add-u
-    loop-less
+    (λ c. omega arith)
+    (λ c. omega arith)
     loop-again
     same-length
     returns)

@@ -30,26 +30,14 @@ module _ (s : tie.Start) (x : Rewriting) (e : s .args .how ≡ x) where
 carried : (f : ℤ → Rewriting) (d : ℤ) {h : Rewriting} → h ≡ f d → toZ w32 (ofZ w32 d) ≡ d → h ≡ f (toZ w32 (ofZ w32 d))
 carried f d e q = e ∙ sym (ap f q)
 
-enum-known-how : tie.Need-enum-known-how
-enum-known-how c = search needs
-
 shrink-row-requires : tie.Need-shrink-row-requires
 shrink-row-requires c κs = let k = c .before .before in asked (k .before .before) _ (k .how .given .1)
-
-enum-known-how-2 : tie.Need-enum-known-how-2
-enum-known-how-2 c = search needs
 
 share-inputs-row-requires : tie.Need-share-inputs-row-requires
 share-inputs-row-requires c κs = let k = c .before .before in asked (k .before .before) _ (k .how2 .given .1)
 
-enum-known-how-3 : tie.Need-enum-known-how-3
-enum-known-how-3 c = search needs
-
 share-outputs-row-requires : tie.Need-share-outputs-row-requires
 share-outputs-row-requires c κs = let k = c .before .before in asked (k .before .before) _ (k .how3 .given .1)
-
-enum-known-how-4 : tie.Need-enum-known-how-4
-enum-known-how-4 c = search needs
 
 merge-row-requires : tie.Need-merge-row-requires
 merge-row-requires c κs =
@@ -57,14 +45,8 @@ merge-row-requires c κs =
     let g = k .how4 .given .0 in
     asked (k .before .before) _ (carried (MergeBack (g .0) (g .1 .0)) (g .1 .1 .0) (k .how4 .given .1) (search needs))
 
-same-length : tie.Need-same-length
-same-length c = search needs
-
 returns : tie.Need-returns
 returns c = let k = c .before .before .before .before in left (k .before .before) _ (k .how .given .1) _ (c .before .shrink-row .ensures)
-
-same-length-2 : tie.Need-same-length-2
-same-length-2 c = search needs
 
 returns-2 : tie.Need-returns-2
 returns-2 c =
@@ -72,17 +54,11 @@ returns-2 c =
     let g = k .how2 .given .0 in
     left (k .before .before) _ (carried (ShareInputs (g .0) (g .1 .0) (g .1 .1 .0)) (g .1 .1 .1 .0) (k .how2 .given .1) (search needs)) _ (c .before .share-inputs-row .ensures)
 
-same-length-3 : tie.Need-same-length-3
-same-length-3 c = search needs
-
 returns-3 : tie.Need-returns-3
 returns-3 c =
     let k = c .before .before .before .before in
     let g = k .how3 .given .0 in
     left (k .before .before) _ (carried (ShareOutputs (g .0) (g .1 .0)) (g .1 .1 .0) (k .how3 .given .1) (search needs)) _ (c .before .share-outputs-row .ensures)
-
-same-length-4 : tie.Need-same-length-4
-same-length-4 c = search needs
 
 returns-4 : tie.Need-returns-4
 returns-4 c =
@@ -94,19 +70,19 @@ pub rewrite-row-spec : {M : Type 1} → statement M
 rewrite-row-spec =
     tie.close
     (tie.spec
-    enum-known-how
+    (λ c. search needs)
     shrink-row-requires
-    enum-known-how-2
+    (λ c. search needs)
     share-inputs-row-requires
-    enum-known-how-3
+    (λ c. search needs)
     share-outputs-row-requires
-    enum-known-how-4
+    (λ c. search needs)
     merge-row-requires
-    same-length
+    (λ c. search needs)
     returns
-    same-length-2
+    (λ c. search needs)
     returns-2
-    same-length-3
+    (λ c. search needs)
     returns-3
-    same-length-4
+    (λ c. search needs)
     returns-4)

@@ -19,27 +19,6 @@ abbrev μ-loop : tie.MeasureT-loop
 loop-holds : tie.Need-loop-holds Inv-loop μ-loop
 loop-holds c = (omega arith, refl, stored-start _ _ _)
 
-add-copy : tie.Need-add-copy Inv-loop μ-loop
-add-copy c = omega arith
-
-mul-copy : tie.Need-mul-copy Inv-loop μ-loop
-mul-copy c = omega arith
-
-shared-slice-copy-out-copy : tie.Need-shared-slice-copy-out-copy Inv-loop μ-loop
-shared-slice-copy-out-copy c = omega arith
-
-mul-copy-2 : tie.Need-mul-copy-2 Inv-loop μ-loop
-mul-copy-2 c = omega arith
-
-array-set-from-copy : tie.Need-array-set-from-copy Inv-loop μ-loop
-array-set-from-copy c = omega arith
-
-add-v : tie.Need-add-v Inv-loop μ-loop
-add-v c = omega arith
-
-loop-less : tie.Need-loop-less Inv-loop μ-loop
-loop-less c = omega arith
-
 loop-again : tie.Need-loop-again Inv-loop μ-loop
 loop-again c =
     let l = c .before .before in
@@ -56,12 +35,12 @@ row-copy-spec =
     Inv-loop
     μ-loop
     loop-holds
-    add-copy
-    mul-copy
-    shared-slice-copy-out-copy
-    mul-copy-2
-    array-set-from-copy
-    add-v
-    loop-less
+    (λ c. omega arith)
+    (λ c. omega arith)
+    (λ c. omega arith)
+    (λ c. omega arith)
+    (λ c. omega arith)
+    (λ c. omega arith)
+    (λ c. omega arith)
     loop-again
     returns)

@@ -17,9 +17,6 @@ enough-out-requires c κs = c .pre
 returns : tie.Need-returns
 returns c = simp (sym (c .before .enough-out .ensures) ∙ not-true _ (c .if1 .taken))
 
-in-range-requires : tie.Need-in-range-requires
-in-range-requires c κs = tt
-
 -- b has three arcs out
 enough : (c : tie.Else1) → let s = c .before .before in let n = s .args .board .vertices in enoughOut n (graphOf n (s .args .table .now)) (s .args .b) ≡ true
 enough c = sym (c .before .enough-out .ensures) ∙ not-false _ (c .if1 .left)
@@ -38,4 +35,4 @@ returns-3 c =
 
 pub inputs-saved-spec : {M : Type 1} → statement M
 inputs-saved-spec =
-    tie.close (tie.spec enough-out-requires returns in-range-requires returns-2 returns-3)
+    tie.close (tie.spec enough-out-requires returns (λ c κs. tt) returns-2 returns-3)

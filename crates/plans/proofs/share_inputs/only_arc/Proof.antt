@@ -12,18 +12,6 @@ use Rattle.plans.proofs.SharedRows.{set-cell}
 use Rattle.plans.proofs.share_inputs.only_arc.Statement.{statement}
 use Rattle.plans.proofs.share_inputs.only_arc.Tie as tie
 
-clear-requires : tie.Need-clear-requires
-clear-requires c κs = tt
-
-mul-d : tie.Need-mul-d
-mul-d c = search needs
-
-slice-set-from-d : tie.Need-slice-set-from-d
-slice-set-from-d c = search needs
-
-same-length : tie.Need-same-length
-same-length c = search needs
-
 returns : tie.Need-returns
 returns c =
     let w = c .before in
@@ -34,4 +22,4 @@ returns c =
     ∙ ap (λ (d : ℤ). tabulate n (onlyArc (s .args .k) d)) (toZ-ofZ (s .fits .d))
 
 pub only-arc-spec : {M : Type 1} → statement M
-only-arc-spec = tie.close (tie.spec clear-requires mul-d slice-set-from-d same-length returns)
+only-arc-spec = tie.close (tie.spec (λ c κs. tt) (λ c. search needs) (λ c. search needs) (λ c. search needs) returns)

@@ -18,9 +18,6 @@ module _ (c : tie.Start) where
   b-in : c .args .b < c .args .board .vertices
   b-in = omega (arith, c .pre .1 .1 .1, c .pre .0 .checked .lent .sized .roles)
 
-cell-bytes-requires : tie.Need-cell-bytes-requires
-cell-bytes-requires c κs = tt
-
 slice-aggregate-chains : tie.Need-slice-aggregate-chains
 slice-aggregate-chains c = sym (c .before .cell-bytes .ensures)
 
@@ -72,9 +69,6 @@ sub-delays-from c = let d = c .before .before in omega (arith, long d, start d .
 part-delays-from-start : tie.Need-part-delays-from-start
 part-delays-from-start c = let d = c .before .before in omega (arith, long d, start d .pre .1 .0)
 
-part-delays-from-end : tie.Need-part-delays-from-end
-part-delays-from-end c = omega arith
-
 delays-from-requires-2 : tie.Need-delays-from-requires-2
 delays-from-requires-2 c κs =
     let d = c .before .before .before in
@@ -97,9 +91,6 @@ outputs-difference-requires c κs =
     let k = c .before .before in
     both-vectors (s k .pre .0) (s k .args .a) (s k .args .b) (a-in (s k)) (b-in (s k)) (before (d k)) (first (d k)) (second k) (s k .pre .1 .0) (d k .delays-from .ensures) (k .delays-from2 .ensures)
 
-same-length : tie.Need-same-length
-same-length c = search needs
-
 returns : tie.Need-returns
 returns c =
     let k = c .before .before .before in (
@@ -112,7 +103,7 @@ pub rows-difference-spec : {M : Type 1} → statement M
 rows-difference-spec =
     tie.close
     (tie.spec
-    cell-bytes-requires
+    (λ c κs. tt)
     slice-aggregate-chains
     chains-requires
     slice-aggregate-delays-from
@@ -121,8 +112,8 @@ rows-difference-spec =
     mul-delays-from
     sub-delays-from
     part-delays-from-start
-    part-delays-from-end
+    (λ c. omega arith)
     delays-from-requires-2
     outputs-difference-requires
-    same-length
+    (λ c. search needs)
     returns)

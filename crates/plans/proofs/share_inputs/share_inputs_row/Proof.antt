@@ -12,9 +12,6 @@ use Rattle.plans.proofs.share_inputs.share_inputs_row.Tie as tie
 only-arc-requires : tie.Need-only-arc-requires
 only-arc-requires c κs = c .before .before .pre .1
 
-same-length : tie.Need-same-length
-same-length c = search needs
-
 returns : tie.Need-returns
 returns c =
     let i = c .before .before .before in
@@ -23,9 +20,6 @@ returns c =
 
 only-arc-requires-2 : tie.Need-only-arc-requires-2
 only-arc-requires-2 c κs = c .before .before .before .pre .1
-
-same-length-2 : tie.Need-same-length-2
-same-length-2 c = search needs
 
 returns-2 : tie.Need-returns-2
 returns-2 c =
@@ -37,9 +31,6 @@ returns-2 c =
 
 take-over-requires : tie.Need-take-over-requires
 take-over-requires c κs = c .before .before .before .before .pre .0
-
-same-length-3 : tie.Need-same-length-3
-same-length-3 c = search needs
 
 returns-3 : tie.Need-returns-3
 returns-3 c =
@@ -57,12 +48,12 @@ share-inputs-row-spec =
     tie.close
     (tie.spec
     only-arc-requires
-    same-length
+    (λ c. search needs)
     returns
     only-arc-requires-2
-    same-length-2
+    (λ c. search needs)
     returns-2
     take-over-requires
-    same-length-3
+    (λ c. search needs)
     returns-3
     returns-4)

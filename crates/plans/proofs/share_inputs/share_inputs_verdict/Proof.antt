@@ -19,9 +19,6 @@ use Rattle.plans.proofs.ShareConditions.{vectors-fit, two-inputs, input
 use Rattle.plans.proofs.share_inputs.share_inputs_verdict.Statement.{statement}
 use Rattle.plans.proofs.share_inputs.share_inputs_verdict.Tie as tie
 
-two-inputs-requires : tie.Need-two-inputs-requires
-two-inputs-requires c κs = tt
-
 returns : tie.Need-returns
 returns c =
     let s = c .before .before in
@@ -96,16 +93,10 @@ module _ (c : tie.After-rows-difference) where
   past : drop (scratchCells (N e)) (c .rows-difference .last .1 .1 .1 .0) ≡ drop (scratchCells (N e)) (start e .args .scratch .now)
   past = drop-further (N e + N e) (scratchCells (N e)) (start e .args .scratch .now) (c .rows-difference .last .1 .1 .1 .0) (fits e) (c .rows-difference .ensures .1)
 
-enum-known-found : tie.Need-enum-known-found
-enum-known-found c = search needs
-
 inputs-saved-requires : tie.Need-inputs-saved-requires
 inputs-saved-requires c κs =
     let i = e (c .before .before .before .before) in
     (start i .pre .0 .checked .lent, omega (arith, inputs i .1, start i .pre .0 .checked .lent .sized .roles))
-
-same-length : tie.Need-same-length
-same-length c = search needs
 
 -- the difference, as the code has it
 found-is : (c : tie.After-known-told) → toZ w64 (ofZ w64 (c .before .found .given .0 .0)) ≡ c .before .found .given .0 .0
@@ -121,12 +112,6 @@ returns-3 c =
       past d,
     )
 
-enum-told : tie.Need-enum-told
-enum-told c = search needs
-
-same-length-2 : tie.Need-same-length-2
-same-length-2 c = search needs
-
 returns-4 : tie.Need-returns-4
 returns-4 c =
     let d = c .before .before .before in
@@ -137,15 +122,15 @@ pub share-inputs-verdict-spec : {M : Type 1} → statement M
 share-inputs-verdict-spec =
     tie.close
     (tie.spec
-    two-inputs-requires
+    (λ c κs. tt)
     returns
     is-free-requires
     returns-2
     rows-difference-requires
-    enum-known-found
+    (λ c. search needs)
     inputs-saved-requires
-    same-length
+    (λ c. search needs)
     returns-3
-    enum-told
-    same-length-2
+    (λ c. search needs)
+    (λ c. search needs)
     returns-4)

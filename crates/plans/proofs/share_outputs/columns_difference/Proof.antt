@@ -33,9 +33,6 @@ Inv-compare board table list scratch₀ a b chain m seen₀ i₀ scratch s i =
 abbrev μ-compare : tie.MeasureT-compare
 μ-compare board table list scratch₀ a b chain m seen₀ i₀ scratch s i = m - i
 
-cell-bytes-requires : tie.Need-cell-bytes-requires Inv-compare μ-compare
-cell-bytes-requires c κs = tt
-
 slice-aggregate-chains : tie.Need-slice-aggregate-chains Inv-compare μ-compare
 slice-aggregate-chains c = sym (c .before .cell-bytes .ensures)
 
@@ -47,9 +44,6 @@ chains-requires c κs =
 
 compare-holds : tie.Need-compare-holds Inv-compare μ-compare
 compare-holds c = (omega arith, refl, refl, seen-none _ _)
-
-settle-requires : tie.Need-settle-requires Inv-compare μ-compare
-settle-requires c κs = tt
 
 -- a turn
 module _ (c : tie.Else1 Inv-compare μ-compare) where
@@ -137,15 +131,6 @@ seen-next-requires c κs =
     let s = start (turn d) in
     simp (a-is (c .before), b-is c) (near d (s .args .a) (s .pre .1 .1 .below-a), near d (s .args .b) (s .pre .1 .1 .below-b))
 
-enum-told : tie.Need-enum-told Inv-compare μ-compare
-enum-told c = search needs
-
-add-i : tie.Need-add-i Inv-compare μ-compare
-add-i c = omega arith
-
-compare-less : tie.Need-compare-less Inv-compare μ-compare
-compare-less c = omega arith
-
 -- what is seen after the turn
 turned : (c : tie.After-seen-next Inv-compare μ-compare) → let e = turn (c .before .before .before .before) in c .seen-next .result ≡ seen (i e + 1) (into (N e) (t e) (a e)) (into (N e) (t e) (b e))
 turned c =
@@ -200,11 +185,11 @@ columns-difference-spec =
     (tie.spec
     Inv-compare
     μ-compare
-    cell-bytes-requires
+    (λ c κs. tt)
     slice-aggregate-chains
     chains-requires
     compare-holds
-    settle-requires
+    (λ c κs. tt)
     slice-aggregate-delays-from
     delays-from-requires
     mul-seen-next
@@ -212,9 +197,9 @@ columns-difference-spec =
     mul-seen-next-2
     slice-copy-out-seen-next-2
     seen-next-requires
-    enum-told
-    add-i
-    compare-less
+    (λ c. search needs)
+    (λ c. omega arith)
+    (λ c. omega arith)
     compare-again
     same-length
     returns

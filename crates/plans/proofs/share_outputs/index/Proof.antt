@@ -3,17 +3,8 @@ use borrow.Author.Tests.{not-false}
 use Rattle.plans.proofs.share_outputs.index.Statement.{statement}
 use Rattle.plans.proofs.share_outputs.index.Tie as tie
 
-row-sets-requires : tie.Need-row-sets-requires
-row-sets-requires c κs = search needs
-
-same-length : tie.Need-same-length
-same-length c = search needs
-
-returns : tie.Need-returns
-returns c = search needs
-
 returns-2 : tie.Need-returns-2
 returns-2 c = c .before .before .pre .1 .sets (not-false _ (c .if1 .left))
 
 pub index-spec : {M : Type 1} → statement M
-index-spec = tie.close (tie.spec row-sets-requires same-length returns returns-2)
+index-spec = tie.close (tie.spec (λ c κs. search needs) (λ c. search needs) (λ c. search needs) returns-2)

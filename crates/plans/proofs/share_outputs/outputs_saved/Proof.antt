@@ -44,9 +44,6 @@ module _ (c : tie.Else2) where
   enough : leb 2 (fanIn (N start) (g start) (b start)) ≡ true
   enough = ap (leb 2) (sym (c .before .fan-in .ensures)) ∙ le-leb _ _ (c .if2 .left)
 
-in-range-requires : tie.Need-in-range-requires
-in-range-requires c κs = tt
-
 -- the difference, as the code has it
 said : (c : tie.After-in-range) → fits delayLimit (at (start (c .before) .args .e)) ≡ c .in-range .result
 said c = sym (c .in-range .ensures ∙ ap (λ (z : ℤ). fits delayLimit (at z)) (toZ-ofZ (start (c .before) .fits .e)))
@@ -62,4 +59,4 @@ returns-4 c a q =
     simp (sym q ∙ free e .if1 .left, enough e, said (c .before) ∙ not-false _ (c .if3 .left), toZ-ofZ {w = w64} (start e .fits .e))
 
 pub outputs-saved-spec : {M : Type 1} → statement M
-outputs-saved-spec = tie.close (tie.spec returns fan-in-requires returns-2 in-range-requires returns-3 returns-4)
+outputs-saved-spec = tie.close (tie.spec returns fan-in-requires returns-2 (λ c κs. tt) returns-3 returns-4)

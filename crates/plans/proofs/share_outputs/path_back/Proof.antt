@@ -65,9 +65,6 @@ mul-is-arc c = omega (arith, cell-in (c .before .before .before))
 shared-slice-copy-out-is-arc : tie.Need-shared-slice-copy-out-is-arc
 shared-slice-copy-out-is-arc c = cell-in (c .before .before .before)
 
-is-arc-requires : tie.Need-is-arc-requires
-is-arc-requires c κs = tt
-
 -- the arc b→a, as the code has it
 said : (c : tie.After-is-arc) → let s = c .before .before .before .before .before in present (g s (b s) (a s)) ≡ c .is-arc .result
 said c =
@@ -91,9 +88,6 @@ leads-requires c κs =
     let s = x .before .before .before .before .before .before .before .before in
     (s .pre .0 .checked .lent .sized .few, (s .pre .1 .0 .below-b, (s .pre .1 .0 .below-a, (g s, routed x))))
 
-same-length : tie.Need-same-length
-same-length c = search needs
-
 returns-3 : tie.Need-returns-3
 returns-3 c =
     let x = c .before .before .before .before in
@@ -109,9 +103,9 @@ path-back-spec =
     add-at
     mul-is-arc
     shared-slice-copy-out-is-arc
-    is-arc-requires
+    (λ c κs. tt)
     returns-2
     index-requires
     leads-requires
-    same-length
+    (λ c. search needs)
     returns-3)

@@ -8,29 +8,11 @@ use Rattle.plans.proofs.SharedRows.{outputs-stored}
 use Rattle.plans.proofs.share_outputs.share_outputs_row.Statement.{statement}
 use Rattle.plans.proofs.share_outputs.share_outputs_row.Tie as tie
 
-mul-e : tie.Need-mul-e
-mul-e c = search needs
-
-slice-set-from-e : tie.Need-slice-set-from-e
-slice-set-from-e c = search needs
-
-same-length : tie.Need-same-length
-same-length c = search needs
-
 returns : tie.Need-returns
 returns c =
     let s = c .before in
     outputs-stored (s .args .row .now) (s .args .a) (s .args .b) (s .args .e) (s .args .u) _ (s .pre)
     (toZ-ofZ (s .fits .e) ∙ sym (ap (λ (t : Bool). cond t (s .args .e) absentCell) (eq-eqb (s .args .u) (s .args .a) (c .if1 .taken))))
-
-mul-row : tie.Need-mul-row
-mul-row c = search needs
-
-slice-set-of-row : tie.Need-slice-set-of-row
-slice-set-of-row c = search needs
-
-same-length-2 : tie.Need-same-length-2
-same-length-2 c = search needs
 
 returns-2 : tie.Need-returns-2
 returns-2 c =
@@ -42,11 +24,11 @@ pub share-outputs-row-spec : {M : Type 1} → statement M
 share-outputs-row-spec =
     tie.close
     (tie.spec
-    mul-e
-    slice-set-from-e
-    same-length
+    (λ c. search needs)
+    (λ c. search needs)
+    (λ c. search needs)
     returns
-    mul-row
-    slice-set-of-row
-    same-length-2
+    (λ c. search needs)
+    (λ c. search needs)
+    (λ c. search needs)
     returns-2)

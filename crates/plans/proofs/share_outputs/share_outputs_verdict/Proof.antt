@@ -74,15 +74,9 @@ module _ (c : tie.After-columns-difference) where
   past : drop (scratchCells (N passed)) after ≡ drop (scratchCells (N passed)) (start passed .args .scratch .now)
   past = drop-further (N passed) (scratchCells (N passed)) (start passed .args .scratch .now) after (fits passed) (c .columns-difference .ensures .1)
 
-enum-known-found : tie.Need-enum-known-found
-enum-known-found c = search needs
-
 -- the difference, as the code has it
 e-is : (c : tie.After-known-told) → toZ w64 (ofZ w64 (c .before .found .given .0 .0)) ≡ c .before .found .given .0 .0
 e-is c = search needs
-
-words-requires : tie.Need-words-requires
-words-requires c κs = tt
 
 slice-aggregate-path-back : tie.Need-slice-aggregate-path-back
 slice-aggregate-path-back c = sym (c .before .words .ensures)
@@ -97,9 +91,6 @@ path-back-requires c κs =
 outputs-saved-requires : tie.Need-outputs-saved-requires
 outputs-saved-requires c κs = let e = passed (c .before .before .before .before .before .before .before .before) in (start e .pre .0 .checked .lent, outputs e .below-b)
 
-same-length : tie.Need-same-length
-same-length c = search needs
-
 returns-2 : tie.Need-returns-2
 returns-2 c =
     let x = c .before .before in
@@ -110,12 +101,6 @@ returns-2 c =
           ∙ outputs-common (board e .inputs) (board e .outputs) (N e) (a e) (b e) (g e) (right e) (d .columns-difference .result) (d .columns-difference .ensures .0) _ (k .before .found .given .1),
       past d,
     )
-
-enum-told : tie.Need-enum-told
-enum-told c = search needs
-
-same-length-2 : tie.Need-same-length-2
-same-length-2 c = search needs
 
 returns-3 : tie.Need-returns-3
 returns-3 c =
@@ -130,13 +115,13 @@ share-outputs-verdict-spec =
     two-outputs-requires
     returns
     columns-difference-requires
-    enum-known-found
-    words-requires
+    (λ c. search needs)
+    (λ c κs. tt)
     slice-aggregate-path-back
     path-back-requires
     outputs-saved-requires
-    same-length
+    (λ c. search needs)
     returns-2
-    enum-told
-    same-length-2
+    (λ c. search needs)
+    (λ c. search needs)
     returns-3)

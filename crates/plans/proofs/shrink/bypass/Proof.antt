@@ -41,9 +41,6 @@ module _ (c : tie.After-into) where
   into-is : toZ w32 (ofZ w32 (getD row k (pos 0))) ≡ getD row k (pos 0)
   into-is = back w32 _ (c .into .given)
 
-is-arc-requires : tie.Need-is-arc-requires
-is-arc-requires c κs = tt
-
 returns : tie.Need-returns
 returns c =
     let i = c .before .before in
@@ -58,9 +55,6 @@ mul-row c = let i = c .before .before .before .before .before in omega (arith, s
 slice-set-of-row : tie.Need-slice-set-of-row
 slice-set-of-row c = let i = c .before .before .before .before .before in omega (arith, start i .pre .inside)
 
-same-length : tie.Need-same-length
-same-length c = search needs
-
 returns-2 : tie.Need-returns-2
 returns-2 c =
     let i = c .before .before .before .before .before in
@@ -73,10 +67,10 @@ bypass-spec =
     (tie.spec
     mul-into
     slice-copy-out-into
-    is-arc-requires
+    (λ c κs. tt)
     returns
     join-row-requires
     mul-row
     slice-set-of-row
-    same-length
+    (λ c. search needs)
     returns-2)

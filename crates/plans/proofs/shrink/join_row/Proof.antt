@@ -28,18 +28,6 @@ abbrev μ-loop : tie.MeasureT-loop
 loop-holds : tie.Need-loop-holds Inv-loop μ-loop
 loop-holds c = (omega arith, refl, fill-none _ _)
 
-mul-join : tie.Need-mul-join Inv-loop μ-loop
-mul-join c = omega arith
-
-slice-copy-out-join : tie.Need-slice-copy-out-join Inv-loop μ-loop
-slice-copy-out-join c = omega arith
-
-mul-join-2 : tie.Need-mul-join-2 Inv-loop μ-loop
-mul-join-2 c = omega arith
-
-element-copy-out-join : tie.Need-element-copy-out-join Inv-loop μ-loop
-element-copy-out-join c = omega arith
-
 -- a turn, where its cells have been read
 module _ (c : tie.After-join-arg2 Inv-loop μ-loop) where
   abbrev loop : tie.At-loop Inv-loop μ-loop
@@ -74,18 +62,6 @@ join-requires c κs =
     simp (via-is c, toZ-ofZ {w = w32} (start c .fits .into))
     (every-at (length (old c)) (λ t. fits delayLimit (readCell absentCell (start c .args .into) ⊕ cellAt (via c) t)) (start c .pre .1) (t c) (omega arith))
 
-mul-t14 : tie.Need-mul-t14 Inv-loop μ-loop
-mul-t14 c = omega arith
-
-slice-set-from-row : tie.Need-slice-set-from-row Inv-loop μ-loop
-slice-set-from-row c = omega arith
-
-add-t : tie.Need-add-t Inv-loop μ-loop
-add-t c = omega arith
-
-loop-less : tie.Need-loop-less Inv-loop μ-loop
-loop-less c = omega arith
-
 -- the cell that the call gives
 given : (c : tie.After-join Inv-loop μ-loop) → let a = c .before in toZ w32 (ofZ w32 (c .join .result)) ≡ joinedCell (old a) (via a) (readCell absentCell (into a)) (t a)
 given c =
@@ -115,15 +91,15 @@ join-row-spec =
     Inv-loop
     μ-loop
     loop-holds
-    mul-join
-    slice-copy-out-join
-    mul-join-2
-    element-copy-out-join
+    (λ c. omega arith)
+    (λ c. omega arith)
+    (λ c. omega arith)
+    (λ c. omega arith)
     join-requires
-    mul-t14
-    slice-set-from-row
-    add-t
-    loop-less
+    (λ c. omega arith)
+    (λ c. omega arith)
+    (λ c. omega arith)
+    (λ c. omega arith)
     loop-again
     same-length
     returns)

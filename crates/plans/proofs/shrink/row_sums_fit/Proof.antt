@@ -31,9 +31,6 @@ Inv-loop into via n t₀ t = (t ≤ n) × (every t (right (toZ w32 into) via) �
 abbrev μ-loop : tie.MeasureT-loop
 μ-loop into via n t₀ t = n - t
 
-is-arc-requires : tie.Need-is-arc-requires Inv-loop μ-loop
-is-arc-requires c κs = tt
-
 returns : tie.Need-returns Inv-loop μ-loop
 returns c =
     let s = c .before .before in
@@ -42,15 +39,6 @@ returns c =
 
 loop-holds : tie.Need-loop-holds Inv-loop μ-loop
 loop-holds c = (omega arith, every-none _)
-
-mul-sum-fits : tie.Need-mul-sum-fits Inv-loop μ-loop
-mul-sum-fits c = omega arith
-
-shared-slice-copy-out-sum-fits : tie.Need-shared-slice-copy-out-sum-fits Inv-loop μ-loop
-shared-slice-copy-out-sum-fits c = omega arith
-
-sum-fits-requires : tie.Need-sum-fits-requires Inv-loop μ-loop
-sum-fits-requires c κs = tt
 
 -- a turn's sum, with the number as the loop carries it
 said : (c : tie.After-sum-fits Inv-loop μ-loop) → let l = c .before .before .before in let s = l .before .before .before in right (toZ w32 (ofZ w32 (s .args .into))) (s .args .via .now) (l .loop .t) ≡ c .sum-fits .result
@@ -61,12 +49,6 @@ returns-2 c =
     let l = c .before .before .before .before in
     let s = l .before .before .before in
     sym (every-broken (s .args .n) (right (s .args .into) (s .args .via .now)) (l .loop .t) (omega arith) (rw (toZ-ofZ {w = w32} (s .fits .into)) at (said (c .before)) ∙ not-true _ (c .if2 .taken)))
-
-add-t : tie.Need-add-t Inv-loop μ-loop
-add-t c = omega arith
-
-loop-less : tie.Need-loop-less Inv-loop μ-loop
-loop-less c = omega arith
 
 loop-again : tie.Need-loop-again Inv-loop μ-loop
 loop-again c = (omega arith, every-more _ _ (c .before .before .before .before .loop .inv .1) (said (c .before) ∙ not-false _ (c .if2 .left)))
@@ -83,14 +65,14 @@ row-sums-fit-spec =
     (tie.spec
     Inv-loop
     μ-loop
-    is-arc-requires
+    (λ c κs. tt)
     returns
     loop-holds
-    mul-sum-fits
-    shared-slice-copy-out-sum-fits
-    sum-fits-requires
+    (λ c. omega arith)
+    (λ c. omega arith)
+    (λ c κs. tt)
     returns-2
-    add-t
-    loop-less
+    (λ c. omega arith)
+    (λ c. omega arith)
     loop-again
     returns-3)

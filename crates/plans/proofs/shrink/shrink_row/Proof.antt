@@ -4,12 +4,6 @@ use Rattle.plans.proofs.ShrunkRows.{own-row, other-row}
 use Rattle.plans.proofs.shrink.shrink_row.Statement.{statement}
 use Rattle.plans.proofs.shrink.shrink_row.Tie as tie
 
-clear-requires : tie.Need-clear-requires
-clear-requires c κs = tt
-
-same-length : tie.Need-same-length
-same-length c = search needs
-
 returns : tie.Need-returns
 returns c =
     let t = c .before .before .before in
@@ -19,9 +13,6 @@ returns c =
 bypass-requires : tie.Need-bypass-requires
 bypass-requires c κs = c .before .before .pre
 
-same-length-2 : tie.Need-same-length-2
-same-length-2 c = search needs
-
 returns-2 : tie.Need-returns-2
 returns-2 c =
     let t = c .before .before .before in
@@ -30,4 +21,4 @@ returns-2 c =
 
 pub shrink-row-spec : {M : Type 1} → statement M
 shrink-row-spec =
-    tie.close (tie.spec clear-requires same-length returns bypass-requires same-length-2 returns-2)
+    tie.close (tie.spec (λ c κs. tt) (λ c. search needs) returns bypass-requires (λ c. search needs) returns-2)

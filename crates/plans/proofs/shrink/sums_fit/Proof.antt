@@ -76,9 +76,6 @@ sub-row-sums-fit c = let i = c .before in omega (arith, row-k i, start i .pre .0
 part-row-sums-fit-start : tie.Need-part-row-sums-fit-start Inv-loop μ-loop
 part-row-sums-fit-start c = let i = c .before in omega (arith, row-k i, start i .pre .0 .room)
 
-part-row-sums-fit-end : tie.Need-part-row-sums-fit-end Inv-loop μ-loop
-part-row-sums-fit-end c = omega arith
-
 row-sums-fit-requires : tie.Need-row-sums-fit-requires Inv-loop μ-loop
 row-sums-fit-requires c κs = let i = c .before .before in omega (arith, lent-long (n i) (t i) (k i) (start i .pre .0 .room) (start i .pre .1))
 
@@ -92,12 +89,6 @@ said c =
 
 returns : tie.Need-returns Inv-loop μ-loop
 returns c = let i = c .before .before .before .before in sym (every-broken _ _ (u i) (i .loop-test .taken) (said (c .before) ∙ not-true _ (c .if1 .taken)))
-
-add-u : tie.Need-add-u Inv-loop μ-loop
-add-u c = omega arith
-
-loop-less : tie.Need-loop-less Inv-loop μ-loop
-loop-less c = omega arith
 
 loop-again : tie.Need-loop-again Inv-loop μ-loop
 loop-again c = let i = c .before .before .before .before in (omega (arith, i .loop-test .taken), every-more _ _ (i .before .loop .inv .1) (said (c .before) ∙ not-false _ (c .if1 .left)))
@@ -122,10 +113,10 @@ sums-fit-spec =
     mul-row-sums-fit-2
     sub-row-sums-fit
     part-row-sums-fit-start
-    part-row-sums-fit-end
+    (λ c. omega arith)
     row-sums-fit-requires
     returns
-    add-u
-    loop-less
+    (λ c. omega arith)
+    (λ c. omega arith)
     loop-again
     returns-2)

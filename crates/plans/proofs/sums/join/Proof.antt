@@ -12,9 +12,6 @@ use Rattle.plans.proofs.sums.join.Tie as tie
 sum-requires : tie.Need-sum-requires
 sum-requires c κs = simp (toZ-ofZ {w = w32} (c .fits .a), toZ-ofZ {w = w32} (c .fits .b)) (c .pre)
 
-larger-requires : tie.Need-larger-requires
-larger-requires c κs = tt
-
 returns : tie.Need-returns
 returns c =
     let s = c .before .before in
@@ -24,4 +21,4 @@ returns c =
     ∙ ap₂ (λ (x y : ℤ). readCell absentCell x ⊕ readCell absentCell y) (toZ-ofZ (s .fits .a)) (toZ-ofZ (s .fits .b)))
 
 pub join-spec : {M : Type 1} → statement M
-join-spec = tie.close (tie.spec sum-requires larger-requires returns)
+join-spec = tie.close (tie.spec sum-requires (λ c κs. tt) returns)

@@ -15,16 +15,10 @@ use Rattle.plans.proofs.SumCells.{arc-said, sum-absent-l, sum-absent-r,
 use Rattle.plans.proofs.sums.sum.Statement.{statement}
 use Rattle.plans.proofs.sums.sum.Tie as tie
 
-is-arc-requires : tie.Need-is-arc-requires
-is-arc-requires c κs = tt
-
 returns : tie.Need-returns
 returns c =
     let s = c .before .before in
     read-absent absentCell absentCell refl ∙ sym (sum-absent-l (s .args .a) (s .args .b) (arc-said (s .fits .a) (c .before .is-arc .ensures) ∙ not-true _ (c .if1 .taken)))
-
-is-arc-requires-2 : tie.Need-is-arc-requires-2
-is-arc-requires-2 c κs = tt
 
 returns-2 : tie.Need-returns-2
 returns-2 c =
@@ -61,4 +55,4 @@ returns-3 c =
 
 pub sum-spec : {M : Type 1} → statement M
 sum-spec =
-    tie.close (tie.spec is-arc-requires returns is-arc-requires-2 returns-2 add-result returns-3)
+    tie.close (tie.spec (λ c κs. tt) returns (λ c κs. tt) returns-2 add-result returns-3)

@@ -8,12 +8,6 @@ use Rattle.plans.proofs.SumCells.{sum-widens}
 use Rattle.plans.proofs.sums.wide_sum.Statement.{statement}
 use Rattle.plans.proofs.sums.wide_sum.Tie as tie
 
-wide-requires : tie.Need-wide-requires
-wide-requires c κs = tt
-
-wide-requires-2 : tie.Need-wide-requires-2
-wide-requires-2 c κs = tt
-
 -- the two numbers as the sum reads them
 parts : (c : tie.After-wide2) → let s = c .before .before in toZ w64 (ofZ w64 (c .before .wide .result)) +ℤ toZ w64 (ofZ w64 (c .wide2 .result)) ≡ s .args .a +ℤ s .args .b
 parts c =
@@ -28,4 +22,4 @@ returns : tie.Need-returns
 returns c = let s = c .before .before in handed w64 (parts c) (sum-widens (s .fits .a) (s .fits .b))
 
 pub wide-sum-spec : {M : Type 1} → statement M
-wide-sum-spec = tie.close (tie.spec wide-requires wide-requires-2 add-result returns)
+wide-sum-spec = tie.close (tie.spec (λ c κs. tt) (λ c κs. tt) add-result returns)

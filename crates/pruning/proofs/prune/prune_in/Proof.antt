@@ -41,15 +41,6 @@ marked-of c = c .before .before .before .before .before .before
 some-unmarked-requires : tie.Need-some-unmarked-requires
 some-unmarked-requires c κs = let k = c .before .before .before .before .before in (s k .pre .0 .checked .lent, room k)
 
-same-length : tie.Need-same-length
-same-length c = search needs
-
-same-length-2 : tie.Need-same-length-2
-same-length-2 c = search needs
-
-same-length-3 : tie.Need-same-length-3
-same-length-3 c = search needs
-
 -- prune's plan, from its verdict
 abbrev kept : tie.Start → Unit {0} → Graph
 kept s _ = pruned (s .args .board .inputs) (s .args .board .outputs) (s .args .board .vertices) (graphOf (s .args .board .vertices) (s .args .table .now))
@@ -65,15 +56,6 @@ returns c =
 
 thin-requires : tie.Need-thin-requires
 thin-requires c κs = let k = marked-of (c .before .before .before) in (s k .pre .0 .checked .lent, room k)
-
-same-length-4 : tie.Need-same-length-4
-same-length-4 c = search needs
-
-same-length-5 : tie.Need-same-length-5
-same-length-5 c = search needs
-
-same-length-6 : tie.Need-same-length-6
-same-length-6 c = search needs
 
 returns-2 : tie.Need-returns-2
 unfolding plan
@@ -92,12 +74,12 @@ prune-in-spec =
     (tie.spec
     prune-marks-requires
     some-unmarked-requires
-    same-length
-    same-length-2
-    same-length-3
+    (λ c. search needs)
+    (λ c. search needs)
+    (λ c. search needs)
     returns
     thin-requires
-    same-length-4
-    same-length-5
-    same-length-6
+    (λ c. search needs)
+    (λ c. search needs)
+    (λ c. search needs)
     returns-2)

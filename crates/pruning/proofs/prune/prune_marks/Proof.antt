@@ -16,9 +16,6 @@ Inv-loop board table list scratch₀ marks₀ chain m i₀ scratch marks i =
 abbrev μ-loop : tie.MeasureT-loop
 μ-loop board table list scratch₀ marks₀ chain m i₀ scratch marks i = m - i
 
-cell-bytes-requires : tie.Need-cell-bytes-requires Inv-loop μ-loop
-cell-bytes-requires c κs = tt
-
 slice-aggregate-chains : tie.Need-slice-aggregate-chains Inv-loop μ-loop
 slice-aggregate-chains c = sym (c .before .cell-bytes .ensures)
 
@@ -96,7 +93,7 @@ prune-marks-spec =
     (tie.spec
     Inv-loop
     μ-loop
-    cell-bytes-requires
+    (λ c κs. tt)
     slice-aggregate-chains
     chains-requires
     loop-holds

@@ -5,16 +5,10 @@ use mir.Facts.{toZ-ofZ}
 use Rattle.records.proofs.lines.arc_line.Statement.{statement}
 use Rattle.records.proofs.lines.arc_line.Tie as tie
 
-slice-aggregate-triple-line : tie.Need-slice-aggregate-triple-line
-slice-aggregate-triple-line c = search needs
-
 triple-line-requires : tie.Need-triple-line-requires
 triple-line-requires c κs =
     let s = c .before .before .before in
     simp (toZ-ofZ {w = w32} (s .fits .delay)) (omega (arith, s .pre .0), (omega (arith, s .pre .1 .0), s .pre .1 .1))
-
-same-length : tie.Need-same-length
-same-length c = search needs
 
 returns : tie.Need-returns
 returns c =
@@ -23,4 +17,4 @@ returns c =
     rw (toZ-ofZ {w = w32} (s .fits .delay)) at (l .triple-line .ensures)
 
 pub arc-line-spec : {M : Type 1} → statement M
-arc-line-spec = tie.close (tie.spec slice-aggregate-triple-line triple-line-requires same-length returns)
+arc-line-spec = tie.close (tie.spec (λ c. search needs) triple-line-requires (λ c. search needs) returns)

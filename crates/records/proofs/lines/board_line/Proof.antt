@@ -14,19 +14,10 @@ use Rattle.records.proofs.lines.board_line.Tie as tie
 held : (s : tie.Start) → toZ w32 (s .args .vertices) ≡ pos (s .args .vertices)
 held s = toZ-pos w32 (omega (arith, s .pre .1 .1 .0))
 
-slice-aggregate-triple-line : tie.Need-slice-aggregate-triple-line
-slice-aggregate-triple-line c = search needs
-
-cast-triple-line : tie.Need-cast-triple-line
-cast-triple-line c = search needs
-
 triple-line-requires : tie.Need-triple-line-requires
 triple-line-requires c κs =
     let s = c .before .before .before in
     simp (held s) (omega (arith, s .pre .0), (omega (arith, s .pre .1 .0), (le→leb (s .args .vertices) delayLimit (omega (arith, s .pre .1 .1 .0)), s .pre .1 .1 .1)))
-
-same-length : tie.Need-same-length
-same-length c = search needs
 
 returns : tie.Need-returns
 returns c =
@@ -38,8 +29,8 @@ pub board-line-spec : {M : Type 1} → statement M
 board-line-spec =
     tie.close
     (tie.spec
-    slice-aggregate-triple-line
-    cast-triple-line
+    (λ c. search needs)
+    (λ c. search needs)
     triple-line-requires
-    same-length
+    (λ c. search needs)
     returns)

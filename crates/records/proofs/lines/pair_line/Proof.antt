@@ -78,9 +78,6 @@ put-number-requires-2 c κs = let t = c .before .before .before in (s (a (b t)) 
 put-byte-requires-2 : tie.Need-put-byte-requires-2
 put-byte-requires-2 c κs = let t = c .before .before .before in omega (arith, end-fits (left-none t) (s (a (b (d t))) .pre .1 .1))
 
-same-length : tie.Need-same-length
-same-length c = search needs
-
 returns : tie.Need-returns
 returns c = let end = c .before .before in line-end (left-none (end .before .before .before .before)) (end .put-byte2 .ensures)
 
@@ -94,5 +91,5 @@ pair-line-spec =
     put-text-requires-2
     put-number-requires-2
     put-byte-requires-2
-    same-length
+    (λ c. search needs)
     returns)

@@ -23,9 +23,6 @@ loop-holds c = let x = c .before .before .args .x in (digitsOf x, power-of (c .t
 div-digit : tie.Need-div-digit Inv-loop μ-loop
 div-digit c = c .before .loop-test .taken
 
-digit-requires : tie.Need-digit-requires Inv-loop μ-loop
-digit-requires c κs = omega arith
-
 -- in a turn
 module _ (i : tie.In-loop Inv-loop μ-loop) where
   abbrev loop : tie.At-loop Inv-loop μ-loop
@@ -85,7 +82,7 @@ put-decimal-spec =
     top-power-requires
     loop-holds
     div-digit
-    digit-requires
+    (λ c κs. omega arith)
     put-byte-requires
     loop-less
     loop-again

@@ -35,9 +35,6 @@ put-byte-requires c κs =
     let b = signed (c .before) in
     omega (arith, s .pre .1, ap length (minus (d s) (b .k + 1) (b .value) (omega arith)))
 
-negated-requires : tie.Need-negated-requires
-negated-requires c κs = search needs
-
 module _ (c : tie.After-negated) where
   abbrev sign : tie.After-put-byte
   sign = c .before .before .before .before
@@ -50,9 +47,6 @@ module _ (c : tie.After-negated) where
 
 put-decimal-requires : tie.Need-put-decimal-requires
 put-decimal-requires c κs = (c .negated .ensures .2, omega (arith, start c .pre .1, ap length (printed c), sign c .put-byte .ensures .end, sign c .put-byte .kept .0))
-
-same-length : tie.Need-same-length
-same-length c = search needs
 
 returns : tie.Need-returns
 returns c =
@@ -69,9 +63,6 @@ put-decimal-requires-2 c κs =
     let u = unsigned (c .before) in
     simp (held s) (u .small, omega (arith, s .pre .1, ap length (u .plain)))
 
-same-length-2 : tie.Need-same-length-2
-same-length-2 c = search needs
-
 returns-2 : tie.Need-returns-2
 returns-2 c =
     let digits = c .before .before in
@@ -83,11 +74,11 @@ put-delay-spec =
     tie.close
     (tie.spec
     put-byte-requires
-    negated-requires
+    (λ c κs. search needs)
     put-decimal-requires
-    same-length
+    (λ c. search needs)
     returns
     cast-put-decimal
     put-decimal-requires-2
-    same-length-2
+    (λ c. search needs)
     returns-2)

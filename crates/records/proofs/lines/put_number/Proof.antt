@@ -3,17 +3,8 @@ use Rattle.records.proofs.Appending.{appends-more}
 use Rattle.records.proofs.lines.put_number.Statement.{statement}
 use Rattle.records.proofs.lines.put_number.Tie as tie
 
-put-byte-requires : tie.Need-put-byte-requires
-put-byte-requires c κs = search needs
-
-put-decimal-requires : tie.Need-put-decimal-requires
-put-decimal-requires c κs = search needs
-
-same-length : tie.Need-same-length
-same-length c = search needs
-
 returns : tie.Need-returns
 returns c = let d = c .before .before in appends-more (d .before .before .before .before .put-byte .ensures) (d .put-decimal .ensures)
 
 pub put-number-spec : {M : Type 1} → statement M
-put-number-spec = tie.close (tie.spec put-byte-requires put-decimal-requires same-length returns)
+put-number-spec = tie.close (tie.spec (λ c κs. search needs) (λ c κs. search needs) (λ c. search needs) returns)

@@ -43,12 +43,6 @@ put-byte-requires c κs =
     let room = remains-fits (head t .loop .inv .1) (s t .pre) (getD (text t) (i t) 0 ∷ []) (drop (i t + 1) (text t)) (next-left t) in
     omega (arith, room)
 
-add-i : tie.Need-add-i Inv-loop μ-loop
-add-i c = omega arith
-
-loop-less : tie.Need-loop-less Inv-loop μ-loop
-loop-less c = omega arith
-
 loop-again : tie.Need-loop-again Inv-loop μ-loop
 loop-again c =
     let p = c .before .before in
@@ -72,8 +66,8 @@ put-text-spec =
     loop-holds
     shared-slice-read-put-byte
     put-byte-requires
-    add-i
-    loop-less
+    (λ c. omega arith)
+    (λ c. omega arith)
     loop-again
     same-length
     returns)

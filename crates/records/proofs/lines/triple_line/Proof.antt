@@ -88,9 +88,6 @@ put-delay-requires c κs =
 put-byte-requires-2 : tie.Need-put-byte-requires-2
 put-byte-requires-2 c κs = let t = c .before .before .before in omega (arith, end-fits (left-none t) (s (a (b (d t))) .pre .1 .1 .1))
 
-same-length : tie.Need-same-length
-same-length c = search needs
-
 returns : tie.Need-returns
 returns c = let end = c .before .before in line-end (left-none (end .before .before .before .before)) (end .put-byte2 .ensures)
 
@@ -104,5 +101,5 @@ triple-line-spec =
     put-byte-requires
     put-delay-requires
     put-byte-requires-2
-    same-length
+    (λ c. search needs)
     returns)

@@ -22,20 +22,8 @@ use Rattle.records.proofs.Ends.{ends-legal, arc-is}
 use Rattle.records.proofs.parse.arc_at.Statement.{statement}
 use Rattle.records.proofs.parse.arc_at.Tie as tie
 
-ends-at-requires : tie.Need-ends-at-requires
-ends-at-requires c κs = search needs
-
-enum-known-ends : tie.Need-enum-known-ends
-enum-known-ends c = search needs
-
-add-decode : tie.Need-add-decode
-add-decode c = search needs
-
 decode-requires : tie.Need-decode-requires
 decode-requires c κs = let o = c .before in search (needs, ends-legal _ _ _ 8 _ _ (said endsMeaning (o .before .before .ends-at .ensures) (o .ends .given .1)) .0)
-
-in-range-requires : tie.Need-in-range-requires
-in-range-requires c κs = search needs
 
 -- both ends are vertices, and the delay is handed on as its bits
 module _ (r : tie.After-in-range) where
@@ -72,9 +60,6 @@ returns t = sym (arc (t .before) false (not-true _ (t .if1 .taken)))
 narrow-requires : tie.Need-narrow-requires
 narrow-requires e κs = true-is (sym (e .before .in-range .ensures) ∙ not-false _ (e .if1 .left))
 
-enum-known-ends-2 : tie.Need-enum-known-ends-2
-enum-known-ends-2 c = search needs
-
 returns-2 : tie.Need-returns-2
 returns-2 a =
     let r = a .before .before in
@@ -88,13 +73,13 @@ pub arc-at-spec : {M : Type 1} → statement M
 arc-at-spec =
     tie.close
     (tie.spec
-    ends-at-requires
-    enum-known-ends
-    add-decode
+    (λ c κs. search needs)
+    (λ c. search needs)
+    (λ c. search needs)
     decode-requires
-    in-range-requires
+    (λ c κs. search needs)
     returns
     narrow-requires
-    enum-known-ends-2
+    (λ c. search needs)
     returns-2
     returns-3)

@@ -15,29 +15,8 @@ use Rattle.records.proofs.Ends.{ends-legal, cell-is}
 use Rattle.records.proofs.parse.cell_at.Statement.{statement}
 use Rattle.records.proofs.parse.cell_at.Tie as tie
 
-ends-at-requires : tie.Need-ends-at-requires
-ends-at-requires c κs = search needs
-
-enum-known-ends : tie.Need-enum-known-ends
-enum-known-ends c = search needs
-
-add-code : tie.Need-add-code
-add-code c = search needs
-
 shared-slice-read-code : tie.Need-shared-slice-read-code
 shared-slice-read-code c = let o = c .before .before in omega (arith, ends-legal _ _ _ 5 _ _ (said endsMeaning (o .before .before .ends-at .ensures) (o .ends .given .1)) .0)
-
-cell-ticks-requires : tie.Need-cell-ticks-requires
-cell-ticks-requires c κs = search needs
-
-enum-told : tie.Need-enum-told
-enum-told c = search needs
-
-enum-known-ticks : tie.Need-enum-known-ticks
-enum-known-ticks c = search needs
-
-enum-known-ends-2 : tie.Need-enum-known-ends-2
-enum-known-ends-2 c = search needs
 
 -- both ends are vertices
 module _ (t : tie.After-cell-ticks) where
@@ -69,14 +48,14 @@ pub cell-at-spec : {M : Type 1} → statement M
 cell-at-spec =
     tie.close
     (tie.spec
-    ends-at-requires
-    enum-known-ends
-    add-code
+    (λ c κs. search needs)
+    (λ c. search needs)
+    (λ c. search needs)
     shared-slice-read-code
-    cell-ticks-requires
-    enum-told
-    enum-known-ticks
-    enum-known-ends-2
+    (λ c κs. search needs)
+    (λ c. search needs)
+    (λ c. search needs)
+    (λ c. search needs)
     returns
     returns-2
     returns-3)

@@ -9,17 +9,8 @@ use Rattle.format.specs.declared.Record.the-variants as R
 use Rattle.records.proofs.parse.end_at.Statement.{statement}
 use Rattle.records.proofs.parse.end_at.Tie as tie
 
-sub-if1 : tie.Need-sub-if1
-sub-if1 c = search needs
-
 returns : tie.Need-returns
 returns c n = let a = c .before .before .args in simp (lt-leb (a .at + 4) (length (a .bytes .now)) (omega arith))
-
-add-number : tie.Need-add-number
-add-number c = search needs
-
-number-requires : tie.Need-number-requires
-number-requires c κs = search needs
 
 returns-2 : tie.Need-returns-2
 returns-2 c n =
@@ -27,4 +18,4 @@ returns-2 c n =
     simp (le-leb (a .at + 4) (length (a .bytes .now)) (omega arith)) (ap (λ (x : ℕ). accepted (R.End x)) (c .number .ensures))
 
 pub end-at-spec : {M : Type 1} → statement M
-end-at-spec = tie.close (tie.spec sub-if1 returns add-number number-requires returns-2)
+end-at-spec = tie.close (tie.spec (λ c. search needs) returns (λ c. search needs) (λ c κs. search needs) returns-2)

@@ -11,27 +11,9 @@ use Rattle.records.specs.Records.{endsOf}
 use Rattle.records.proofs.parse.ends_at.Statement.{statement}
 use Rattle.records.proofs.parse.ends_at.Tie as tie
 
-sub-if1 : tie.Need-sub-if1
-sub-if1 c = search needs
-
 returns : tie.Need-returns
 unfolding endsOf
 returns c = let a = c .before .before .args in simp (lt-leb (a .at + a .size) (length (a .bytes .now)) (omega arith))
-
-add-byte : tie.Need-add-byte
-add-byte c = search needs
-
-byte-requires : tie.Need-byte-requires
-byte-requires c κs = search needs
-
-add-byte-2 : tie.Need-add-byte-2
-add-byte-2 c = search needs
-
-byte-requires-2 : tie.Need-byte-requires-2
-byte-requires-2 c κs = search needs
-
-vertices-requires : tie.Need-vertices-requires
-vertices-requires c κs = search needs
 
 -- the record is all there, and its ends are asked
 module _ (v : tie.After-vertices) where
@@ -59,12 +41,12 @@ pub ends-at-spec : {M : Type 1} → statement M
 ends-at-spec =
     tie.close
     (tie.spec
-    sub-if1
+    (λ c. search needs)
     returns
-    add-byte
-    byte-requires
-    add-byte-2
-    byte-requires-2
-    vertices-requires
+    (λ c. search needs)
+    (λ c κs. search needs)
+    (λ c. search needs)
+    (λ c κs. search needs)
+    (λ c κs. search needs)
     returns-2
     returns-3)

@@ -5,15 +5,9 @@ use Rattle.format.specs.Records.{letters, markAt}
 use Rattle.records.proofs.parse.mark_at.Statement.{statement}
 use Rattle.records.proofs.parse.mark_at.Tie as tie
 
-letters-requires : tie.Need-letters-requires
-letters-requires c κs = search needs
-
 returns : tie.Need-returns
 unfolding markAt
 returns c = simp (sym (c .before .letters .ensures) ∙ c .if1 .taken)
-
-letters-requires-2 : tie.Need-letters-requires-2
-letters-requires-2 c κs = search needs
 
 no-board : (c : tie.Else1) → let a = c .before .before .before .args in letters 66 68 (a .bytes .now) (a .at) ≡ false
 no-board c = sym (c .before .letters .ensures) ∙ c .if1 .left
@@ -21,9 +15,6 @@ no-board c = sym (c .before .letters .ensures) ∙ c .if1 .left
 returns-2 : tie.Need-returns-2
 unfolding markAt
 returns-2 c = simp (no-board (c .before .before), sym (c .before .letters2 .ensures) ∙ c .if2 .taken)
-
-letters-requires-3 : tie.Need-letters-requires-3
-letters-requires-3 c κs = search needs
 
 no-arc : (c : tie.Else2) → let a = c .before .before .before .before .before .args in letters 65 82 (a .bytes .now) (a .at) ≡ false
 no-arc c = sym (c .before .letters2 .ensures) ∙ c .if2 .left
@@ -33,9 +24,6 @@ unfolding markAt
 returns-3 c =
     let e = c .before .before in
     simp (no-board (e .before .before), no-arc e, sym (c .before .letters3 .ensures) ∙ c .if3 .taken)
-
-letters-requires-4 : tie.Need-letters-requires-4
-letters-requires-4 c κs = search needs
 
 no-cell : (c : tie.Else3) → let a = c .before .before .before .before .before .before .before .args in letters 67 69 (a .bytes .now) (a .at) ≡ false
 no-cell c = sym (c .before .letters3 .ensures) ∙ c .if3 .left
@@ -58,12 +46,12 @@ pub mark-at-spec : {M : Type 1} → statement M
 mark-at-spec =
     tie.close
     (tie.spec
-    letters-requires
+    (λ c κs. search needs)
     returns
-    letters-requires-2
+    (λ c κs. search needs)
     returns-2
-    letters-requires-3
+    (λ c κs. search needs)
     returns-3
-    letters-requires-4
+    (λ c κs. search needs)
     returns-4
     returns-5)

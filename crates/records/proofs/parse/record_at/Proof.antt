@@ -10,39 +10,9 @@ use Rattle.format.specs.Records.{body, recordAt}
 use Rattle.records.proofs.parse.record_at.Statement.{statement}
 use Rattle.records.proofs.parse.record_at.Tie as tie
 
-sub-if1 : tie.Need-sub-if1
-sub-if1 c = search needs
-
 returns : tie.Need-returns
 unfolding recordAt
 returns c = let a = c .before .before .args in simp (lt-leb (a .at + 2) (length (a .bytes .now)) (omega arith))
-
-mark-at-requires : tie.Need-mark-at-requires
-mark-at-requires c κs = search needs
-
-enum-told : tie.Need-enum-told
-enum-told c = search needs
-
-enum-told-2 : tie.Need-enum-told-2
-enum-told-2 c = search needs
-
-arc-at-requires : tie.Need-arc-at-requires
-arc-at-requires c κs = search needs
-
-enum-told-3 : tie.Need-enum-told-3
-enum-told-3 c = search needs
-
-cell-at-requires : tie.Need-cell-at-requires
-cell-at-requires c κs = search needs
-
-enum-told-4 : tie.Need-enum-told-4
-enum-told-4 c = search needs
-
-end-at-requires : tie.Need-end-at-requires
-end-at-requires c κs = search needs
-
-enum-told-5 : tie.Need-enum-told-5
-enum-told-5 c = search needs
 
 -- the mark is all there, and known
 module _ (m : tie.After-mark-at) where
@@ -81,17 +51,17 @@ pub record-at-spec : {M : Type 1} → statement M
 record-at-spec =
     tie.close
     (tie.spec
-    sub-if1
+    (λ c. search needs)
     returns
-    mark-at-requires
-    enum-told
-    enum-told-2
-    arc-at-requires
-    enum-told-3
-    cell-at-requires
-    enum-told-4
-    end-at-requires
-    enum-told-5
+    (λ c κs. search needs)
+    (λ c. search needs)
+    (λ c. search needs)
+    (λ c κs. search needs)
+    (λ c. search needs)
+    (λ c κs. search needs)
+    (λ c. search needs)
+    (λ c κs. search needs)
+    (λ c. search needs)
     returns-2
     returns-3
     returns-4

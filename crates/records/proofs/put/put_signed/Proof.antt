@@ -11,15 +11,6 @@ use Rattle.records.proofs.Appending.{appends-number}
 use Rattle.records.proofs.put.put_signed.Statement.{statement}
 use Rattle.records.proofs.put.put_signed.Tie as tie
 
-encode-requires : tie.Need-encode-requires
-encode-requires c κs = search needs
-
-add-result : tie.Need-add-result
-add-result c = search needs
-
-same-length : tie.Need-same-length
-same-length c = search needs
-
 returns : tie.Need-returns
 returns c =
     let a = c .before .before in
@@ -28,4 +19,4 @@ returns c =
     subst (λ (z : ℤ). Appends (tabulate w (byteOf (pattern w z))) (s .args .out .now) (s .args .at) (a .encode .last .0) (s .args .at + w)) (toZ-ofZ {w = w64} (s .fits .x)) (appends-number _ _ _ _ _ (a .encode .ensures))
 
 pub put-signed-spec : {M : Type 1} → statement M
-put-signed-spec = tie.close (tie.spec encode-requires add-result same-length returns)
+put-signed-spec = tie.close (tie.spec (λ c κs. search needs) (λ c. search needs) (λ c. search needs) returns)

@@ -29,9 +29,6 @@ Inv-loop board table₀ list₀ scratch₀ matrix steps₀ more₀ sorted₀ tab
 abbrev μ-loop : tie.MeasureT-loop
 μ-loop board table₀ list₀ scratch₀ matrix steps₀ more₀ sorted₀ table list scratch steps more sorted = roundsLeft (board .vertices) more table
 
-slice-aggregate-fill-matrix : tie.Need-slice-aggregate-fill-matrix Inv-loop μ-loop
-slice-aggregate-fill-matrix c = refl
-
 fill-matrix-requires : tie.Need-fill-matrix-requires Inv-loop μ-loop
 fill-matrix-requires c κs = let s = c .before .before .before .before in (s .pre .0, (omega (arith, s .pre .1 .1, square (s .args .board .vertices) (omega (arith, s .pre .0 .checked .lent .sized .roles, s .pre .0 .checked .lent .sized .some-inputs))), pairs-fit (s .pre .0 .checked .lent .sized)))
 
@@ -148,7 +145,7 @@ rounds-spec =
     (tie.spec
     Inv-loop
     μ-loop
-    slice-aggregate-fill-matrix
+    (λ c. refl)
     fill-matrix-requires
     loop-holds
     slice-aggregate-round

@@ -8,18 +8,6 @@ use Rattle.run.specs.Sides.{isRich}
 use Rattle.run.proofs.counts.is_rich.Statement.{statement}
 use Rattle.run.proofs.counts.is_rich.Tie as tie
 
-enum-told : tie.Need-enum-told
-enum-told c = search needs
-
-enough-out-requires : tie.Need-enough-out-requires
-enough-out-requires c κs = search needs
-
-enum-told-2 : tie.Need-enum-told-2
-enum-told-2 c = search needs
-
-fan-in-requires : tie.Need-fan-in-requires
-fan-in-requires c κs = search needs
-
 -- on the side that is told
 module _ (s : tie.Start) where
   abbrev on : Side → Bool
@@ -33,4 +21,4 @@ returns-2 c = ap (leb 2) (c .fan-in .ensures) ∙ ap (on (c .before .before .bef
 
 pub is-rich-spec : {M : Type 1} → statement M
 is-rich-spec =
-    tie.close (tie.spec enum-told enough-out-requires enum-told-2 fan-in-requires returns returns-2)
+    tie.close (tie.spec (λ c. search needs) (λ c κs. search needs) (λ c. search needs) (λ c κs. search needs) returns returns-2)

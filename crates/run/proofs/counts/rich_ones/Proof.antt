@@ -29,12 +29,6 @@ abbrev μ-loop : tie.MeasureT-loop
 end-requires : tie.Need-end-requires Inv-loop μ-loop
 end-requires c κs = c .pre .sized
 
-vertex-flags-requires : tie.Need-vertex-flags-requires Inv-loop μ-loop
-vertex-flags-requires c κs = tt
-
-first-requires : tie.Need-first-requires Inv-loop μ-loop
-first-requires c κs = tt
-
 loop-holds : tie.Need-loop-holds Inv-loop μ-loop
 loop-holds c = (omega (arith, c .first .ensures), c .before .vertex-flags .ensures .0, record { size = refl; done = λ j h on. absurd (omega (arith, h, on .from, c .first .ensures)); left = λ j h. refl })
 
@@ -81,8 +75,8 @@ rich-ones-spec =
     Inv-loop
     μ-loop
     end-requires
-    vertex-flags-requires
-    first-requires
+    (λ c κs. tt)
+    (λ c κs. tt)
     loop-holds
     is-rich-requires
     array-write-rich

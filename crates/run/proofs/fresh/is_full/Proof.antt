@@ -7,12 +7,6 @@ use Rattle.laws.proofs.Booleans.{true-is}
 use Rattle.run.proofs.fresh.is_full.Statement.{statement}
 use Rattle.run.proofs.fresh.is_full.Tie as tie
 
-enum-told : tie.Need-enum-told
-enum-told c = search needs
-
-enum-told-2 : tie.Need-enum-told-2
-enum-told-2 c = search needs
-
 returns : tie.Need-returns
 returns c q = (c .before .enum-told .given .1, leb→le _ _ (true-is q))
 
@@ -20,4 +14,4 @@ returns-2 : tie.Need-returns-2
 returns-2 c q = absurd (let z : _≡_ {A = ℕ} 0 1 = cc in omega arith)
 
 pub is-full-spec : {M : Type 1} → statement M
-is-full-spec = tie.close (tie.spec enum-told enum-told-2 returns returns-2)
+is-full-spec = tie.close (tie.spec (λ c. search needs) (λ c. search needs) returns returns-2)

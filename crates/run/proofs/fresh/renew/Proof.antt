@@ -9,15 +9,6 @@ use Rattle.run.specs.declared.side.Side.the-variants.{Inputs, Outputs}
 use Rattle.run.proofs.fresh.renew.Statement.{statement}
 use Rattle.run.proofs.fresh.renew.Tie as tie
 
-enum-told : tie.Need-enum-told
-enum-told c = search needs
-
-fresh-number-requires : tie.Need-fresh-number-requires
-fresh-number-requires c κs = search needs
-
-enum-told-2 : tie.Need-enum-told-2
-enum-told-2 c = search needs
-
 other : Inputs ≡ Outputs → ⊥
 other q = let z : _≡_ {A = ℕ} 0 1 = cc in omega arith
 
@@ -25,9 +16,6 @@ returns : tie.Need-returns
 returns c =
     let s = c .before .before .before in
     (record { long = s .pre .1 .0; fresh = λ q. absurd (other (sym q ∙ c .before .enum-told2 .given .1)); order = s .pre .1 .1 (c .if1 .taken) }, λ _. refl)
-
-topological-order-requires : tie.Need-topological-order-requires
-topological-order-requires c κs = search needs
 
 returns-2 : tie.Need-returns-2
 returns-2 c =
@@ -48,10 +36,10 @@ pub renew-spec : {M : Type 1} → statement M
 renew-spec =
     tie.close
     (tie.spec
-    enum-told
-    fresh-number-requires
-    enum-told-2
+    (λ c. search needs)
+    (λ c κs. search needs)
+    (λ c. search needs)
     returns
-    topological-order-requires
+    (λ c κs. search needs)
     returns-2
     returns-3)

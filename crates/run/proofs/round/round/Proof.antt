@@ -22,9 +22,6 @@ use Rattle.run.proofs.round.round.Tie as tie
 shares-requires : tie.Need-shares-requires
 shares-requires c κs = let s = c .before .before in (s .pre .0, (s .pre .1 .0, (s .pre .1 .1 .0, λ e. absurd (let z : _≡_ {A = ℕ} 0 1 = cc in omega arith))))
 
-still-sorted-requires : tie.Need-still-sorted-requires
-still-sorted-requires c κs = tt
-
 -- after each part: the progress, and that the run goes on
 module _ (c : tie.After-shares) where
   abbrev start : tie.Start
@@ -98,12 +95,6 @@ module _ (c : tie.After-vertex-tries) where
 vertex-tries-requires-2 : tie.Need-vertex-tries-requires-2
 vertex-tries-requires-2 c κs = running-4 (c .before .before)
 
-same-length : tie.Need-same-length
-same-length c = search needs
-
-same-length-2 : tie.Need-same-length-2
-same-length-2 c = search needs
-
 returns : tie.Need-returns
 returns c =
     let e = c .before in
@@ -122,11 +113,11 @@ round-spec =
     tie.close
     (tie.spec
     shares-requires
-    still-sorted-requires
+    (λ c κs. tt)
     shares-requires-2
     try-prune-requires
     vertex-tries-requires
     vertex-tries-requires-2
-    same-length
-    same-length-2
+    (λ c. search needs)
+    (λ c. search needs)
     returns)

@@ -22,29 +22,8 @@ reaches c x e d q =
     let s = a .before .before .before in
     try-reaches (s .pre .0) prune (a .prune-step .last .1 .0) (c .accepted .result) (applied-tries (s .args .board) (s .args .table .now) prune (a .prune-step .last .1 .0) (a .prune-step .result) (c .accepted .result) (a .prune-step .ensures .0) (c .accepted .ensures)) d (counts (s .args .steps) e q)
 
-prune-step-requires : tie.Need-prune-step-requires
-prune-step-requires c κs = search needs
-
-accepted-requires : tie.Need-accepted-requires
-accepted-requires c κs = search needs
-
-add-result : tie.Need-add-result
-add-result c = search needs
-
-same-length : tie.Need-same-length
-same-length c = search needs
-
-same-length-2 : tie.Need-same-length-2
-same-length-2 c = search needs
-
 returns : tie.Need-returns
 returns c = (reaches (c .before) true (c .if1 .taken) _ refl, c .before .before .before .before .prune-step .ensures .1)
-
-same-length-3 : tie.Need-same-length-3
-same-length-3 c = search needs
-
-same-length-4 : tie.Need-same-length-4
-same-length-4 c = search needs
 
 returns-2 : tie.Need-returns-2
 returns-2 c = (reaches (c .before) false (c .if1 .left) _ (omega arith), c .before .before .before .before .prune-step .ensures .1)
@@ -53,12 +32,12 @@ pub try-prune-spec : {M : Type 1} → statement M
 try-prune-spec =
     tie.close
     (tie.spec
-    prune-step-requires
-    accepted-requires
-    add-result
-    same-length
-    same-length-2
+    (λ c κs. search needs)
+    (λ c κs. search needs)
+    (λ c. search needs)
+    (λ c. search needs)
+    (λ c. search needs)
     returns
-    same-length-3
-    same-length-4
+    (λ c. search needs)
+    (λ c. search needs)
     returns-2)

@@ -33,18 +33,12 @@ module _ (s : tie.Start) (x : Side) (is : s .args .side ≡ x) where
   trying : (after : List ℤ) (r : Bool) → Trying board t x (s .args .a) (s .args .b) (s .args .k) after r → Trying board t (s .args .side) (s .args .a) (s .args .b) (s .args .k) after r
   trying after r h = subst (λ (y : Side). Trying board t y (s .args .a) (s .args .b) (s .args .k) after r) (sym is) h
 
-enum-told : tie.Need-enum-told
-enum-told c = search needs
-
 share-rows-requires : tie.Need-share-rows-requires
 share-rows-requires c κs =
     let w = c .before in
     let s = w .before .before .before in
     let is = w .enum-told .given .1 in
     (s .pre .0, (pair s Inputs is, (compared s Inputs is, s .pre .1 .0 .fresh is)))
-
-enum-told-2 : tie.Need-enum-told-2
-enum-told-2 c = search needs
 
 share-columns-requires : tie.Need-share-columns-requires
 share-columns-requires c κs =
@@ -54,21 +48,12 @@ share-columns-requires c κs =
     let rows = s .pre .1 .1 .0 in
     (s .pre .1 .0 .order is, (pair s Outputs is, (compared s Outputs is, record { long = omega (arith, rows .long, s .pre .0 .lent .sized .few); sets = rows .sets })))
 
-same-length : tie.Need-same-length
-same-length c = search needs
-
 returns : tie.Need-returns
 returns c =
     let f = c .before in
     let w = f .before .before in
     let s = w .before .before .before in
     (trying s Inputs (w .enum-told .given .1) (f .share-rows .last .1 .0) (f .share-rows .result) (f .share-rows .ensures), s .pre .1 .1 .0)
-
-same-length-2 : tie.Need-same-length-2
-same-length-2 c = search needs
-
-same-length-3 : tie.Need-same-length-3
-same-length-3 c = search needs
 
 returns-2 : tie.Need-returns-2
 returns-2 c =
@@ -83,12 +68,12 @@ pub share-spec : {M : Type 1} → statement M
 share-spec =
     tie.close
     (tie.spec
-    enum-told
+    (λ c. search needs)
     share-rows-requires
-    enum-told-2
+    (λ c. search needs)
     share-columns-requires
-    same-length
+    (λ c. search needs)
     returns
-    same-length-2
-    same-length-3
+    (λ c. search needs)
+    (λ c. search needs)
     returns-2)

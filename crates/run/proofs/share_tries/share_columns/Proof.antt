@@ -43,9 +43,6 @@ module _ (s : tie.Start) where
   outputs : TwoOutputs board (s .args .a) (s .args .b)
   outputs = pair-outputs (s .pre .0 .checked .lent .sized) (s .pre .1 .0)
 
-in-range-requires : tie.Need-in-range-requires
-in-range-requires c κs = tt
-
 returns : tie.Need-returns
 returns c =
     let r = c .before in
@@ -58,9 +55,6 @@ path-back-requires c κs = let s = c .before .before .before .before .before in 
 
 outputs-saved-requires : tie.Need-outputs-saved-requires
 outputs-saved-requires c κs = let s = c .before .before .before .before .before .before .before .before .before in (s .pre .0 .checked .lent, outputs s .below-b)
-
-enum-known-saved : tie.Need-enum-known-saved
-enum-known-saved c = search needs
 
 module _ (d : tie.After-outputs-saved) where
   abbrev looked : tie.After-path-back
@@ -96,27 +90,12 @@ rewrite-requires c κs =
     let d = c .before .before .before in
     (start (asked d) .pre .0 .checked .lent, ready d .0)
 
-same-length : tie.Need-same-length
-same-length c = search needs
-
-same-length-2 : tie.Need-same-length-2
-same-length-2 c = search needs
-
 returns-2 : tie.Need-returns-2
 returns-2 c =
     let w = c .before in
     let d = w .before .before .before .before in
     let s = start (asked d) in
     (share-taken (board s) (t s) Outputs (s .args .a) (s .args .b) 0 (found d) (narrowed (e d) (ready d .1) _ (w .before .before .narrow .ok) (w .before .before .narrow .ensures)) (w .rewrite .last .1 .0) (w .rewrite .ensures), looked (asked d) .path-back .ensures .1)
-
-enum-told : tie.Need-enum-told
-enum-told c = search needs
-
-same-length-3 : tie.Need-same-length-3
-same-length-3 c = search needs
-
-same-length-4 : tie.Need-same-length-4
-same-length-4 c = search needs
 
 returns-3 : tie.Need-returns-3
 returns-3 c =
@@ -128,17 +107,17 @@ pub share-columns-spec : {M : Type 1} → statement M
 share-columns-spec =
     tie.close
     (tie.spec
-    in-range-requires
+    (λ c κs. tt)
     returns
     path-back-requires
     outputs-saved-requires
-    enum-known-saved
+    (λ c. search needs)
     narrow-requires
     rewrite-requires
-    same-length
-    same-length-2
+    (λ c. search needs)
+    (λ c. search needs)
     returns-2
-    enum-told
-    same-length-3
-    same-length-4
+    (λ c. search needs)
+    (λ c. search needs)
+    (λ c. search needs)
     returns-3)

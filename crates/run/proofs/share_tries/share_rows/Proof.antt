@@ -25,12 +25,6 @@ returns c =
     let s = c .before .before in
     share-left (s .args .board) (s .args .table .now) Inputs (s .args .a) (s .args .b) (s .args .k) (rows-full (s .args .board) (s .args .table .now) (s .args .a) (s .args .b) (s .args .e) (s .args .k) (c .if1 .taken))
 
-inputs-saved-requires : tie.Need-inputs-saved-requires
-inputs-saved-requires c κs = search needs
-
-enum-known-saved : tie.Need-enum-known-saved
-enum-known-saved c = search needs
-
 -- what is left to ask is the verdict
 module _ (d : tie.After-inputs-saved) where
   abbrev start : tie.Start
@@ -72,21 +66,12 @@ rewrite-requires c κs =
     let d = c .before .before .before in
     (start (asked d) .pre .0 .lent, (ready d .0, ready d .1))
 
-same-length : tie.Need-same-length
-same-length c = search needs
-
 returns-2 : tie.Need-returns-2
 returns-2 c =
     let w = c .before in
     let d = w .before .before .before .before in
     let s = start (asked d) in
     share-taken (s .args .board) (s .args .table .now) Inputs (s .args .a) (s .args .b) (s .args .k) (found d) (narrowed (e d) (ready d .2) _ (w .before .before .narrow .ok) (w .before .before .narrow .ensures)) (w .rewrite .last .1 .0) (w .rewrite .ensures)
-
-enum-told : tie.Need-enum-told
-enum-told c = search needs
-
-same-length-2 : tie.Need-same-length-2
-same-length-2 c = search needs
 
 returns-3 : tie.Need-returns-3
 returns-3 c =
@@ -99,12 +84,12 @@ share-rows-spec =
     tie.close
     (tie.spec
     returns
-    inputs-saved-requires
-    enum-known-saved
+    (λ c κs. search needs)
+    (λ c. search needs)
     narrow-requires
     rewrite-requires
-    same-length
+    (λ c. search needs)
     returns-2
-    enum-told
-    same-length-2
+    (λ c. search needs)
+    (λ c. search needs)
     returns-3)

@@ -24,9 +24,6 @@ use Rattle.run.proofs.RowsShared.{rows-shared}
 use Rattle.run.proofs.share_tries.try_share.Statement.{statement}
 use Rattle.run.proofs.share_tries.try_share.Tie as tie
 
-enum-known-difference : tie.Need-enum-known-difference
-enum-known-difference c = search needs
-
 -- the difference, as the code has it
 e-is : (c : tie.After-known-told) → toZ w64 (ofZ w64 (c .before .difference .given .0 .0)) ≡ c .before .difference .given .0 .0
 e-is c = search needs
@@ -96,12 +93,6 @@ renew-requires c κs =
 add-t40 : tie.Need-add-t40
 add-t40 c = omega (arith, s (c .before .before .before .before .before .before .before .before .before .before .before .before .before) .pre .0 .bound)
 
-same-length : tie.Need-same-length
-same-length c = search needs
-
-same-length-2 : tie.Need-same-length-2
-same-length-2 c = search needs
-
 returns : tie.Need-returns
 returns c =
     let r = c .before .before .before .before .before in
@@ -111,15 +102,6 @@ returns c =
     let tries = made d .share in
     let rows = rows-shared (s d .args .board) (s d .args .table .now) (s d .args .side) (s d .args .a) (s d .args .b) (s d .args .tally .fresh) (s d .pre .0 .checked) (after (made d)) (tried (made d) true (d .if1 .taken)) _ _ (tries .result .made) (tries .ensures .1) (kept .kept .1 .0) (kept .ensures) in
     (goes d .0, ((c .renew .ensures .0, counted), (rows, c .renew .ensures .1)))
-
-enum-told : tie.Need-enum-told
-enum-told c = search needs
-
-same-length-3 : tie.Need-same-length-3
-same-length-3 c = search needs
-
-same-length-4 : tie.Need-same-length-4
-same-length-4 c = search needs
 
 returns-2 : tie.Need-returns-2
 returns-2 c =
@@ -141,7 +123,7 @@ pub try-share-spec : {M : Type 1} → statement M
 try-share-spec =
     tie.close
     (tie.spec
-    enum-known-difference
+    (λ c. search needs)
     share-requires
     keep-up-requires
     is-rich-requires
@@ -151,11 +133,11 @@ try-share-spec =
     stands-before-requires
     renew-requires
     add-t40
-    same-length
-    same-length-2
+    (λ c. search needs)
+    (λ c. search needs)
     returns
-    same-length-3
-    same-length-4
+    (λ c. search needs)
+    (λ c. search needs)
     returns-2
-    enum-told
+    (λ c. search needs)
     returns-3)

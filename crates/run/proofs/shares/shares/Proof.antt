@@ -70,23 +70,11 @@ Inv-firsts board table₀ list₀ matrix side still steps from end across fresh 
 abbrev μ-firsts : tie.MeasureT-firsts
 μ-firsts board table₀ list₀ matrix side still steps from end across fresh rich₀ words₀ tally₀ a₀ table list rich words tally a = last board side - a
 
-first-requires : tie.Need-first-requires Inv-compare μ-compare Inv-seconds μ-seconds Inv-firsts μ-firsts
-first-requires c κs = tt
-
 end-requires : tie.Need-end-requires Inv-compare μ-compare Inv-seconds μ-seconds Inv-firsts μ-firsts
 end-requires c κs = c .before .pre .0 .checked .lent .sized
 
-across-requires : tie.Need-across-requires Inv-compare μ-compare Inv-seconds μ-seconds Inv-firsts μ-firsts
-across-requires c κs = tt
-
 renew-requires : tie.Need-renew-requires Inv-compare μ-compare Inv-seconds μ-seconds Inv-firsts μ-firsts
 renew-requires c κs = let s = c .before .before .before .before .before in (s .pre .0 .checked, (s .pre .1 .1 .0, s .pre .1 .1 .1))
-
-is-full-requires : tie.Need-is-full-requires Inv-compare μ-compare Inv-seconds μ-seconds Inv-firsts μ-firsts
-is-full-requires c κs = tt
-
-same-length : tie.Need-same-length Inv-compare μ-compare Inv-seconds μ-seconds Inv-firsts μ-firsts
-same-length c = search needs
 
 returns : tie.Need-returns Inv-compare μ-compare Inv-seconds μ-seconds Inv-firsts μ-firsts
 returns c =
@@ -99,9 +87,6 @@ returns c =
 
 rich-ones-requires : tie.Need-rich-ones-requires Inv-compare μ-compare Inv-seconds μ-seconds Inv-firsts μ-firsts
 rich-ones-requires c κs = c .before .before .before .before .before .before .before .before .before .pre .0 .checked .lent
-
-words-requires : tie.Need-words-requires Inv-compare μ-compare Inv-seconds μ-seconds Inv-firsts μ-firsts
-words-requires c κs = tt
 
 -- before the loops
 module _ (r : tie.After-rich-ones Inv-compare μ-compare Inv-seconds μ-seconds Inv-firsts μ-firsts) where
@@ -208,9 +193,6 @@ array-read-if3 c = let k = c .before in omega (arith, on-b k .below, end-few (re
 compare-holds : tie.Need-compare-holds Inv-compare μ-compare Inv-seconds μ-seconds Inv-firsts μ-firsts
 compare-holds c = (omega arith, seen-none _ _)
 
-settle-requires : tie.Need-settle-requires Inv-compare μ-compare Inv-seconds μ-seconds Inv-firsts μ-firsts
-settle-requires c κs = tt
-
 -- in a turn of the comparison
 module _ (e : tie.Else4 Inv-compare μ-compare Inv-seconds μ-seconds Inv-firsts μ-firsts) where
   abbrev compare : tie.At-compare Inv-compare μ-compare Inv-seconds μ-seconds Inv-firsts μ-firsts
@@ -288,9 +270,6 @@ seen-next-requires c κs =
       subst (λ (d : Delay). T (fits arrivalLimit d)) (sym (a-is c)) (near-line (held e) (the-side k) (a (turn k)) (j e) (on-a (turn k)) (inside e)),
       subst (λ (d : Delay). T (fits arrivalLimit d)) (sym (b-is c)) (near-line (held e) (the-side k) (b k) (j e) (on-b k) (inside e)),
     )
-
-enum-told : tie.Need-enum-told Inv-compare μ-compare Inv-seconds μ-seconds Inv-firsts μ-firsts
-enum-told c = search needs
 
 add-j : tie.Need-add-j Inv-compare μ-compare Inv-seconds μ-seconds Inv-firsts μ-firsts
 add-j c = let e = here (c .before .before) in omega (arith, inside e, across-few (the-side (pair e)) (the-board (pair e)) (sized e))
@@ -405,20 +384,20 @@ shares-spec =
     μ-seconds
     Inv-firsts
     μ-firsts
-    first-requires
+    (λ c κs. tt)
     end-requires
-    across-requires
+    (λ c κs. tt)
     renew-requires
-    is-full-requires
-    same-length
+    (λ c κs. tt)
+    (λ c. search needs)
     returns
     rich-ones-requires
-    words-requires
+    (λ c κs. tt)
     firsts-holds
     seconds-holds
     array-read-if3
     compare-holds
-    settle-requires
+    (λ c κs. tt)
     place-requires
     place-requires-2
     mul-seen-next
@@ -426,7 +405,7 @@ shares-spec =
     mul-seen-next-2
     shared-slice-copy-out-seen-next-2
     seen-next-requires
-    enum-told
+    (λ c. search needs)
     add-j
     compare-less
     compare-again

@@ -7,15 +7,6 @@ use Rattle.run.specs.Sides.{firstOf, countOf}
 use Rattle.run.proofs.side.end.Statement.{statement}
 use Rattle.run.proofs.side.end.Tie as tie
 
-enum-told : tie.Need-enum-told
-enum-told c = search needs
-
-enum-told-2 : tie.Need-enum-told-2
-enum-told-2 c = search needs
-
-add-result : tie.Need-add-result
-add-result c = search needs
-
 returns : tie.Need-returns
 returns c = let a = c .before .before .args in omega (arith, ap (λ (x : Side). firstOf x (a .board .inputs) + countOf x (a .board .inputs) (a .board .outputs)) (sym (c .enum-told .given .1)))
 
@@ -23,4 +14,4 @@ returns-2 : tie.Need-returns-2
 returns-2 c = let a = c .before .before .before .args in ap (λ (x : Side). firstOf x (a .board .inputs) + countOf x (a .board .inputs) (a .board .outputs)) (sym (c .before .enum-told2 .given .1))
 
 pub end-spec : {M : Type 1} → statement M
-end-spec = tie.close (tie.spec enum-told enum-told-2 add-result returns returns-2)
+end-spec = tie.close (tie.spec (λ c. search needs) (λ c. search needs) (λ c. search needs) returns returns-2)

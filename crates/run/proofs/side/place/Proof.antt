@@ -9,12 +9,6 @@ use Rattle.run.proofs.Lines.{pairs-fit, place-in}
 use Rattle.run.proofs.side.place.Statement.{statement}
 use Rattle.run.proofs.side.place.Tie as tie
 
-enum-told : tie.Need-enum-told
-enum-told c = search needs
-
-enum-told-2 : tie.Need-enum-told-2
-enum-told-2 c = search needs
-
 -- the place, on the side that is told
 module _ (s : tie.Start) where
   on : (side : Side) → s .args .side ≡ side → placeOf side (s .args .board .inputs) (s .args .board .outputs) (s .args .v) (s .args .j) < 2026
@@ -45,10 +39,10 @@ pub place-spec : {M : Type 1} → statement M
 place-spec =
     tie.close
     (tie.spec
-    enum-told
+    (λ c. search needs)
     mul-result
     add-result
-    enum-told-2
+    (λ c. search needs)
     mul-result-2
     sub-result
     add-result-2

@@ -11,15 +11,6 @@ use Rattle.run.proofs.vertex_tries.end.Tie as tie
 abbrev endOf : Board → VertexStep → ℕ
 endOf b k = firstVertex k (b .inputs) (b .outputs) + vertexCount k (b .inputs) (b .outputs) (b .vertices)
 
-enum-told : tie.Need-enum-told
-enum-told c = search needs
-
-enum-told-2 : tie.Need-enum-told-2
-enum-told-2 c = search needs
-
-add-result : tie.Need-add-result
-add-result c = search needs
-
 returns : tie.Need-returns
 returns c =
     let s = c .before .before in
@@ -31,4 +22,4 @@ returns-2 : tie.Need-returns-2
 returns-2 c = ap (endOf (c .before .before .before .args .board)) (sym (c .before .enum-told2 .given .1))
 
 pub end-spec : {M : Type 1} → statement M
-end-spec = tie.close (tie.spec enum-told enum-told-2 add-result returns returns-2)
+end-spec = tie.close (tie.spec (λ c. search needs) (λ c. search needs) (λ c. search needs) returns returns-2)

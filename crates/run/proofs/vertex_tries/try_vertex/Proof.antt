@@ -23,36 +23,12 @@ named : (b : Board) (t : List ℤ) (v : ℕ) (kind k : VertexStep) → kind ≡ 
 named b t v kind k e after fit r h q =
     subst (λ (x : VertexStep). Tries (tableBy b (vertexStep x v) t) t after r) (sym e) (applied-tries b t (vertexStep k v) after fit r h q)
 
-enum-told : tie.Need-enum-told
-enum-told c = search needs
-
-apply-shrink-requires : tie.Need-apply-shrink-requires
-apply-shrink-requires c κs = search needs
-
-accepted-requires : tie.Need-accepted-requires
-accepted-requires c κs = search needs
-
-enum-told-2 : tie.Need-enum-told-2
-enum-told-2 c = search needs
-
-apply-merge-back-requires : tie.Need-apply-merge-back-requires
-apply-merge-back-requires c κs = search needs
-
-accepted-requires-2 : tie.Need-accepted-requires-2
-accepted-requires-2 c κs = search needs
-
-same-length : tie.Need-same-length
-same-length c = search needs
-
 returns : tie.Need-returns
 returns c =
     let a = c .before .before in
     let k = a .before .before in
     let s = k .before .before in
     named (s .args .board) (s .args .table .now) (s .args .v) _ _ (k .enum-told .given .1) (a .apply-shrink .last .1 .0) (a .apply-shrink .result) _ (a .apply-shrink .ensures) (c .accepted .ensures)
-
-same-length-2 : tie.Need-same-length-2
-same-length-2 c = search needs
 
 returns-2 : tie.Need-returns-2
 returns-2 c =
@@ -65,13 +41,13 @@ pub try-vertex-spec : {M : Type 1} → statement M
 try-vertex-spec =
     tie.close
     (tie.spec
-    enum-told
-    apply-shrink-requires
-    accepted-requires
-    enum-told-2
-    apply-merge-back-requires
-    accepted-requires-2
-    same-length
+    (λ c. search needs)
+    (λ c κs. search needs)
+    (λ c κs. search needs)
+    (λ c. search needs)
+    (λ c κs. search needs)
+    (λ c κs. search needs)
+    (λ c. search needs)
     returns
-    same-length-2
+    (λ c. search needs)
     returns-2)

@@ -4,17 +4,11 @@ use Rattle.sets.proofs.Members.{low, high}
 use Rattle.sets.proofs.Set.has.Statement.{statement}
 use Rattle.sets.proofs.Set.has.Tie as tie
 
-has-bit-requires : tie.Need-has-bit-requires
-has-bit-requires c κs = search needs
-
 returns : tie.Need-returns
 returns c = c .has-bit .ensures ∙ sym (low (c .before .before .args .self) (c .before .before .args .v) (c .before .if1 .taken))
-
-has-bit-requires-2 : tie.Need-has-bit-requires-2
-has-bit-requires-2 c κs = search needs
 
 returns-2 : tie.Need-returns-2
 returns-2 c = c .has-bit2 .ensures ∙ sym (high (c .before .before .args .self) (c .before .before .args .v) (c .before .if1 .left) (c .before .before .pre))
 
 pub has-spec : {M : Type 1} → statement M
-has-spec = tie.close (tie.spec has-bit-requires returns has-bit-requires-2 returns-2)
+has-spec = tie.close (tie.spec (λ c κs. search needs) returns (λ c κs. search needs) returns-2)

@@ -29,12 +29,6 @@ abbrev μ-loop : tie.MeasureT-loop
 loop-holds : tie.Need-loop-holds Inv-loop μ-loop
 loop-holds c = (omega arith, refl)
 
-mul-s : tie.Need-mul-s Inv-loop μ-loop
-mul-s c = omega arith
-
-shared-slice-read-s : tie.Need-shared-slice-read-s Inv-loop μ-loop
-shared-slice-read-s c = omega arith
-
 module _ (c : tie.In-loop Inv-loop μ-loop) where
   abbrev start : tie.Start Inv-loop μ-loop
   start = c .before .before .before .before
@@ -69,9 +63,6 @@ sub-row-joined c = omega (arith, row (c .before), room (c .before))
 part-row-joined-start : tie.Need-part-row-joined-start Inv-loop μ-loop
 part-row-joined-start c = omega (arith, row (c .before), room (c .before))
 
-part-row-joined-end : tie.Need-part-row-joined-end Inv-loop μ-loop
-part-row-joined-end c = omega arith
-
 row-joined-requires : tie.Need-row-joined-requires Inv-loop μ-loop
 row-joined-requires c κs = let i = c .before .before in below-wider (n i) _ (start i .args .targets .now) (lent-long (n i) (t i) (u i) (room i) (low i)) (start i .pre .1 .1)
 
@@ -86,12 +77,6 @@ returns : tie.Need-returns Inv-loop μ-loop
 returns c =
     let i = c .before .before .before .before in
     sym (i .before .loop .inv .1 ∙ each-stop _ _ (i .loop-test .taken) _ (said (c .before) ∙ not-true _ (c .if1 .taken)))
-
-add-i : tie.Need-add-i Inv-loop μ-loop
-add-i c = omega arith
-
-loop-less : tie.Need-loop-less Inv-loop μ-loop
-loop-less c = omega arith
 
 loop-again : tie.Need-loop-again Inv-loop μ-loop
 loop-again c =
@@ -108,16 +93,16 @@ all-joined-spec =
     Inv-loop
     μ-loop
     loop-holds
-    mul-s
-    shared-slice-read-s
+    (λ c. omega arith)
+    (λ c. omega arith)
     mul-at
     mul-row-joined
     sub-row-joined
     part-row-joined-start
-    part-row-joined-end
+    (λ c. omega arith)
     row-joined-requires
     returns
-    add-i
-    loop-less
+    (λ c. omega arith)
+    (λ c. omega arith)
     loop-again
     returns-2)

@@ -27,12 +27,6 @@ abbrev μ-loop : tie.MeasureT-loop
 loop-holds : tie.Need-loop-holds Inv-loop μ-loop
 loop-holds c = let row = c .args .row .now in let ts = c .args .targets .now in (omega arith, refl, rewriting-start ts (old row) (centreCell row (c .args .first .now) ts) row (λ v. refl) (centre-other row (c .args .first .now) ts))
 
-mul-t : tie.Need-mul-t Inv-loop μ-loop
-mul-t c = omega arith
-
-shared-slice-read-t : tie.Need-shared-slice-read-t Inv-loop μ-loop
-shared-slice-read-t c = omega arith
-
 inside : (c : tie.In-loop Inv-loop μ-loop) → let l = c .before in let s = l .before in
     getD (s .args .targets .now) (l .loop .i) 0 < length (s .args .row .now)
 inside c = let l = c .before in let s = l .before in below-at _ _ (s .pre .0 .under) (l .loop .i) (c .loop-test .taken)
@@ -48,12 +42,6 @@ mul-t9 c = omega (arith, inside (c .before .before), c .before .before .before .
 
 slice-set-from-row : tie.Need-slice-set-from-row Inv-loop μ-loop
 slice-set-from-row c = omega (arith, inside (c .before .before), c .before .before .before .loop .inv .1)
-
-add-i : tie.Need-add-i Inv-loop μ-loop
-add-i c = omega arith
-
-loop-less : tie.Need-loop-less Inv-loop μ-loop
-loop-less c = omega arith
 
 loop-again : tie.Need-loop-again Inv-loop μ-loop
 loop-again c =
@@ -88,14 +76,14 @@ centre-row-spec =
     Inv-loop
     μ-loop
     loop-holds
-    mul-t
-    shared-slice-read-t
+    (λ c. omega arith)
+    (λ c. omega arith)
     mul-row
     element-copy-out-row
     mul-t9
     slice-set-from-row
-    add-i
-    loop-less
+    (λ c. omega arith)
+    (λ c. omega arith)
     loop-again
     same-length
     returns)

@@ -38,12 +38,6 @@ loop-holds c =
     let e = toZ w64 (ofZ w64 (s .args .e)) in
     (omega arith, refl, rewriting-start ts (old row) (clearedCell row first ts e) row (λ v. refl) (λ v. cleared-other row first ts v e))
 
-mul-t : tie.Need-mul-t Inv-loop μ-loop
-mul-t c = omega arith
-
-shared-slice-read-t : tie.Need-shared-slice-read-t Inv-loop μ-loop
-shared-slice-read-t c = omega arith
-
 module _ (c : tie.In-loop Inv-loop μ-loop) where
   abbrev start : tie.Start Inv-loop μ-loop
   start = c .before .before .before
@@ -87,20 +81,11 @@ mul-is-covered-2 c = omega (arith, small (c .before .before))
 element-copy-out-is-covered : tie.Need-element-copy-out-is-covered Inv-loop μ-loop
 element-copy-out-is-covered c = small (c .before .before)
 
-is-covered-requires : tie.Need-is-covered-requires Inv-loop μ-loop
-is-covered-requires c κs = tt
-
 mul-row : tie.Need-mul-row Inv-loop μ-loop
 mul-row c = omega (arith, small (c .before .before .before .before .before))
 
 slice-set-of-row : tie.Need-slice-set-of-row Inv-loop μ-loop
 slice-set-of-row c = inside (c .before .before .before .before .before)
-
-add-i : tie.Need-add-i Inv-loop μ-loop
-add-i c = omega arith
-
-loop-less : tie.Need-loop-less Inv-loop μ-loop
-loop-less c = omega arith
 
 -- what the call says of the target
 said : (c : tie.After-is-covered Inv-loop μ-loop) → let j = c .before .before .before .before in meets (old-row j) (first j) (e j) (t j) ≡ c .is-covered .result
@@ -148,17 +133,17 @@ clear-covered-spec =
     Inv-loop
     μ-loop
     loop-holds
-    mul-t
-    shared-slice-read-t
+    (λ c. omega arith)
+    (λ c. omega arith)
     mul-is-covered
     slice-copy-out-is-covered
     mul-is-covered-2
     element-copy-out-is-covered
-    is-covered-requires
+    (λ c κs. tt)
     mul-row
     slice-set-of-row
-    add-i
-    loop-less
+    (λ c. omega arith)
+    (λ c. omega arith)
     loop-again
     same-length
     returns)

@@ -3,16 +3,10 @@ use Rattle.stars.proofs.star.exist.Tie as tie
 use mathlib.Core.Path.{sym, _∙_}
 use borrow.Author.Tests.{not-true, not-false}
 
-all-below-requires : tie.Need-all-below-requires
-all-below-requires c κs = tt
-
 returns : tie.Need-returns
 returns c =
     let e = sym (c .before .all-below .ensures) ∙ not-true _ (c .if1 .taken) in
     simp e
-
-all-below-requires-2 : tie.Need-all-below-requires-2
-all-below-requires-2 c κs = tt
 
 returns-2 : tie.Need-returns-2
 returns-2 c =
@@ -30,4 +24,4 @@ returns-3 c =
 
 pub exist-spec : {M : Type 1} → statement M
 exist-spec =
-    tie.close (tie.spec all-below-requires returns all-below-requires-2 returns-2 returns-3)
+    tie.close (tie.spec (λ c κs. tt) returns (λ c κs. tt) returns-2 returns-3)

@@ -25,29 +25,11 @@ returns-2 c = let xs = c .before .before .before .args .xs .now in sym (no-secon
 loop-holds : tie.Need-loop-holds Inv-loop μ-loop
 loop-holds c = (omega arith, refl)
 
-add-found : tie.Need-add-found Inv-loop μ-loop
-add-found c = omega arith
-
-mul-found : tie.Need-mul-found Inv-loop μ-loop
-mul-found c = omega arith
-
-shared-slice-read-found : tie.Need-shared-slice-read-found Inv-loop μ-loop
-shared-slice-read-found c = omega arith
-
-found-requires : tie.Need-found-requires Inv-loop μ-loop
-found-requires c κs = omega arith
-
 returns-3 : tie.Need-returns-3 Inv-loop μ-loop
 returns-3 c =
     let i = c .before .before .before in
     let xs = i .before .before .before .before .before .args .xs .now in
     sym (no-second (nonEmpty xs) (distinct xs) (i .before .loop .inv .1 ∙ distinct-stop _ _ (i .loop-test .taken) (sym (c .before .found .ensures) ∙ c .if3 .taken)))
-
-add-i : tie.Need-add-i Inv-loop μ-loop
-add-i c = omega arith
-
-loop-less : tie.Need-loop-less Inv-loop μ-loop
-loop-less c = omega arith
 
 loop-again : tie.Need-loop-again Inv-loop μ-loop
 loop-again c =
@@ -68,12 +50,12 @@ is-set-spec =
     returns
     returns-2
     loop-holds
-    add-found
-    mul-found
-    shared-slice-read-found
-    found-requires
+    (λ c. omega arith)
+    (λ c. omega arith)
+    (λ c. omega arith)
+    (λ c κs. omega arith)
     returns-3
-    add-i
-    loop-less
+    (λ c. omega arith)
+    (λ c. omega arith)
     loop-again
     returns-4)

@@ -53,9 +53,6 @@ mul-difference-2 c = omega (arith, final (c .before) .1)
 element-copy-out-difference : tie.Need-element-copy-out-difference Inv-loop μ-loop
 element-copy-out-difference c = final (c .before) .1
 
-difference-requires : tie.Need-difference-requires Inv-loop μ-loop
-difference-requires c κs = tt
-
 loop-holds : tie.Need-loop-holds Inv-loop μ-loop
 loop-holds c =
     let s = c .before .before .before .before .before in
@@ -68,9 +65,6 @@ loop-holds c =
       ap at (c .difference .ensures ∙ ap₂ _-ℤ_ (back w32 (getD (s .args .row .now) t (pos 0)) (c .before .before .difference-arg .given)) (back w32 (getD (s .args .first .now) t (pos 0)) (c .before .difference-arg2 .given)))
           ∙ sym (least-last ts (gap (s .args .row .now) (s .args .first .now)) (length ts - 1) (omega (arith, some s))),
     )
-
-sub-i-2 : tie.Need-sub-i-2 Inv-loop μ-loop
-sub-i-2 c = omega arith
 
 mul-t : tie.Need-mul-t Inv-loop μ-loop
 mul-t c = omega (arith, c .before .loop .inv .0)
@@ -93,12 +87,6 @@ mul-difference-4 c = omega (arith, inside (c .before .before) .1)
 
 element-copy-out-difference-2 : tie.Need-element-copy-out-difference-2 Inv-loop μ-loop
 element-copy-out-difference-2 c = inside (c .before .before) .1
-
-difference-requires-2 : tie.Need-difference-requires-2 Inv-loop μ-loop
-difference-requires-2 c κs = tt
-
-lesser-requires : tie.Need-lesser-requires Inv-loop μ-loop
-lesser-requires c κs = tt
 
 loop-less : tie.Need-loop-less Inv-loop μ-loop
 loop-less c = omega (arith, c .before .before .before .before .before .loop-test .taken)
@@ -146,17 +134,17 @@ least-difference-spec =
     shared-slice-copy-out-difference
     mul-difference-2
     element-copy-out-difference
-    difference-requires
+    (λ c κs. tt)
     loop-holds
-    sub-i-2
+    (λ c. omega arith)
     mul-t
     shared-slice-read-t
     mul-difference-3
     shared-slice-copy-out-difference-2
     mul-difference-4
     element-copy-out-difference-2
-    difference-requires-2
-    lesser-requires
+    (λ c κs. tt)
+    (λ c κs. tt)
     loop-less
     loop-again
     returns)

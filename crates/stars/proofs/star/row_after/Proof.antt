@@ -10,12 +10,6 @@ use Rattle.laws.proofs.Booleans.{is-true, eq→eqb, eqb-other}
 use Rattle.laws.proofs.Lists.{tabulate-same, is-tabulate}
 use Rattle.stars.proofs.RowCells.{of-centre, of-source, of-other}
 
-centre-row-requires : tie.Need-centre-row-requires
-centre-row-requires c κs = search needs
-
-same-length : tie.Need-same-length
-same-length c = search needs
-
 returns : tie.Need-returns
 returns c =
     let i = c .before .before .before in
@@ -30,9 +24,6 @@ source-row-requires c κs =
     let i = c .before in
     let s = i .before .before .before in
     (s .pre .0, (s .pre .1 .0, (s .pre .1 .1 .0, s .pre .1 .1 .1 (i .if2 .taken))))
-
-same-length-2 : tie.Need-same-length-2
-same-length-2 c = search needs
 
 returns-2 : tie.Need-returns-2
 returns-2 c =
@@ -52,10 +43,10 @@ pub row-after-spec : {M : Type 1} → statement M
 row-after-spec =
     tie.close
     (tie.spec
-    centre-row-requires
-    same-length
+    (λ c κs. search needs)
+    (λ c. search needs)
     returns
     source-row-requires
-    same-length-2
+    (λ c. search needs)
     returns-2
     returns-3)

@@ -29,12 +29,6 @@ abbrev μ-loop : tie.MeasureT-loop
 loop-holds : tie.Need-loop-holds Inv-loop μ-loop
 loop-holds c = (omega arith, omega arith, omega arith)
 
-mul-t : tie.Need-mul-t Inv-loop μ-loop
-mul-t c = omega arith
-
-shared-slice-read-t : tie.Need-shared-slice-read-t Inv-loop μ-loop
-shared-slice-read-t c = omega arith
-
 inside : (c : tie.In-loop Inv-loop μ-loop) → let l = c .before in let s = l .before .before in
     (getD (s .args .targets .now) (l .loop .i) 0 < length (s .args .row .now)) × (getD (s .args .targets .now) (l .loop .i) 0 < 90)
 inside c = let l = c .before in let s = l .before .before in (below-at _ _ (s .pre .0) (l .loop .i) (c .loop-test .taken), below-at _ _ (s .pre .1) (l .loop .i) (c .loop-test .taken))
@@ -51,17 +45,8 @@ mul-is-covered-2 c = omega (arith, inside (c .before .before) .1)
 element-copy-out-is-covered : tie.Need-element-copy-out-is-covered Inv-loop μ-loop
 element-copy-out-is-covered c = inside (c .before .before) .1
 
-is-covered-requires : tie.Need-is-covered-requires Inv-loop μ-loop
-is-covered-requires c κs = tt
-
 add-total : tie.Need-add-total Inv-loop μ-loop
 add-total c = omega (arith, c .before .before .before .before .before .loop-test .taken)
-
-add-i : tie.Need-add-i Inv-loop μ-loop
-add-i c = omega arith
-
-loop-less : tie.Need-loop-less Inv-loop μ-loop
-loop-less c = omega arith
 
 module _ (c : tie.After-is-covered Inv-loop μ-loop) where
   abbrev head : tie.At-loop Inv-loop μ-loop
@@ -110,15 +95,15 @@ row-covered-spec =
     Inv-loop
     μ-loop
     loop-holds
-    mul-t
-    shared-slice-read-t
+    (λ c. omega arith)
+    (λ c. omega arith)
     mul-is-covered
     shared-slice-copy-out-is-covered
     mul-is-covered-2
     element-copy-out-is-covered
-    is-covered-requires
+    (λ c κs. tt)
     add-total
-    add-i
-    loop-less
+    (λ c. omega arith)
+    (λ c. omega arith)
     loop-again
     returns)

@@ -24,12 +24,6 @@ abbrev μ-loop : tie.MeasureT-loop
 loop-holds : tie.Need-loop-holds Inv-loop μ-loop
 loop-holds c = (omega arith, refl)
 
-mul-t : tie.Need-mul-t Inv-loop μ-loop
-mul-t c = omega arith
-
-shared-slice-read-t : tie.Need-shared-slice-read-t Inv-loop μ-loop
-shared-slice-read-t c = omega arith
-
 inside : (c : tie.After-shared-slice-known2 Inv-loop μ-loop) → let l = c .before .before in let s = l .before .before in getD (s .args .targets .now) (l .loop .i) 0 < length (s .args .row .now)
 inside c = let l = c .before .before in below-at _ _ (l .before .before .pre) (l .loop .i) (c .before .loop-test .taken)
 
@@ -39,9 +33,6 @@ mul-is-arc c = omega (arith, inside c)
 shared-slice-copy-out-is-arc : tie.Need-shared-slice-copy-out-is-arc Inv-loop μ-loop
 shared-slice-copy-out-is-arc c = inside c
 
-is-arc-requires : tie.Need-is-arc-requires Inv-loop μ-loop
-is-arc-requires c κs = tt
-
 said : (c : tie.After-is-arc Inv-loop μ-loop) → let l = c .before .before .before .before in let s = l .before .before in present (cellAt (s .args .row .now) (getD (s .args .targets .now) (l .loop .i) 0)) ≡ c .is-arc .result
 said c = sym (c .is-arc .ensures ∙ ap (λ (z : ℤ). present (readCell absentCell z)) (back w32 _ (c .before .is-arc-arg .given)))
 
@@ -49,12 +40,6 @@ returns : tie.Need-returns Inv-loop μ-loop
 returns c =
     let i = c .before .before .before .before in
     sym (i .before .loop .inv .1 ∙ each-stop _ _ (i .loop-test .taken) _ (said (c .before) ∙ not-true _ (c .if1 .taken)))
-
-add-i : tie.Need-add-i Inv-loop μ-loop
-add-i c = omega arith
-
-loop-less : tie.Need-loop-less Inv-loop μ-loop
-loop-less c = omega arith
 
 loop-again : tie.Need-loop-again Inv-loop μ-loop
 loop-again c =
@@ -71,13 +56,13 @@ row-joined-spec =
     Inv-loop
     μ-loop
     loop-holds
-    mul-t
-    shared-slice-read-t
+    (λ c. omega arith)
+    (λ c. omega arith)
     mul-is-arc
     shared-slice-copy-out-is-arc
-    is-arc-requires
+    (λ c κs. tt)
     returns
-    add-i
-    loop-less
+    (λ c. omega arith)
+    (λ c. omega arith)
     loop-again
     returns-2)

@@ -18,9 +18,6 @@ use Rattle.stars.proofs.RowCells.{source-made}
 least-difference-requires : tie.Need-least-difference-requires
 least-difference-requires c κs = let s = c .before .before in (s .pre .0 .under, (below-wider _ 90 (s .args .targets .now) (s .pre .1 .0) (s .pre .0 .under), s .pre .0 .some))
 
-clear-covered-requires : tie.Need-clear-covered-requires
-clear-covered-requires c κs = search needs
-
 -- the difference that is handed on
 handed-on : (c : tie.After-least-difference) → let s = c .before .before .before in at (toZ w64 (ofZ w64 (c .least-difference .result))) ≡ leastGap (s .args .row .now) (s .args .first .now) (s .args .targets .now)
 handed-on c = ap at (back w64 (c .least-difference .result) (c .least-difference .ok)) ∙ c .least-difference .ensures
@@ -29,15 +26,6 @@ narrow-requires : tie.Need-narrow-requires
 narrow-requires c κs =
     let d = c .before .before .before in
     subst (λ (x : Delay). T (fits delayLimit x)) (sym (handed-on d)) (d .before .before .before .pre .1 .1 .1)
-
-mul-t12 : tie.Need-mul-t12
-mul-t12 c = search needs
-
-slice-set-from-row : tie.Need-slice-set-from-row
-slice-set-from-row c = search needs
-
-same-length : tie.Need-same-length
-same-length c = search needs
 
 returns : tie.Need-returns
 returns c =
@@ -55,9 +43,9 @@ source-row-spec =
     tie.close
     (tie.spec
     least-difference-requires
-    clear-covered-requires
+    (λ c κs. search needs)
     narrow-requires
-    mul-t12
-    slice-set-from-row
-    same-length
+    (λ c. search needs)
+    (λ c. search needs)
+    (λ c. search needs)
     returns)

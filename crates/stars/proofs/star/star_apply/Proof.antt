@@ -158,12 +158,6 @@ add-end c = omega (arith, inside c)
 mul-row-after : tie.Need-mul-row-after Inv-loop μ-loop
 mul-row-after c = omega (arith, inside c)
 
-sub-row-after : tie.Need-sub-row-after Inv-loop μ-loop
-sub-row-after c = omega arith
-
-part-row-after-start : tie.Need-part-row-after-start Inv-loop μ-loop
-part-row-after-start c = omega arith
-
 part-row-after-end : tie.Need-part-row-after-end Inv-loop μ-loop
 part-row-after-end c = omega (arith, inside c, c .before .loop .inv .1)
 
@@ -215,8 +209,8 @@ star-apply-spec =
     mul-at
     add-end
     mul-row-after
-    sub-row-after
-    part-row-after-start
+    (λ c. omega arith)
+    (λ c. omega arith)
     part-row-after-end
     array-read-row-after
     row-after-requires

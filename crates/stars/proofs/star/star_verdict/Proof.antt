@@ -36,9 +36,6 @@ module _ (s : tie.Start) where
   abbrev g : Graph
   g = graphOf N (s .args .table .now)
 
-exist-requires : tie.Need-exist-requires
-exist-requires c κs = tt
-
 returns : tie.Need-returns
 returns c = let s = c .before .before .before .before in Star.refused-7 (m s) (n s) (N s) (S s) (Ts s) (k s) (g s) (sym (c .before .exist .ensures) ∙ not-true _ (c .if1 .taken))
 
@@ -128,9 +125,6 @@ module _ (c : tie.Else5) where
 weigh-all-requires : tie.Need-weigh-all-requires
 weigh-all-requires c κs = (s₀ c .pre .0, bundle c)
 
-add-if6 : tie.Need-add-if6
-add-if6 c = search needs
-
 -- what the weighing says
 module _ (c : tie.After-weigh-all) where
   abbrev ten : tie.Else5
@@ -173,7 +167,7 @@ pub star-verdict-spec : {M : Type 1} → statement M
 star-verdict-spec =
     tie.close
     (tie.spec
-    exist-requires
+    (λ c κs. tt)
     returns
     is-set-requires
     returns-2
@@ -184,7 +178,7 @@ star-verdict-spec =
     all-joined-requires
     returns-5
     weigh-all-requires
-    add-if6
+    (λ c. search needs)
     returns-6
     returns-7
     returns-8)

@@ -103,12 +103,6 @@ module _ (c : tie.In-loop Inv-loop μ-loop) where
   head : (v : ℕ) → v < n start → cellAt first v ≡ graphOf (n start) (t start) (firstOf (S start)) v
   head = first-row (n start) (t start) (S start) first (low start 0 (some start)) (c .before .before .row-copy .ensures)
 
-mul-at : tie.Need-mul-at Inv-loop μ-loop
-mul-at c = omega arith
-
-shared-slice-read-at : tie.Need-shared-slice-read-at Inv-loop μ-loop
-shared-slice-read-at c = omega arith
-
 mul-at-2 : tie.Need-mul-at-2 Inv-loop μ-loop
 mul-at-2 c = omega (arith, inside (c .before))
 
@@ -120,9 +114,6 @@ sub-weigh c = omega (arith, inside (c .before))
 
 part-weigh-start : tie.Need-part-weigh-start Inv-loop μ-loop
 part-weigh-start c = omega (arith, inside (c .before))
-
-part-weigh-end : tie.Need-part-weigh-end Inv-loop μ-loop
-part-weigh-end c = omega arith
 
 weigh-requires : tie.Need-weigh-requires Inv-loop μ-loop
 weigh-requires c κs =
@@ -196,13 +187,13 @@ weigh-all-spec =
     mul-row-copy
     row-copy-requires
     loop-holds
-    mul-at
-    shared-slice-read-at
+    (λ c. omega arith)
+    (λ c. omega arith)
     mul-at-2
     mul-weigh
     sub-weigh
     part-weigh-start
-    part-weigh-end
+    (λ c. omega arith)
     weigh-requires
     add-covered
     add-i

@@ -6,15 +6,6 @@ use Rattle.steps.specs.Reduces.{counted}
 use Rattle.steps.proofs.answer.counted.Statement.{statement}
 use Rattle.steps.proofs.answer.counted.Tie as tie
 
-enum-told : tie.Need-enum-told
-enum-told c = search needs
-
-arcs-requires : tie.Need-arcs-requires
-arcs-requires c κs = search needs
-
-enum-known-fit : tie.Need-enum-known-fit
-enum-known-fit c = search needs
-
 returns : tie.Need-returns
 returns c =
     let f = c .before in
@@ -28,4 +19,4 @@ returns-2 c =
     ap (λ (x : Fit). counted (s .args .board .vertices) x (s .args .table .now)) (sym (f .fit .given .1))
 
 pub counted-spec : {M : Type 1} → statement M
-counted-spec = tie.close (tie.spec enum-told arcs-requires enum-known-fit returns returns-2)
+counted-spec = tie.close (tie.spec (λ c. search needs) (λ c κs. search needs) (λ c. search needs) returns returns-2)

@@ -15,9 +15,6 @@ use Rattle.steps.proofs.apply.apply_merge_back.Tie as tie
 merge-back-verdict-requires : tie.Need-merge-back-verdict-requires
 merge-back-verdict-requires c κs = (c .before .pre .lent, sound-fits (c .before .pre .sound))
 
-enum-known-driven : tie.Need-enum-known-driven
-enum-known-driven c = search needs
-
 rewrite-requires : tie.Need-rewrite-requires
 rewrite-requires c κs =
     let d = c .before .before in
@@ -25,12 +22,6 @@ rewrite-requires c κs =
     let s = v .before .before in
     let r = merge-ready (s .args .board) (s .args .table .now) (s .args .o) (s .pre) (d .driven .given .0 .0) (d .driven .given .0 .1 .0) (said drivenMeaning (v .merge-back-verdict .ensures) (d .driven .given .1)) in
     (s .pre .lent, (r .1, r .2))
-
-enum-known-driven-2 : tie.Need-enum-known-driven-2
-enum-known-driven-2 c = search needs
-
-same-length : tie.Need-same-length
-same-length c = search needs
 
 returns : tie.Need-returns
 unfolding plan
@@ -47,9 +38,6 @@ returns c =
     let r = merge-ready b t (s .args .o) (s .pre) x y e in
     step-handed b t (merge-back (s .args .o)) (λ z. mergedBack (z .0) (s .args .o) (z .1) (graphOf (b .vertices) t)) e (ap (λ (z : ℤ). (x, z)) (r .0)) refl (a .rewrite .last .1 .0) (a .rewrite .ensures)
 
-same-length-2 : tie.Need-same-length-2
-same-length-2 c = search needs
-
 returns-2 : tie.Need-returns-2
 unfolding plan
 returns-2 c =
@@ -64,10 +52,10 @@ apply-merge-back-spec =
     tie.close
     (tie.spec
     merge-back-verdict-requires
-    enum-known-driven
+    (λ c. search needs)
     rewrite-requires
-    enum-known-driven-2
-    same-length
+    (λ c. search needs)
+    (λ c. search needs)
     returns
-    same-length-2
+    (λ c. search needs)
     returns-2)

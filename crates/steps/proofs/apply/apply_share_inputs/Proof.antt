@@ -16,12 +16,6 @@ use Rattle.steps.proofs.Ready.{share-inputs-ready, narrow-fits, narrowe
 use Rattle.steps.proofs.apply.apply_share_inputs.Statement.{statement}
 use Rattle.steps.proofs.apply.apply_share_inputs.Tie as tie
 
-share-inputs-verdict-requires : tie.Need-share-inputs-verdict-requires
-share-inputs-verdict-requires c κs = search needs
-
-enum-known-difference : tie.Need-enum-known-difference
-enum-known-difference c = search needs
-
 -- the verdict is accepted
 module _ (d : tie.After-difference) where
   abbrev start : tie.Start
@@ -46,15 +40,6 @@ rewrite-requires c κs =
     let r = ready d in
     (s .pre .0 .checked .lent, (r .0, r .1))
 
-enum-known-difference-2 : tie.Need-enum-known-difference-2
-enum-known-difference-2 c = search needs
-
-same-length : tie.Need-same-length
-same-length c = search needs
-
-same-length-2 : tie.Need-same-length-2
-same-length-2 c = search needs
-
 returns : tie.Need-returns
 unfolding plan
 returns c =
@@ -68,12 +53,6 @@ returns c =
       step-handed b t (share-inputs (s .args .a) (s .args .b) (s .args .k)) (λ x. inputsShared (s .args .a) (s .args .b) (s .args .k) x (graphOf (b .vertices) t)) (found d) same refl (a .rewrite .last .1 .0) (a .rewrite .ensures),
       d .before .before .before .share-inputs-verdict .ensures .1,
     )
-
-same-length-3 : tie.Need-same-length-3
-same-length-3 c = search needs
-
-same-length-4 : tie.Need-same-length-4
-same-length-4 c = search needs
 
 returns-2 : tie.Need-returns-2
 unfolding plan
@@ -90,14 +69,14 @@ pub apply-share-inputs-spec : {M : Type 1} → statement M
 apply-share-inputs-spec =
     tie.close
     (tie.spec
-    share-inputs-verdict-requires
-    enum-known-difference
+    (λ c κs. search needs)
+    (λ c. search needs)
     narrow-requires
     rewrite-requires
-    enum-known-difference-2
-    same-length
-    same-length-2
+    (λ c. search needs)
+    (λ c. search needs)
+    (λ c. search needs)
     returns
-    same-length-3
-    same-length-4
+    (λ c. search needs)
+    (λ c. search needs)
     returns-2)

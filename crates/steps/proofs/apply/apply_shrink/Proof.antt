@@ -10,12 +10,6 @@ use Rattle.steps.proofs.Ready.{shrink-ready}
 use Rattle.steps.proofs.apply.apply_shrink.Statement.{statement}
 use Rattle.steps.proofs.apply.apply_shrink.Tie as tie
 
-shrink-verdict-requires : tie.Need-shrink-verdict-requires
-shrink-verdict-requires c κs = search needs
-
-enum-told : tie.Need-enum-told
-enum-told c = search needs
-
 rewrite-requires : tie.Need-rewrite-requires
 rewrite-requires c κs =
     let v = c .before .before .before in
@@ -23,12 +17,6 @@ rewrite-requires c κs =
     let b = s .args .board in
     let r = shrink-ready (b .inputs) (b .outputs) (b .vertices) (s .args .k) (graphOf (b .vertices) (s .args .table .now)) (said fitMeaning (v .shrink-verdict .ensures) (c .before .enum-told .given .1)) in
     (s .pre .lent, (r .0, r .1))
-
-enum-known-fit : tie.Need-enum-known-fit
-enum-known-fit c = search needs
-
-same-length : tie.Need-same-length
-same-length c = search needs
 
 returns : tie.Need-returns
 unfolding plan
@@ -39,9 +27,6 @@ returns c =
     let b = s .args .board in
     let t = s .args .table .now in
     step-done b t (shrink (s .args .k)) (λ _. shrunk (s .args .k) (graphOf (b .vertices) t)) tt (said fitMeaning (v .shrink-verdict .ensures) (a .before .before .enum-told .given .1)) refl (a .rewrite .last .1 .0) (a .rewrite .ensures)
-
-same-length-2 : tie.Need-same-length-2
-same-length-2 c = search needs
 
 returns-2 : tie.Need-returns-2
 unfolding plan
@@ -56,11 +41,11 @@ pub apply-shrink-spec : {M : Type 1} → statement M
 apply-shrink-spec =
     tie.close
     (tie.spec
-    shrink-verdict-requires
-    enum-told
+    (λ c κs. search needs)
+    (λ c. search needs)
     rewrite-requires
-    enum-known-fit
-    same-length
+    (λ c. search needs)
+    (λ c. search needs)
     returns
-    same-length-2
+    (λ c. search needs)
     returns-2)

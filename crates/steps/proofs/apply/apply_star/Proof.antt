@@ -14,9 +14,6 @@ use Rattle.steps.proofs.apply.apply_star.Tie as tie
 star-verdict-requires : tie.Need-star-verdict-requires
 star-verdict-requires c κs = (c .before .before .before .pre .lent, sound-fits (c .before .before .before .pre .sound))
 
-enum-told : tie.Need-enum-told
-enum-told c = search needs
-
 star-apply-requires : tie.Need-star-apply-requires
 star-apply-requires c κs =
     let v = c .before .before .before in
@@ -25,12 +22,6 @@ star-apply-requires c κs =
     let t = s .args .table .now in
     let g = graphOf (b .vertices) t in
     (s .pre .lent, star-ready (b .inputs) (b .outputs) (b .vertices) (s .args .sources .now) (s .args .targets .now) (s .args .k) g tt (sound-fits (s .pre .sound)) (said fitMeaning (v .star-verdict .ensures) (c .before .enum-told .given .1)))
-
-enum-known-fit : tie.Need-enum-known-fit
-enum-known-fit c = search needs
-
-same-length : tie.Need-same-length
-same-length c = search needs
 
 returns : tie.Need-returns
 unfolding plan
@@ -41,9 +32,6 @@ returns c =
     let b = s .args .board in
     let t = s .args .table .now in
     step-done b t (star (s .args .sources .now) (s .args .targets .now) (s .args .k)) (λ _. starred (s .args .sources .now) (s .args .targets .now) (s .args .k) (graphOf (b .vertices) t)) tt (said fitMeaning (v .star-verdict .ensures) (a .before .before .enum-told .given .1)) refl (a .star-apply .last .1 .0) (a .star-apply .ensures)
-
-same-length-2 : tie.Need-same-length-2
-same-length-2 c = search needs
 
 returns-2 : tie.Need-returns-2
 unfolding plan
@@ -59,10 +47,10 @@ apply-star-spec =
     tie.close
     (tie.spec
     star-verdict-requires
-    enum-told
+    (λ c. search needs)
     star-apply-requires
-    enum-known-fit
-    same-length
+    (λ c. search needs)
+    (λ c. search needs)
     returns
-    same-length-2
+    (λ c. search needs)
     returns-2)

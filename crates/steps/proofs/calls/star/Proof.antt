@@ -6,15 +6,6 @@ use Rattle.steps.proofs.Reducing.{still-lent, call-done, call-refuses}
 use Rattle.steps.proofs.calls.star.Statement.{statement}
 use Rattle.steps.proofs.calls.star.Tie as tie
 
-vertex-bytes-requires : tie.Need-vertex-bytes-requires
-vertex-bytes-requires c κs = search needs
-
-checked-requires : tie.Need-checked-requires
-checked-requires c κs = search needs
-
-enum-known-lent : tie.Need-enum-known-lent
-enum-known-lent c = search needs
-
 apply-star-requires : tie.Need-apply-star-requires
 apply-star-requires c κs =
     let k = c .before .before in
@@ -26,12 +17,6 @@ counted-requires c κs =
     let k = a .before .before .before in
     still-lent (k .before .before .checked .ensures .passable _ (k .lent .given .1) .0 .checked .lent) (a .apply-star .last .1 .0) (a .apply-star .kept .1 .0)
 
-enum-known-lent-2 : tie.Need-enum-known-lent-2
-enum-known-lent-2 c = search needs
-
-same-length : tie.Need-same-length
-same-length c = search needs
-
 returns : tie.Need-returns
 returns c =
     let a = c .before .before .before in
@@ -39,9 +24,6 @@ returns c =
     let h = k .before .before .checked .ensures in
     let s = k .before .before .before .before .before .before .before .before in
     (call-done h (star (s .args .sources .now) (s .args .targets .now) (s .args .k)) _ (k .lent .given .1) _ _ (a .apply-star .ensures) _ (c .counted .ensures), scratch-on h _ (k .lent .given .1) _ _ refl refl)
-
-same-length-2 : tie.Need-same-length-2
-same-length-2 c = search needs
 
 returns-2 : tie.Need-returns-2
 returns-2 c =
@@ -53,13 +35,13 @@ pub star-spec : {M : Type 1} → statement M
 star-spec =
     tie.close
     (tie.spec
-    vertex-bytes-requires
-    checked-requires
-    enum-known-lent
+    (λ c κs. search needs)
+    (λ c κs. search needs)
+    (λ c. search needs)
     apply-star-requires
     counted-requires
-    enum-known-lent-2
-    same-length
+    (λ c. search needs)
+    (λ c. search needs)
     returns
-    same-length-2
+    (λ c. search needs)
     returns-2)

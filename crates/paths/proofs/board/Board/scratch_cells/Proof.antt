@@ -7,8 +7,5 @@ use Rattle.paths.proofs.board.Board.scratch_cells.Tie as tie
 mul-result : tie.Need-mul-result
 mul-result c = omega (arith, board-area _ (c .before .pre))
 
-returns : tie.Need-returns
-returns c = search needs
-
 pub scratch-cells-spec : {M : Type 1} → statement M
-scratch-cells-spec = tie.close (tie.spec mul-result returns)
+scratch-cells-spec = tie.close (tie.spec mul-result (λ c. search needs))
