@@ -53,11 +53,12 @@ pub record RowsKept (side : Side) (b : Board) (t : List ℤ) (words : List ℕ) 
   pub outputs : made ≡ true → side ≡ Outputs
   pub sets : made ≡ true → RowSets (b .vertices) (graphIn b t) words
 
--- r says whether v is accepted, and the table is then v's; a refused try changes no cell. A step's try
+-- r says whether v is accepted, and the table is then v's; a refused try changes no cell
 pub record Tries (v : Verdict (List ℤ)) (before after : List ℤ) (r : Bool) : Type 0 where
   pub taken : r ≡ true → v ≡ accepted after
   pub refused : r ≡ false → T (not (isAccepted v)) × (after ≡ before)
 
+-- a step's try
 abbrev pub TriesStep : Board → Step → List ℤ → List ℤ → Bool → Type 0
 TriesStep b q before after r = Tries (tableBy b q before) before after r
 
