@@ -15,7 +15,7 @@
  *
  * Lengths are in bytes. Cells past those named here stay as they were, and so do bytes after the last whole cell of a
  * run, which don't count. A run needs no alignment. No pointer may be NULL, not even with length 0, and no two runs of
- * one call may overlap. The calls keep no state, allocate nothing and take about 200 KB of stack; calls at the same time
+ * one call may overlap. The calls keep no state, allocate nothing and take about 125 KB of stack; calls at the same time
  * are fine as long as they share no run that one of them writes.
  *
  * An answer below 0 is a refusal: minus one of the numbers below, the first that applies in the order listed. A refused

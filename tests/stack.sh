@@ -27,9 +27,9 @@ echo "|---|---:|---:|"
 row matrix "$("$work/stack" matrix)" 12288
 row prune "$("$work/stack" prune)" 20480
 row run "$("$work/stack" run)" 36864
-row board_matrix "$("$work/stack" board_matrix)" 180224
+row board_matrix "$("$work/stack" board_matrix)" 126976
 for call in board_shrink board_prune; do row "$call" "$("$work/stack" "$call")" 122880; done
-row thin "$(process crates/thin/stdin)" 524288
+row thin "$(process crates/thin/stdin)" 290816
 if [ "$above" -gt 0 ]; then
     echo "stack: $above above their limit" >&2
     exit 1

@@ -3,9 +3,13 @@
 use second::board::Board;
 
 /// Boards of 90 vertices.
-pub const NAMES: [&str; 6] = ["dense", "ones", "layered", "sparse", "ladder", "fans"];
+pub const NAMES: [&str; 8] =
+    ["dense", "ones", "layered", "sparse", "ladder", "fans", "rounds", FULLEST];
 
-/// The board of a name; of the first four also smaller ones, as `dense30`.
+/// The one with the most arcs that a board can have.
+pub const FULLEST: &str = "full";
+
+/// The board of a name, or a smaller one, as `dense30`.
 pub fn board(name: &str) -> Option<(Board, Vec<i32>)> {
     let kind = name.trim_end_matches(|c: char| c.is_ascii_digit());
     let vertices = match &name[kind.len()..] {
@@ -20,6 +24,8 @@ pub fn board(name: &str) -> Option<(Board, Vec<i32>)> {
         "sparse" => Some(sparse(&mut random, vertices)),
         "ladder" => Some(ladder(vertices)),
         "fans" => Some(fans(vertices)),
+        "rounds" => Some(rounds(vertices)),
+        "full" => Some(full(&mut random, vertices)),
         _ => None,
     }
 }
@@ -36,6 +42,17 @@ fn dense(random: &mut Random, vertices: usize) -> (Board, Vec<i32>) {
     for (place, &u) in order.iter().enumerate() {
         for &v in order[place + 1..].iter().filter(|&&v| v >= board.inputs) {
             table[board.vertices * u + v] = random.delay();
+        }
+    }
+    (board, table)
+}
+
+/// One input, and every arc to a higher number.
+fn full(random: &mut Random, vertices: usize) -> (Board, Vec<i32>) {
+    let (board, mut table) = sized(1, vertices - 1, vertices);
+    for u in 0..vertices {
+        for v in u + 1..vertices {
+            table[vertices * u + v] = random.delay();
         }
     }
     (board, table)
@@ -115,6 +132,24 @@ fn fans(vertices: usize) -> (Board, Vec<i32>) {
     for v in 2..inner {
         arc(0, v);
         arc(inner, v);
+    }
+    (board, table)
+}
+
+/// Three arcs in five of those that fit one order, each as long as its ends are apart in it: all
+/// paths between two vertices take the same, so that every pair of inputs has a common difference.
+/// Six numbers are inner, so that each of many rounds shares an input and shrinks the new vertex.
+fn rounds(vertices: usize) -> (Board, Vec<i32>) {
+    let inputs = vertices * 22 / 45;
+    let (board, mut table) = sized(inputs, vertices * 4 / 9, vertices);
+    let order: Vec<usize> = (0..inputs).chain((inputs..vertices).rev()).collect();
+    let mut random = Random(2_239); // the worst of 8,000 that were tried
+    for (place, &u) in order.iter().enumerate() {
+        for (beyond, &v) in order.iter().enumerate().skip(place + 1) {
+            if v >= inputs && random.below(100) < 60 {
+                table[vertices * u + v] = (beyond - place) as i32;
+            }
+        }
     }
     (board, table)
 }

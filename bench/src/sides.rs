@@ -2,7 +2,7 @@
 //! counted: `ours_*` are the proved ones, `rust_*` the second implementation's.
 
 use second::board::Sizes;
-use second::{delays, run, steps};
+use second::{delays, file, run, steps};
 
 #[link(name = "meter", kind = "static")]
 extern "C" {
@@ -26,6 +26,14 @@ extern "C" {
         scratch: *mut i64,
         scratch_length: u64,
     ) -> u64;
+    fn meter_read(
+        bytes: *const u8,
+        bytes_length: u64,
+        table: *mut i32,
+        table_length: u64,
+        scratch: *const i64,
+        scratch_length: u64,
+    ) -> u64;
     fn meter_run(
         inputs: u64,
         outputs: u64,
@@ -44,14 +52,16 @@ pub struct Lent {
     pub table: Vec<i32>,
     pub scratch: Vec<i64>,
     pub matrix: Vec<i64>,
+    pub file: Vec<u8>,
 }
 
 pub type Side = extern "C" fn(&mut Lent) -> u64;
 
-pub const CALLS: [(&str, Side, Side); 3] = [
+pub const CALLS: [(&str, Side, Side); 4] = [
     ("matrix", ours_matrix, rust_matrix),
     ("prune", ours_prune, rust_prune),
     ("run", ours_run, rust_run),
+    ("read", ours_read, rust_read),
 ];
 
 #[no_mangle]
@@ -112,6 +122,22 @@ pub extern "C" fn ours_run(lent: &mut Lent) -> u64 {
 
 #[no_mangle]
 #[inline(never)]
+pub extern "C" fn ours_read(lent: &mut Lent) -> u64 {
+    // as above
+    unsafe {
+        meter_read(
+            lent.file.as_ptr(),
+            lent.file.len() as u64,
+            lent.table.as_mut_ptr(),
+            lent.table.len() as u64,
+            lent.scratch.as_ptr(),
+            lent.scratch.len() as u64,
+        )
+    }
+}
+
+#[no_mangle]
+#[inline(never)]
 pub extern "C" fn rust_matrix(lent: &mut Lent) -> u64 {
     number(delays::matrix(lent.sizes, &lent.table, lent.scratch.len(), &mut lent.matrix))
 }
@@ -126,6 +152,13 @@ pub extern "C" fn rust_prune(lent: &mut Lent) -> u64 {
 #[inline(never)]
 pub extern "C" fn rust_run(lent: &mut Lent) -> u64 {
     number(run::run(lent.sizes, &mut lent.table, lent.scratch.len()))
+}
+
+#[no_mangle]
+#[inline(never)]
+pub extern "C" fn rust_read(lent: &mut Lent) -> u64 {
+    let read = file::read(&lent.file, &mut lent.table, lent.scratch.len());
+    number(read.map_err(|refused| refused.number))
 }
 
 /// 0, or the refusal's number.

@@ -10,3 +10,4 @@ pub mod Count
 pub mod Span
 pub mod Propagation
 pub mod FewerArcs
+pub mod MostArcs

@@ -22,7 +22,7 @@ use Rattle.paths.specs.declared.queries.Answer.the-variants as A
 use Rattle.paths.specs.Queries.{queryMeaning, Fills}
 use Rattle.codec.proofs.Places.{AreBytes}
 use Rattle.host.specs.Runs.{wholeCells, cellsOf, withCells}
-use Rattle.host.specs.Shown.{shown}
+use Rattle.host.specs.Shown.{shown, pairsShown}
 use Rattle.host.specs.Answers.{matrixAnswer, matrixBytes}
 use Rattle.host.proofs.Kept.{length-cells, new-cells}
 use Rattle.host.proofs.Shown.{shown-is, shown-enough, Small, small, checked-same, checked-room, Copy}
@@ -36,7 +36,7 @@ record Seen (bytes : List ℕ) (v′ v : Verdict (List ℤ)) : Type 0 where
   answer : matrixAnswer v′ ≡ matrixAnswer v
   after : matrixBytes v′ bytes ≡ matrixBytes v bytes
 
-module _ (m n N s : ℕ) (table : List ℕ) (t′ : List ℤ) (copy : Copy N table t′) (bytes : List ℕ) (are : AreBytes bytes) (d′ : List ℤ) (long : length d′ ≡ shown m n (wholeCells 8 bytes)) where
+module _ (m n N s : ℕ) (table : List ℕ) (t′ : List ℤ) (copy : Copy N table t′) (bytes : List ℕ) (are : AreBytes bytes) (d′ : List ℤ) (long : length d′ ≡ pairsShown m n (wholeCells 8 bytes)) where
   abbrev own : List ℤ
   own = cellsOf 8 bytes
 
@@ -47,14 +47,17 @@ module _ (m n N s : ℕ) (table : List ℕ) (t′ : List ℤ) (copy : Copy N tab
       new : List ℤ
       new = matrixCells m n N g
 
+      all : length d′ ≡ shown m n (wholeCells 8 bytes)
+      all = omega (arith, long, shown-is m n (wholeCells 8 bytes) (h .inputs) (h .outputs), h .pairs)
+
       same : leb (m * n) (length d′) ≡ leb (m * n) (length own)
-      same = ap (leb (m * n)) (long ∙ ap (shown m n) (sym (length-cells 8 bytes))) ∙ shown-enough m n (length own) (h .inputs) (h .outputs)
+      same = ap (leb (m * n)) (all ∙ ap (shown m n) (sym (length-cells 8 bytes))) ∙ shown-enough m n (length own) (h .inputs) (h .outputs)
 
       of : (b′ b : Bool) → b′ ≡ b → (T b → m * n ≤ length own) → Seen bytes (require b′ DestinationShort (accepted (new ++ drop (m * n) d′))) (require b DestinationShort (accepted (new ++ drop (m * n) own)))
       of true true e k = record {
         answer = refl;
         after = new-cells 8 bytes are (omega arith) new d′ (m * n) (length-matrix m n N g)
-            (omega (arith, long, shown-is m n (wholeCells 8 bytes) (h .inputs) (h .outputs))) (omega (arith, k tt, length-cells 8 bytes));
+            (omega (arith, all, shown-is m n (wholeCells 8 bytes) (h .inputs) (h .outputs))) (omega (arith, k tt, length-cells 8 bytes));
       }
       of false false e k = record { answer = refl; after = refl }
       of true false e k = absurd (let z : _≡_ {A = ℕ} 0 1 = cc in omega arith)
@@ -72,7 +75,7 @@ module _ (m n N s : ℕ) (table : List ℕ) (t′ : List ℤ) (copy : Copy N tab
 pub record Over (m n N s : ℕ) (table bytes : List ℕ) (t′ d′ after : List ℤ) (r : Answer) : Type 0 where
   pub are : AreBytes bytes
   pub copy : Copy N table t′
-  pub long : length d′ ≡ shown m n (wholeCells 8 bytes)
+  pub long : length d′ ≡ pairsShown m n (wholeCells 8 bytes)
   pub call : Fills (matrixCall m n N s t′ d′) d′ after r
 
 module _ {m n N s : ℕ} {table bytes : List ℕ} {t′ d′ after : List ℤ} {r : Answer} (o : Over m n N s table bytes t′ d′ after r) where

@@ -23,8 +23,9 @@ use Rattle.timing.specs.Refusal.{Verdict, refused, accepted, require, _then_}
 use Rattle.timing.specs.Table.{readCell, graphOf}
 use Rattle.timing.specs.Checks.{sizesFit, tableFits, scratchFits, cellsFit, memoryChecked, arcsChecked, checked}
 use Rattle.timing.proofs.Checks.{memory-accepted}
+use Rattle.timing.proofs.Most.{pairs-most}
 use Rattle.host.specs.Runs.{wholeCells, runCell, cellsOf}
-use Rattle.host.specs.Shown.{shown}
+use Rattle.host.specs.Shown.{shown, mostPairs}
 use Rattle.host.proofs.Kept.{length-cells, cell-of}
 
 pub shown-is : (r c cells : ℕ) → r ≤ maxVertices → c ≤ maxVertices → shown r c cells ≡ min cells (r * c)
@@ -49,6 +50,7 @@ pub record Small (m n N : ℕ) : Type 0 where
   pub inputs : m ≤ maxVertices
   pub outputs : n ≤ maxVertices
   pub vertices : N ≤ maxVertices
+  pub pairs : m * n ≤ mostPairs
 
 pub small : (m n N : ℕ) → T (sizesFit m n N) → Small m n N
 unfolding sizesFit
@@ -56,7 +58,7 @@ small m n N t =
     let p = and-e (leb 1 m && leb 1 n && leb (m + n) N) (leb N maxVertices) t in
     let few = leb→le N maxVertices (p .1) in
     let roles = leb→le (m + n) N (and-e (leb 1 m && leb 1 n) (leb (m + n) N) (p .0) .1) in
-    record { inputs = omega arith; outputs = omega arith; vertices = few }
+    record { inputs = omega arith; outputs = omega arith; vertices = few; pairs = pairs-most m n (omega arith) }
 
 -- the same test, and the same verdict where it holds
 require-same : {A : Type 0} (b b′ : Bool) (r : Refusal) (x x′ : Verdict A) → b′ ≡ b → (T b → x′ ≡ x) → require b′ r x′ ≡ require b r x
@@ -124,9 +126,9 @@ copied N s t′ k e h = record {
     len = ap length e ∙ length-tabulate (runCell 4 s) k
 
 -- ---- local room of which k cells are lent on
-module _ {A : Type 0} (l : List A) (k : ℕ) (all : length l ≡ maxVertices * maxVertices) where
-  pub part-long : k ≤ maxVertices * maxVertices → length (take k l) ≡ k
+module _ {A : Type 0} (l : List A) (k : ℕ) {most : ℕ} (all : length l ≡ most) where
+  pub part-long : k ≤ most → length (take k l) ≡ k
   part-long h = length-take-le k l (omega arith)
 
-  pub part-shown : (r c x : ℕ) → (k ≡ shown r c x) × (k ≤ maxVertices * maxVertices) → length (take k l) ≡ shown r c x
-  part-shown r c x p = part-long (p .1) ∙ p .0
+  pub part-shown : (x : ℕ) → (k ≡ x) × (k ≤ most) → length (take k l) ≡ x
+  part-shown x p = part-long (p .1) ∙ p .0

@@ -6,3 +6,11 @@ use Rattle.timing.specs.Limits.{maxVertices}
 
 unfoldable pub shown : ℕ → ℕ → ℕ → ℕ
 shown r c cells = cond (leb r maxVertices && leb c maxVertices) (min cells (r * c)) 0
+
+-- the most pairs of an input and an output: 45 of each
+abbrev pub mostPairs : ℕ
+mostPairs = 2025
+
+-- of a matrix, no more than a board can have
+abbrev pub pairsShown : ℕ → ℕ → ℕ → ℕ
+pairsShown m n cells = min mostPairs (shown m n cells)

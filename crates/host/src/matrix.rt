@@ -8,7 +8,7 @@ ghost use mathlib.Core.Path.{_≡_};
 ghost use lib.ListN.{length};
 ghost use Rattle.laws.specs.Lent.{was};
 ghost use Rattle.host.specs.Runs.{wholeCells};
-ghost use Rattle.host.specs.Shown.{shown};
+ghost use Rattle.host.specs.Shown.{shown, pairsShown};
 ghost use Rattle.host.specs.Answers.{matrixAnswer, matrixBytes, matrixWith, matrixOver};
 
 // What an accepted call answers.
@@ -26,7 +26,7 @@ fn matrix_in(
     delays: &mut [i64],
 ) -> i64
     requires { ⌜ length (now cells) ≡ shown vertices vertices (wholeCells 4 (now table)) ⌝ }
-    requires { ⌜ length (now delays) ≡ shown inputs outputs (wholeCells 8 (now matrix)) ⌝ }
+    requires { ⌜ length (now delays) ≡ pairsShown inputs outputs (wholeCells 8 (now matrix)) ⌝ }
     ensures { λ r. ⌜ r ≡ matrixAnswer (matrixWith inputs outputs vertices (length (was scratch)) (was table) (was matrix)) ⌝ }
     ensures { λ _. ⌜ now (matrix .exit) ≡ matrixBytes (matrixWith inputs outputs vertices (length (was scratch)) (was table) (was matrix)) (was matrix) ⌝ }
 {
@@ -55,10 +55,10 @@ pub fn matrix(
 {
     let count = runs::shown(vertices, vertices, table.len() / 4);
     let room = runs::shown(vertices, vertices, scratch.len() / 8);
-    let pairs = runs::shown(inputs, outputs, matrix.len() / 8);
+    let pairs = runs::pairs_shown(inputs, outputs, matrix.len() / 8);
     let mut cells = room::cells();
     let mut wide = room::wide_cells();
-    let mut delays = room::wide_cells();
+    let mut delays = runs::pair_cells();
     matrix_in(
         inputs,
         outputs,

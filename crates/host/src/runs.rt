@@ -9,7 +9,7 @@ ghost use Rattle.laws.specs.Lists.{tabulate};
 ghost use Rattle.laws.specs.Lent.{was};
 ghost use Rattle.timing.specs.Limits.{maxVertices};
 ghost use Rattle.host.specs.Runs.{runCell, withCells};
-ghost use Rattle.host.specs.Shown.{shown};
+ghost use Rattle.host.specs.Shown.{shown, mostPairs, pairsShown};
 
 // How many of a run's cells a call can use.
 pub fn shown(rows: usize, columns: usize, cells: usize) -> usize
@@ -26,6 +26,24 @@ pub fn shown(rows: usize, columns: usize, cells: usize) -> usize
         return cells;
     }
     most
+}
+
+// How many of a matrix's cells a call can use.
+pub fn pairs_shown(inputs: usize, outputs: usize, cells: usize) -> usize
+    ensures { λ r. ⌜ (r ≡ pairsShown inputs outputs cells) × (r ≤ mostPairs) ⌝ }
+{
+    let all = shown(inputs, outputs, cells);
+    if all > Board::MAX_PAIRS {
+        return Board::MAX_PAIRS;
+    }
+    all
+}
+
+// Room for a matrix's cells.
+pub fn pair_cells() -> [i64; Board::MAX_PAIRS]
+    ensures { λ r. ⌜ length r ≡ mostPairs ⌝ }
+{
+    [0i64; Board::MAX_PAIRS]
 }
 
 // Cell x of a table.

@@ -1,16 +1,20 @@
 // The calls that the benchmark (bench/) measures, as exports over cells. Each answers 0, or the refusal's number.
+use files::answer::Read;
+use files::read;
 use paths::queries;
 use paths::queries::Answer;
 use run::answer::Ran;
 use steps::answer::Answer as Stepped;
 use timing::numbers;
+ghost use mathlib.Core.Path.{_≡_};
 ghost use lib.ListN.{length};
 ghost use Rattle.laws.specs.Lent.{was};
 ghost use Rattle.timing.specs.Queries.{matrixCall};
 ghost use Rattle.reduction.specs.Steps.{prune, stepCall};
 ghost use Rattle.reduction.specs.Run.{runCall};
+ghost use Rattle.format.specs.Reading.{readCall, tableRead};
 ghost use Rattle.paths.specs.Queries.{ScratchAfter};
-ghost use Rattle.meter.specs.Answers.{Measures};
+ghost use Rattle.meter.specs.Answers.{Measures, readNumber};
 
 #[no_mangle]
 pub extern "C" fn meter_matrix(
@@ -64,5 +68,17 @@ pub extern "C" fn meter_run(
     match answer {
         Ran::Accepted(_, _) => 0,
         Ran::Refused(r) => numbers::number(r),
+    }
+}
+
+#[no_mangle]
+pub extern "C" fn meter_read(bytes: &[u8], table: &mut [i32], scratch: &[i64]) -> usize
+    ensures { λ r. ⌜ r ≡ readNumber (readCall (was bytes) (was table) (length (was scratch))) ⌝ }
+    ensures { λ _. ⌜ now (table .exit) ≡ tableRead (was bytes) (was table) (length (was scratch)) ⌝ }
+{
+    let answer = read::read(bytes, table, scratch);
+    match answer {
+        Read::Board(_) => 0,
+        Read::Refused(r, _) => numbers::number(r),
     }
 }

@@ -1,7 +1,7 @@
 -- Arcs into a vertex, as a search down its column finds them.
 use mathlib.Core.Path.{_≡_, sym, ap, _∙_}
 use mathlib.Core.Bool.{true, false}
-use Prim.Native.Nat.{ℕ, zero, _+_, _<_}
+use Prim.Native.Nat.{ℕ, zero, _+_, _≤_, _<_}
 use native.Mathlib.Decide.{ℕ-discrete, decLt}
 use native.Mathlib.Omega.{arith}
 use borrow.Author.Tests.{eq-eqb, ne-eqb}
@@ -16,6 +16,26 @@ use Rattle.graph.specs.Graph.{Graph}
 use Rattle.graph.specs.Count.{bit, fanIn}
 use Rattle.graph.proofs.Presence.{present-bit, absent-bit}
 use Rattle.paths.specs.Cells.{NextInto}
+
+-- no arc to v from the vertices passed
+abbrev pub Passed : Graph → ℕ → ℕ → ℕ → Type 0
+Passed g v from u = (k : ℕ) → from ≤ k → k < u → bit (g k v) ≡ 0
+
+module _ (g : Graph) (v from u : ℕ) (h : Passed g v from u) where
+  pub passed-more : bit (g u v) ≡ 0 → Passed g v from (u + 1)
+  passed-more e k a b = go (ℕ-discrete k u)
+    where
+      go : Dec (k ≡ u) → bit (g k v) ≡ 0
+      go (yes q) = ap (λ (x : ℕ). bit (g x v)) q ∙ e
+      go (no ne) = h k a (omega arith)
+
+  -- a search that goes on from u
+  pub passed-on : (N r : ℕ) → from ≤ u → NextInto N g v u r → NextInto N g v from r
+  passed-on N r l s = record { past = omega (arith, s .past); upto = s .upto; none = λ k a b. go k a b (decLt k u); arc = s .arc }
+    where
+      go : (k : ℕ) → from ≤ k → k < r → Dec (k < u) → bit (g k v) ≡ 0
+      go k a b (yes c) = h k a c
+      go k a b (no c) = s .none k (omega arith) b
 
 module _ (N : ℕ) (g : Graph) (v : ℕ) where
   abbrev into : ℕ → ℕ

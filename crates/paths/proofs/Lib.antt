@@ -1,6 +1,9 @@
 pub mod Sizes
 pub mod Rows
+pub mod Walked
 pub mod Chaining
+pub mod Lanes
+pub mod Offering
 pub mod ReadCells
 pub mod Inputs
 pub mod Columns

@@ -1,12 +1,13 @@
 -- A matrix that is filled row by row.
-use mathlib.Core.Path.{_≡_, ap, _∙_}
+use mathlib.Core.Path.{_≡_, sym, ap, _∙_}
 use mathlib.Core.List.{List, _++_}
 use Prim.Native.Nat.{ℕ, _+_, _-_, _*_, _≤_, _<_}
-use native.Mathlib.Nat.{mul-comm}
+use native.Mathlib.Nat.{mul-comm, mul-le-mul-left}
 use native.Mathlib.Omega.{arith}
 use borrow.Author.Tests.{le-leb, lt-leb}
 use lib.IntN.{ℤ, pos}
 use lib.ListN.{length, getD, take, drop, length-take, length-drop, length-append}
+use lib.Seq.{drop-at}
 use Rattle.laws.specs.Lists.{tabulate, rows}
 use Rattle.laws.proofs.Grid.{row-of}
 use Rattle.laws.proofs.Lists.{length-rows, tabulate-same}
@@ -23,13 +24,32 @@ use Rattle.paths.specs.Queries.{Fills}
 use Rattle.paths.specs.declared.board.Board.{Board}
 use Rattle.paths.specs.Arrivals.{filled}
 use Rattle.paths.specs.Checked.{Passable}
+use Rattle.paths.proofs.Answering.{drop-further}
 use Rattle.paths.proofs.Starting.{stored-cell}
 
 -- a cell of the matrix
 abbrev pub entry : Board → List ℤ → ℕ → ℕ → ℤ
 entry b t i j = writeCell absentWide (matrix (b .inputs) (b .vertices) (graphOf (b .vertices) t) i j)
 
-module _ {b : Board} {t : List ℤ} {o : List ℕ} (p : Passable b t o) (d₀ d : List ℤ) (room : b .outputs * b .inputs ≤ length d₀) (i : ℕ) (e : d ≡ rows (b .outputs) i (entry b t) ++ drop (b .outputs * i) d₀) (h : i < b .inputs) where
+-- the first i rows are there, and the rest is as it was
+abbrev pub RowsDone : Board → List ℤ → ℕ → List ℤ → List ℤ → Type 0
+RowsDone b t i d₀ d = d ≡ rows (b .outputs) i (entry b t) ++ drop (b .outputs * i) d₀
+
+module _ (b : Board) (t : List ℤ) (i : ℕ) (d₀ d : List ℤ) (e : RowsDone b t i d₀ d) where
+  pub rows-long : b .outputs * i ≤ length d₀ → length d ≡ length d₀
+  rows-long h = ap length e ∙ simp (length-append, length-rows, length-drop) (omega arith)
+
+  left : drop (b .outputs * i) d ≡ drop (b .outputs * i) d₀
+  left = ap (drop (b .outputs * i)) e ∙ drop-at (rows (b .outputs) i (entry b t)) (drop (b .outputs * i) d₀) (b .outputs * i) (length-rows (b .outputs) (entry b t) i)
+
+  -- a loop that goes on from here
+  pub rows-again : RowsDone b t i d d
+  rows-again = e ∙ ap (λ (x : List ℤ). rows (b .outputs) i (entry b t) ++ x) (sym left)
+
+  pub rows-on : (k : ℕ) (x : List ℤ) → i ≤ k → RowsDone b t k d x → RowsDone b t k d₀ x
+  rows-on k x h q = q ∙ ap (λ (y : List ℤ). rows (b .outputs) k (entry b t) ++ y) (drop-further (b .outputs * i) (b .outputs * k) d₀ d (mul-le-mul-left (b .outputs) h) left)
+
+module _ {b : Board} {t : List ℤ} {o : List ℕ} (p : Passable b t o) (d₀ d : List ℤ) (room : b .outputs * b .inputs ≤ length d₀) (i : ℕ) (e : RowsDone b t i d₀ d) (h : i < b .inputs) where
   abbrev n : ℕ
   n = b .outputs
 
@@ -37,7 +57,7 @@ module _ {b : Board} {t : List ℤ} {o : List ℕ} (p : Passable b t o) (d₀ d 
   row = row-of n i (b .inputs) h
 
   pub matrix-length : length d ≡ length d₀
-  matrix-length = ap length e ∙ simp (length-append, length-rows, length-drop) (omega (arith, row, room))
+  matrix-length = rows-long b t i d₀ d e (omega (arith, row, room))
 
   pub row-length : length (take (n * i + n - n * i) (drop (n * i) d)) ≡ n
   row-length = simp (length-take, length-drop) (omega (arith, matrix-length, row, room))

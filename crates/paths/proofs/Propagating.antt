@@ -13,22 +13,26 @@ use lib.Seq.{ext-getD, getD-append-add, getD-drop}
 use Rattle.laws.specs.Lists.{tabulate}
 use Rattle.laws.proofs.Lists.{length-tabulate, getD-tabulate}
 use Rattle.graph.specs.Delay.{Delay, _⋓_, _⊕_}
-use Rattle.graph.specs.Graph.{propagated}
+use Rattle.graph.specs.Graph.{Graph, propagated}
 use Rattle.graph.proofs.Delay.{⋓-absent}
-use Rattle.graph.proofs.Span.{span-le}
+use Rattle.graph.proofs.Span.{InSpan, span-le}
+use Rattle.graph.proofs.Rank.{Ranked}
+use Rattle.graph.proofs.Propagation.{Settled, settled-is}
 use Rattle.timing.specs.Limits.{delayLimit, absentWide, fits}
-use Rattle.timing.specs.Table.{writeCell, graphOf}
+use Rattle.timing.specs.Table.{readCell, writeCell, graphOf}
 use Rattle.timing.specs.Delays.{arrivalIn}
 use Rattle.timing.proofs.Limits.{fits-span, span-fits}
 use Rattle.timing.proofs.Table.{graphOf-within, read-absent, read-at, written-read}
-use Rattle.timing.proofs.Checks.{sound-fits, sound-inputs}
+use Rattle.timing.proofs.Checks.{sound-fits}
 use Rattle.paths.specs.declared.board.Board.{Board}
-use Rattle.paths.specs.Chain.{Chains}
+use Rattle.paths.specs.Chain.{chainAt, walkedAt, Chains}
 use Rattle.paths.specs.Arrivals.{insideLimit, reachedLimit, filled, Started, Reached, Pushable, Pushed}
 use Rattle.paths.specs.Checked.{Passable}
 use Rattle.paths.proofs.Rows.{lent, lent-cell, lent-long}
-use Rattle.paths.proofs.Chaining.{lentChain, chain-long, chain-lent}
-use Rattle.paths.proofs.Pushing.{pushed, pushed-span, pushed-all}
+use Rattle.paths.proofs.Sorting.{order-ranked}
+use Rattle.paths.proofs.Walked.{walked-span, settled-with}
+use Rattle.paths.proofs.Chaining.{lentChain, chain-long, chain-lent, walked-lent, walkedIn, walkedIn-⊑, walkedIn-within, walkedIn-order, walkedIn-or}
+use Rattle.paths.proofs.Pushing.{pushed, pushed-span, pushed-settled}
 
 -- a list is known by its first n cells, read as delays, and by the rest
 pub filled-is : (n : ℕ) (h : ℕ → Delay) (f₀ f : List ℤ) → n ≤ length f₀ → length f ≡ length f₀ → ((v : ℕ) → v < n → arrivalIn f v ≡ h v) → ((v : ℕ) → n ≤ v → getD f v (pos 0) ≡ getD f₀ v (pos 0)) → f ≡ filled n h f₀
@@ -60,62 +64,70 @@ pushable {b} {t} P C u l f h = record {
   room = h;
   near = λ v k. subst (λ (d : Delay). T (fits delayLimit d)) (sym (lent-cell (b .vertices) t u (P .checked .lent .room) l v k)) (sound-fits (P .checked .sound) u v);
   chain = chain-lent C u (P .checked .lent .room) l;
-  no-first = lent-cell (b .vertices) t u (P .checked .lent .room) l 0 (omega (arith, P .checked .lent .sized)) ∙ sound-inputs (P .checked .sound) u 0 (P .checked .lent .sized .some-inputs);
 }
 
+-- the same for another list
+pub pushable-on : {n : ℕ} {row : List ℤ} {c : List ℕ} {f : List ℤ} → Pushable n row c f → (f′ : List ℤ) → n ≤ length f′ → Pushable n row c f′
+pushable-on P f′ h = record { some = P .some; few = P .few; row-room = P .row-room; chain-room = P .chain-room; room = h; near = P .near; chain = P .chain }
+
+pub reached : (a : ℤ) → a ≢ absentWide → T (fits reachedLimit (readCell absentWide a)) → Reached a
+reached a ne h = record { there = ne; near = subst (λ (d : Delay). T (fits reachedLimit d)) (read-at absentWide a ne) h }
+
+-- what is not there pushes nothing
+pub pushed-none : (n : ℕ) (row : List ℤ) (c : List ℕ) (a : ℤ) (f : List ℤ) → a ≡ absentWide → Pushed n row c a f f
+pushed-none n row c a f e = record { cells = λ v h. sym (ap (λ (d : Delay). arrivalIn f v ⋓ (d ⊕ walkedAt row c v)) (read-absent absentWide a e) ∙ ⋓-absent (arrivalIn f v)); rest = λ v h. refl }
+
 -- the first p vertices have pushed
-pub record Going (n : ℕ) (t : List ℤ) (o : List ℕ) (f₀ f : List ℤ) (p : ℕ) : Type 0 where
+pub record Going (n : ℕ) (t : List ℤ) (o c : List ℕ) (f₀ f : List ℤ) (p : ℕ) : Type 0 where
   pub upto : p ≤ n
   pub size : length f ≡ length f₀
-  pub cells : (v : ℕ) → v < n → arrivalIn f v ≡ pushed (graphOf n t) o (arrivalIn f₀) p v
+  pub cells : (v : ℕ) → v < n → arrivalIn f v ≡ pushed (walkedIn n t c) o (arrivalIn f₀) p v
   pub rest : (v : ℕ) → n ≤ v → getD f v (pos 0) ≡ getD f₀ v (pos 0)
 
-pub going-start : (n : ℕ) (t : List ℤ) (o : List ℕ) (f : List ℤ) → Going n t o f f 0
+pub going-start : (n : ℕ) (t : List ℤ) (o c : List ℕ) (f : List ℤ) → Going n t o c f f 0
 unfolding pushed
-going-start n t o f = record { upto = omega arith; size = refl; cells = λ v h. refl; rest = λ v h. refl }
+going-start n t o c f = record { upto = omega arith; size = refl; cells = λ v h. refl; rest = λ v h. refl }
 
-module _ {b : Board} {t : List ℤ} {o : List ℕ} {f₀ f : List ℤ} {p : ℕ} (R : Started b t o f₀) (G : Going (b .vertices) t o f₀ f p) where
+module _ {b : Board} {t : List ℤ} {o c : List ℕ} {f₀ f : List ℤ} {p : ℕ} (R : Started b t o f₀) (C : Chains (b .vertices) t c) (G : Going (b .vertices) t o c f₀ f p) where
   abbrev n : ℕ
   n = b .vertices
 
   abbrev F : ℕ → Delay
   F = arrivalIn f₀
 
-  module _ (k : p < b .vertices) where
+  abbrev k : Graph
+  k = walkedIn n t c
+
+  module _ (h : p < b .vertices) where
     abbrev x : ℕ
     x = getD o p 0
 
     pub x-in : x < n
-    x-in = R .passable .order .vertex p k .0
+    x-in = R .passable .order .vertex p h .0
 
-    -- the vertex is not reached: it pushes nothing
-    pub skipped : getD f x (pos 0) ≡ absentWide → Going n t o f₀ f (p + 1)
-    unfolding pushed
-    skipped z = rw add-one (record {
-      upto = k;
-      size = G .size;
-      cells = λ v h. G .cells v h ∙ sym (⋓-absent (pushed (graphOf n t) o F p v))
-          ∙ ap (λ (d : Delay). pushed (graphOf n t) o F p v ⋓ (d ⊕ graphOf n t x v)) (sym (read-absent absentWide (getD f x (pos 0)) z) ∙ G .cells x x-in);
-      rest = G .rest;
-    })
+    pub near : T (fits reachedLimit (arrivalIn f x))
+    near = subst (λ (d : Delay). T (fits reachedLimit d)) (sym (G .cells x x-in))
+        (span-fits reachedLimit (pushed k o F p x) (span-le (insideLimit + p * delayLimit) reachedLimit (pushed k o F p x) (omega (arith, R .passable .checked .lent .sized .few))
+        (pushed-span (walkedIn-within n t c) (walkedIn-order t c (R .passable .order)) F insideLimit delayLimit (λ v l. fits-span insideLimit (F v) (R .near v l)) arcs p x (omega arith) x-in)))
+      where
+        arcs : (u v : ℕ) → InSpan delayLimit (k u v)
+        arcs u v = walked-span delayLimit (chainAt n c u) (graphOf n t u) v (fits-span delayLimit (graphOf n t u v) (sound-fits (R .passable .checked .sound) u v))
 
-    pub reached : getD f x (pos 0) ≢ absentWide → Reached (getD f x (pos 0))
-    reached ne = record {
-      there = ne;
-      near = subst (λ (d : Delay). T (fits reachedLimit d)) (sym (G .cells x x-in) ∙ read-at absentWide (getD f x (pos 0)) ne)
-          (span-fits reachedLimit (pushed (graphOf n t) o F p x) (span-le (insideLimit + p * delayLimit) reachedLimit (pushed (graphOf n t) o F p x) (omega (arith, R .passable .checked .lent .sized .few))
-          (pushed-span (graphOf-within n t) (R .passable .order) F insideLimit delayLimit (λ v l. fits-span insideLimit (F v) (R .near v l)) (λ u v. fits-span delayLimit (graphOf n t u v) (sound-fits (R .passable .checked .sound) u v)) p x (omega arith) x-in)));
-    }
-
-    pub onward : (f′ : List ℤ) → length f′ ≡ length f → Pushed n (lent n t x (R .passable .checked .lent .room) x-in) (getD f x (pos 0)) f f′ → Going n t o f₀ f′ (p + 1)
+    pub onward : (f′ : List ℤ) → length f′ ≡ length f → Pushed n (lent n t x (R .passable .checked .lent .room) x-in) (lentChain C x (R .passable .checked .lent .room) x-in) (getD f x (pos 0)) f f′ → Going n t o c f₀ f′ (p + 1)
     unfolding pushed
     onward f′ l q = rw add-one (record {
-      upto = k;
+      upto = h;
       size = l ∙ G .size;
-      cells = λ v h. q .cells v h ∙ ap₂ _⋓_ (G .cells v h) (ap₂ _⊕_ (G .cells x x-in) (lent-cell n t x (R .passable .checked .lent .room) x-in v h));
-      rest = λ v h. q .rest v h ∙ G .rest v h;
+      cells = λ v m. q .cells v m ∙ ap₂ _⋓_ (G .cells v m) (ap₂ _⊕_ (G .cells x x-in) (sym (walked-lent C x (R .passable .checked .lent .room) x-in v m)));
+      rest = λ v m. q .rest v m ∙ G .rest v m;
     })
 
   pub ended : p ≡ b .vertices → f ≡ filled (b .vertices) (propagated (b .vertices) (graphOf (b .vertices) t) (arrivalIn f₀)) f₀
   ended e = filled-is n (propagated n (graphOf n t) F) f₀ f (R .room) (G .size)
-      (λ v l. G .cells v l ∙ ap (λ (q : ℕ). pushed (graphOf n t) o F q v) e ∙ pushed-all (graphOf-within n t) (R .passable .order) F v) (G .rest)
+      (λ v l. G .cells v l ∙ ap (λ (q : ℕ). pushed k o F q v) e ∙ settled-is (graphOf-within n t) ranked settled v) (G .rest)
+    where
+      ranked : Ranked (graphOf n t)
+      ranked = order-ranked (R .passable .order)
+
+      settled : Settled (graphOf n t) F (pushed k o F n)
+      settled = settled-with ranked (walkedIn-⊑ n t c) (walkedIn-or C) (pushed-settled (walkedIn-within n t c) (walkedIn-order t c (R .passable .order)) F)

@@ -14,7 +14,7 @@ use Rattle.graph.proofs.Delay.{absent-⊑, ⊑-refl, ⊑-trans, ⊕-absent, ⊕
 use Rattle.graph.proofs.Presence.{absent-or}
 use Rattle.graph.proofs.Longest.{Within}
 use Rattle.graph.proofs.Span.{InSpan, span-⊕, span-le}
-use Rattle.graph.proofs.Propagation.{settled-is}
+use Rattle.graph.proofs.Propagation.{Settled, settled-is}
 use Rattle.paths.specs.Order.{TopologicalOrder}
 use Rattle.paths.proofs.Sorting.{order-ranked}
 
@@ -79,11 +79,15 @@ module _ {n : ℕ} {g : Graph} {o : List ℕ} (w : Within n g) (s : TopologicalO
   pushing zero h = record { start = λ v. ⊑-refl (F v); flow = λ u v l. absurd (not-suc-le-zero l); last = λ v. inl (⊑-refl (F v)) }
   pushing (suc p) h = push-step (pushed g o F p) p h (pushing p (omega arith))
 
-  pub pushed-all : (v : ℕ) → pushed g o F n v ≡ propagated n g F v
-  pushed-all v =
+  -- nothing is left to push
+  pub pushed-settled : Settled g F (pushed g o F n)
+  pushed-settled =
       let P = pushing n (omega arith) in
-      settled-is w (order-ranked s) (record { start = P .start; flow = λ u v. go u v P (absent-or (g u v)); last = P .last }) v
+      record { start = P .start; flow = λ u v. go u v P (absent-or (g u v)); last = P .last }
     where
       go : (u v : ℕ) → Pushing (pushed g o F n) n → (g u v ≡ absent) ⊎ T (present (g u v)) → pushed g o F n u ⊕ g u v ⊑ pushed g o F n v
       go u v P (inl e) = rw (e, ⊕-absent (pushed g o F n u)) (absent-⊑ _)
       go u v P (inr t) = P .flow u v (s .place u (w .in-range u v t .0) .0)
+
+  pub pushed-all : (v : ℕ) → pushed g o F n v ≡ propagated n g F v
+  pushed-all v = settled-is w (order-ranked s) pushed-settled v

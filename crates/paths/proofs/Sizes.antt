@@ -2,10 +2,12 @@
 use mathlib.Core.Path.{_≡_, sym, ap}
 use mathlib.Core.Bool.{Bool, _&&_}
 use Prim.Native.Nat.{ℕ, _+_, _*_, _≤_}
+use native.Mathlib.Nat.{mul-le-mul-left}
+use native.Mathlib.Omega.{arith}
 use lib.Dec.{T, leb, leb→le, le→leb}
 use Rattle.laws.proofs.Booleans.{and-i, and-e, is-false}
-use Rattle.laws.proofs.Grid.{area}
-use Rattle.timing.specs.Limits.{maxVertices}
+use Rattle.laws.proofs.Grid.{area, square}
+use Rattle.timing.specs.Limits.{maxVertices, scratchCells}
 use Rattle.timing.specs.declared.Refusal.the-variants.{Sizes}
 use Rattle.timing.specs.Refusal.{refused, accepted, require}
 use Rattle.timing.specs.Checks.{sizesFit}
@@ -42,3 +44,12 @@ board-made m n N s = sym (accepted-require (sizesFit m n N) Sizes (accepted (siz
 
 pub board-area : (b : Board) → Sized b → b .vertices * b .vertices ≤ 8100
 board-area b s = area (b .vertices) maxVertices (s .few)
+
+-- ---- the scratch cells that a call may use
+
+pub vector-fits : (b : Board) → Sized b → b .vertices ≤ scratchCells (b .vertices)
+vector-fits b s = square (b .vertices) (omega (arith, s .roles, s .some-inputs))
+
+-- four inputs and an output are five vertices
+pub lanes-fit : (b : Board) → Sized b → (i : ℕ) → i + 4 ≤ b .inputs → b .vertices * 4 ≤ scratchCells (b .vertices)
+lanes-fit b s i h = mul-le-mul-left (b .vertices) (omega (arith, s .roles))

@@ -3,7 +3,9 @@ use crate::board::Board;
 ghost use mathlib.Core.Path.{_≡_};
 ghost use Prim.Native.Nat.{_+_, _*_, _<_, _≤_};
 ghost use lib.Dec.{T, eqb};
-ghost use lib.ListN.{length};
+ghost use lib.IntN.{pos};
+ghost use lib.ListN.{length, getD};
+ghost use lib.Signed.{leZ};
 ghost use Rattle.laws.specs.Bounded.{every, sum};
 ghost use Rattle.laws.specs.Lists.{tabulate};
 ghost use Rattle.laws.specs.Lent.{was};
@@ -13,12 +15,12 @@ ghost use Rattle.timing.specs.Limits.{delayLimit, absentCell, fits};
 ghost use Rattle.timing.specs.Table.{readCell};
 ghost use Rattle.timing.specs.Checks.{cellsFit, noArcIntoInput};
 ghost use Rattle.paths.specs.Board.{Lent, graphIn};
-ghost use Rattle.paths.specs.Cells.{cellAt, InTable, NextInto};
+ghost use Rattle.paths.specs.Cells.{cellAt, between, InTable, NextInto};
 
 // The limits of a delay, as a cell has them.
-const MIN_TICKS: i32 = Board::MIN_DELAY as i32;
+pub const MIN_TICKS: i32 = Board::MIN_DELAY as i32;
 
-const MAX_TICKS: i32 = Board::MAX_DELAY as i32;
+pub const MAX_TICKS: i32 = Board::MAX_DELAY as i32;
 
 // A cell as a 64-bit number.
 pub fn wide(x: i32) -> i64
@@ -55,38 +57,53 @@ pub fn in_range(x: i64) -> bool
     x <= Board::MAX_DELAY
 }
 
-// The same of a cell: compared as it is, not widened, so that four go at a time.
-fn ticks_fit(x: i32) -> bool
-    ensures { λ r. ⌜ r ≡ fits delayLimit (at x) ⌝ }
-{
-    if x < MIN_TICKS {
-        return false;
-    }
-    x <= MAX_TICKS
-}
-
-// Whether a cell is absent or in range.
-fn cell_fits(x: i32) -> bool
-    ensures { λ r. ⌜ r ≡ fits delayLimit (readCell absentCell x) ⌝ }
+// Whether a cell is absent, or from low to high: compared as it is, not widened, so that four go at a time.
+fn within(x: i32, low: i32, high: i32) -> bool
+    ensures { λ r. ⌜ r ≡ between low high (readCell absentCell x) ⌝ }
 {
     if !is_arc(x) {
         return true;
     }
-    ticks_fit(x)
+    if x < low {
+        return false;
+    }
+    x <= high
 }
 
-// Whether each cell of a row fits. All are looked at, so that the compiler takes four at a time.
-fn row_fits(row: &[i32], n: usize) -> bool
+// Whether each cell of a row is. All are looked at, so that the compiler takes four at a time.
+pub fn row_within(row: &[i32], n: usize, low: i32, high: i32) -> bool
     requires { ⌜ n ≤ length (now row) ⌝ }
-    ensures { λ r. ⌜ r ≡ every n (λ v. fits delayLimit (cellAt (was row) v)) ⌝ }
+    ensures { λ r. ⌜ r ≡ every n (λ v. between low high (cellAt (was row) v)) ⌝ }
 {
     let mut all = true;
     let mut v = 0;
     while v < n {
-        all = all & cell_fits(row[v]);
+        all = all & within(row[v], low, high);
         v += 1;
     }
     all
+}
+
+// Whether no cell of a row is above high: absent is the least number of all.
+pub fn row_upto(row: &[i32], n: usize, high: i32) -> bool
+    requires { ⌜ n ≤ length (now row) ⌝ }
+    ensures { λ r. ⌜ r ≡ every n (λ v. leZ (getD (was row) v (pos 0)) high) ⌝ }
+{
+    let mut all = true;
+    let mut v = 0;
+    while v < n {
+        all = all & (row[v] <= high);
+        v += 1;
+    }
+    all
+}
+
+// Whether each cell of a row is absent or in range.
+fn row_fits(row: &[i32], n: usize) -> bool
+    requires { ⌜ n ≤ length (now row) ⌝ }
+    ensures { λ r. ⌜ r ≡ every n (λ v. fits delayLimit (cellAt (was row) v)) ⌝ }
+{
+    row_within(row, n, MIN_TICKS, MAX_TICKS)
 }
 
 // Check 4: each cell is absent or in range.
@@ -143,16 +160,17 @@ pub fn fan_in(board: Board, table: &[i32], v: usize) -> usize
     count(table, v, n, n)
 }
 
-// The first vertex from `from` on with an arc to v, or N.
-pub fn next_into(board: Board, table: &[i32], v: usize, from: usize) -> usize
+// The first vertex from `from` on and before `to` with an arc to v, or `to`.
+pub fn next_before(board: Board, table: &[i32], v: usize, from: usize, to: usize) -> usize
     requires { ⌜ Lent board (now table) ⌝ }
     requires { ⌜ v < board .vertices ⌝ }
-    requires { ⌜ from ≤ board .vertices ⌝ }
-    ensures { λ r. ⌜ NextInto (board .vertices) (graphIn board (was table)) v from r ⌝ }
+    requires { ⌜ from ≤ to ⌝ }
+    requires { ⌜ to ≤ board .vertices ⌝ }
+    ensures { λ r. ⌜ NextInto to (graphIn board (was table)) v from r ⌝ }
 {
     let n = board.vertices;
     let mut u = from;
-    while u < n {
+    while u < to {
         let at = n * u + v;
         if is_arc(table[at]) {
             return u;
@@ -160,6 +178,29 @@ pub fn next_into(board: Board, table: &[i32], v: usize, from: usize) -> usize
         u += 1;
     }
     u
+}
+
+// The same of all vertices, two at a time.
+pub fn next_into(board: Board, table: &[i32], v: usize, from: usize) -> usize
+    requires { ⌜ Lent board (now table) ⌝ }
+    requires { ⌜ v < board .vertices ⌝ }
+    requires { ⌜ from ≤ board .vertices ⌝ }
+    ensures { λ r. ⌜ NextInto (board .vertices) (graphIn board (was table)) v from r ⌝ }
+{
+    let n = board.vertices;
+    let last = n - 1;
+    let mut u = from;
+    while u < last {
+        let at = n * u + v;
+        if is_arc(table[at]) {
+            return u;
+        }
+        if is_arc(table[at + n]) {
+            return u + 1;
+        }
+        u += 2;
+    }
+    next_before(board, table, v, u, n)
 }
 
 // Whether no arc leads into v. The first settles it.

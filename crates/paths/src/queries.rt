@@ -12,7 +12,7 @@ ghost use Prim.Native.Nat.{_+_, _*_, _≤_};
 ghost use lib.IntN.{pos};
 ghost use lib.ListN.{length, getD};
 ghost use Rattle.laws.specs.Lists.{tabulate};
-ghost use Rattle.laws.specs.Lent.{was, size, Past};
+ghost use Rattle.laws.specs.Lent.{was, size};
 ghost use Rattle.timing.specs.Limits.{arrivalLimit, absentWide, fits};
 ghost use Rattle.timing.specs.Table.{readCell};
 ghost use Rattle.timing.specs.Delays.{arrivalsFit};
@@ -38,7 +38,7 @@ fn copy_out(row: &mut [i64], f: &[i64], m: usize)
     }
 }
 
-// The matrix, one pass over the arcs for each input.
+// The matrix, one pass over the arcs for each four inputs, and for each that is left.
 pub fn fill_matrix(
     board: Board,
     table: &[i32],
@@ -47,16 +47,30 @@ pub fn fill_matrix(
     destination: &mut [i64],
 )
     requires { ⌜ Passable board (now table) (now order) ⌝ }
-    requires { ⌜ board .vertices ≤ length (now scratch) ⌝ }
+    requires { ⌜ ScratchRoom board (now scratch) ⌝ }
     requires { ⌜ board .outputs * board .inputs ≤ length (now destination) ⌝ }
     ensures { λ _. ⌜ now (destination .exit) ≡ withMatrix board (was table) (was destination) ⌝ }
-    ensures { λ _. ⌜ Past (board .vertices) (was scratch) (now (scratch .exit)) ⌝ }
+    ensures { λ _. ⌜ PastScratch board (was scratch) (now (scratch .exit)) ⌝ }
 {
     let mut chain = room::cell_bytes();
-    chain::chains(board, table, &mut chain);
+    chain::chains(board, table, order, &mut chain);
     let m = board.inputs;
     let n = board.outputs;
+    let v = board.vertices;
     let mut i = 0;
+    while i + 4 <= m {
+        arrivals::delays_from_four(board, table, order, &chain, i, scratch);
+        let mut l = 0;
+        while l < 4 {
+            let from = v * l;
+            let to = from + v;
+            let at = n * (i + l);
+            let end = at + n;
+            copy_out(&mut destination[at..end], &scratch[from..to], m);
+            l += 1;
+        }
+        i += 4;
+    }
     while i < m {
         arrivals::delays_from(board, table, order, &chain, i, scratch);
         let at = n * i;
@@ -158,7 +172,7 @@ fn arrivals_answer(
         return Answer::Refused(Refusal::ArrivalLists);
     }
     let mut chain = room::cell_bytes();
-    chain::chains(board, table, &mut chain);
+    chain::chains(board, table, order, &mut chain);
     arrivals::arrivals(board, table, order, &chain, given, scratch);
     copy_out(answers, scratch, board.inputs);
     Answer::Done

@@ -11,5 +11,6 @@ pub mod Differences
 pub mod DifferenceCells
 pub mod SharedRows
 pub mod RewrittenRows
+pub mod PassedRows
 pub mod ShareConditions
 pub mod Vectors

@@ -28,11 +28,12 @@ delay-cell d h = read-at absentCell d (not-mark d h)
 pub negated-fits : (d : ℤ) → T (fits delayLimit (at d)) → T (fits delayLimit (at (negℤ d)))
 negated-fits d h = let s = fits-span delayLimit (at d) h in let a = s .0 in let b = s .1 in span-fits delayLimit (at (negℤ d)) (omega (zarith, neg d), omega (zarith, neg d))
 
--- what `negated` gives, as a cell
+-- what `negated` gives, as a number and as a cell
+pub negated-is : {d r : ℤ} → SFits w32 d → T (fits delayLimit (at d)) → r ≡ negℤ (toZ w32 (ofZ w32 d)) → toZ w32 (ofZ w32 r) ≡ negℤ d
+negated-is {d} f h e = handed w32 (e ∙ ap negℤ (toZ-ofZ f)) (delay-narrow (negℤ d) (negated-fits d h))
+
 pub negated-cell : {d r : ℤ} → SFits w32 d → T (fits delayLimit (at d)) → r ≡ negℤ (toZ w32 (ofZ w32 d)) → readCell absentCell (toZ w32 (ofZ w32 r)) ≡ at (negℤ d)
-negated-cell {d} f h e =
-    let n = negated-fits d h in
-    ap (readCell absentCell) (handed w32 (e ∙ ap negℤ (toZ-ofZ f)) (delay-narrow (negℤ d) n)) ∙ delay-cell (negℤ d) n
+negated-cell {d} f h e = ap (readCell absentCell) (negated-is f h e) ∙ delay-cell (negℤ d) (negated-fits d h)
 
 nothing-left : (d : ℤ) → T (fits delayLimit (at (negℤ d) ⊕ at d))
 nothing-left d = span-fits delayLimit (at (negℤ d +ℤ d)) (omega (zarith, neg d, sum (negℤ d) d), omega (zarith, neg d, sum (negℤ d) d))

@@ -25,11 +25,7 @@ use Rattle.plans.specs.declared.verdict.Difference.the-variants as D
 use Rattle.plans.specs.Verdict.{differenceMeaning}
 use Rattle.plans.specs.Sharing.{TwoOutputs}
 
--- the scratch has room for a vector
-pub vector-fits : (b : Board) → Sized b → b .vertices ≤ scratchCells (b .vertices)
-vector-fits b s = omega (arith, row-in (b .vertices) 0 (omega (arith, s .roles, s .some-inputs)))
-
--- and for two
+-- the scratch has room for two vectors
 pub vectors-fit : (b : Board) → Sized b → b .vertices + b .vertices ≤ scratchCells (b .vertices)
 vectors-fit b s = omega (arith, row-in (b .vertices) 1 (omega (arith, s .roles, s .some-inputs, s .some-outputs)))
 

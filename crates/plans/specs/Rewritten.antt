@@ -1,11 +1,13 @@
 -- The steps that rewrite each row on its own: the new graph, and what is asked of the table and of a row.
+use mathlib.Core.Path.{_≡_}
+use mathlib.Core.Logic.{_≢_}
 use mathlib.Core.List.{List}
 use Prim.Native.Nat.{ℕ, _≤_, _<_}
 use lib.Dec.{T}
 use lib.IntN.{ℤ}
 use lib.ListN.{length}
 use Rattle.laws.specs.Bounded.{every}
-use Rattle.graph.specs.Delay.{_⊕_}
+use Rattle.graph.specs.Delay.{absent, _⊕_}
 use Rattle.graph.specs.Graph.{Graph}
 use Rattle.timing.specs.Limits.{maxVertices, delayLimit, fits}
 use Rattle.timing.specs.Table.{graphOf}
@@ -53,3 +55,16 @@ RowFit (Shrink k) row via = Shrinkable row via k
 RowFit (ShareInputs a b k e) row via = (length row ≤ maxVertices) × (k < length row)
 RowFit (ShareOutputs a b e) row via = b < length row
 RowFit (MergeBack v o d) row via = Mergeable row via v o d
+
+-- row u stays, as far as the code looks
+abbrev pub Untouched : Rewriting → Graph → ℕ → Type 0
+Untouched (Shrink k) g u = (u ≢ k) × (g u k ≡ absent)
+Untouched (ShareInputs a b k e) g u = ⊥
+Untouched (ShareOutputs a b e) g u = ⊥
+Untouched (MergeBack v o d) g u = ⊥
+
+-- no row from `from` on and before r changes
+pub record NextChanged (how : Rewriting) (N : ℕ) (g : Graph) (from r : ℕ) : Type 0 where
+  pub past : from ≤ r
+  pub upto : r ≤ N
+  pub untouched : (u : ℕ) → from ≤ u → u < r → Untouched how g u

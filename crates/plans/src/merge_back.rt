@@ -16,20 +16,11 @@ ghost use Rattle.laws.specs.Lent.{was};
 ghost use Rattle.graph.specs.Delay.{at, _⊕_};
 ghost use Rattle.timing.specs.Limits.{delayLimit, absentCell, fits};
 ghost use Rattle.timing.specs.Table.{readCell};
-ghost use Rattle.reduction.specs.MergeBack.{driver, mergeFits};
+ghost use Rattle.reduction.specs.MergeBack.{mergeFits};
 ghost use Rattle.paths.specs.Board.{Lent, graphIn};
 ghost use Rattle.plans.specs.Verdict.{drivenMeaning};
 ghost use Rattle.plans.specs.MergedRow.{redirectedCell, mergedCell, Redirectable, Mergeable, Drives};
 ghost use Rattle.plans.specs.OnBoards.{InRange, mergeBackOn, remade};
-
-// The first vertex with an arc to o.
-fn driver(board: Board, table: &[i32], o: usize) -> usize
-    requires { ⌜ Lent board (now table) ⌝ }
-    requires { ⌜ o < board .vertices ⌝ }
-    ensures { λ r. ⌜ r ≡ driver (board .vertices) (graphIn board (was table)) o ⌝ }
-{
-    cells::next_into(board, table, o, 0)
-}
 
 // What is added where d is taken off.
 fn negated(d: i32) -> i32
@@ -61,6 +52,7 @@ fn column_sums_fit(board: Board, table: &[i32], v: usize, d: i32) -> bool
 // The sums into v and the differences out of v. Of v→o itself 0 is left, which fits.
 fn merge_fits(board: Board, table: &[i32], v: usize, o: usize, d: i32) -> bool
     requires { ⌜ Lent board (now table) ⌝ }
+    requires { ⌜ InRange board (now table) ⌝ }
     requires { ⌜ Drives (board .vertices) (now table) v o d ⌝ }
     ensures { λ r. ⌜ r ≡ mergeFits (board .vertices) (graphIn board (was table)) v o d ⌝ }
 {
@@ -72,7 +64,7 @@ fn merge_fits(board: Board, table: &[i32], v: usize, o: usize, d: i32) -> bool
     shrink::row_sums_fit(negated(d), &table[from..], n)
 }
 
-// The step's conditions, in document 01's order.
+// The step's conditions, in document 01's order. A driver that will not do and a second arc get one refusal, so that the first found settles it.
 pub fn merge_back_verdict(board: Board, table: &[i32], o: usize) -> Driven
     requires { ⌜ Lent board (now table) ⌝ }
     requires { ⌜ InRange board (now table) ⌝ }
@@ -81,14 +73,14 @@ pub fn merge_back_verdict(board: Board, table: &[i32], o: usize) -> Driven
     if !rows::is_output(board, o) {
         return Driven::Refused(Refusal::WrongVertex);
     }
-    if !cells::one_into(board, table, o) {
-        return Driven::Refused(Refusal::WrongArcs);
-    }
-    let v = driver(board, table, o);
+    let v = cells::next_into(board, table, o, 0);
     if !rows::is_inner(board, v) {
         return Driven::Refused(Refusal::WrongArcs);
     }
     let n = board.vertices;
+    if cells::next_into(board, table, o, v + 1) != n {
+        return Driven::Refused(Refusal::WrongArcs);
+    }
     let at = n * v + o;
     let d = table[at];
     if !merge_fits(board, table, v, o, d) {

@@ -6,10 +6,12 @@ use crate::share_inputs;
 use crate::share_outputs;
 use crate::shrink;
 use paths::Board;
+use paths::cells;
 ghost use mathlib.Core.Path.{_≡_};
+ghost use Prim.Native.Nat.{_<_, _≤_};
 ghost use Rattle.laws.specs.Lent.{was};
-ghost use Rattle.paths.specs.Board.{Lent};
-ghost use Rattle.plans.specs.Rewritten.{rewritten, Rewritable, origin, rewrittenCell, RowFit};
+ghost use Rattle.paths.specs.Board.{Lent, graphIn};
+ghost use Rattle.plans.specs.Rewritten.{rewritten, Rewritable, origin, rewrittenCell, RowFit, NextChanged};
 ghost use Rattle.plans.specs.OnBoards.{changed, remade};
 
 // The step with its vertices, and its delay where it has one.
@@ -53,6 +55,22 @@ fn rewrite_row(row: &mut [i32], via: &Row, how: Rewriting, u: usize)
     }
 }
 
+// The next row to rewrite, or N: of a shrink k's own, or one with an arc to k; else each. Short enough to stand in the loop over rows.
+fn next_changed(board: Board, table: &[i32], how: Rewriting, from: usize) -> usize
+    requires { ⌜ Lent board (now table) ⌝ }
+    requires { ⌜ origin how < board .vertices ⌝ }
+    requires { ⌜ from ≤ board .vertices ⌝ }
+    ensures { λ r. ⌜ NextChanged how (board .vertices) (graphIn board (was table)) from r ⌝ }
+{
+    if let Rewriting::Shrink(k) = how {
+        if from <= k {
+            return cells::next_before(board, table, k, from, k);
+        }
+        return cells::next_before(board, table, k, from, board.vertices);
+    }
+    from
+}
+
 // The one row is copied first, for two rows of one table cannot be lent together.
 pub fn rewrite(board: Board, table: &mut [i32], how: Rewriting)
     requires { ⌜ Lent board (now table) ⌝ }
@@ -62,11 +80,11 @@ pub fn rewrite(board: Board, table: &mut [i32], how: Rewriting)
     let n = board.vertices;
     let from = n * origin(how);
     let via = rows::row_copy(table, from, n);
-    let mut u = 0;
+    let mut u = next_changed(board, table, how, 0);
     while u < n {
         let at = n * u;
         let end = at + n;
         rewrite_row(&mut table[at..end], &via, how, u);
-        u += 1;
+        u = next_changed(board, table, how, u + 1);
     }
 }

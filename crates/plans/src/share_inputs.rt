@@ -114,7 +114,7 @@ fn rows_difference(
     ensures { λ _. ⌜ Past (board .vertices + board .vertices) (was scratch) (now (scratch .exit)) ⌝ }
 {
     let mut chain = room::cell_bytes();
-    chain::chains(board, table, &mut chain);
+    chain::chains(board, table, order, &mut chain);
     let n = board.vertices;
     arrivals::delays_from(board, table, order, &chain, a, scratch);
     arrivals::delays_from(board, table, order, &chain, b, &mut scratch[n..]);

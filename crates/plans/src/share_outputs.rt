@@ -12,11 +12,15 @@ use paths::order::Order;
 use paths::room;
 use timing::Refusal;
 ghost use mathlib.Core.Path.{_≡_};
+ghost use mathlib.Core.Bool.{true};
 ghost use Prim.Native.Nat.{ℕ, _<_, _≤_};
+ghost use lib.Dec.{T};
 ghost use lib.ListN.{length};
 ghost use Rattle.laws.specs.Lent.{was, Past};
+ghost use Rattle.timing.specs.Limits.{maxVertices};
 ghost use Rattle.paths.specs.Board.{Sized, graphIn, ScratchRoom, PastScratch, Lent};
-ghost use Rattle.paths.specs.Checked.{Passable};
+ghost use Rattle.paths.specs.Order.{standsBefore};
+ghost use Rattle.paths.specs.Checked.{Checked, Passable};
 ghost use Rattle.reach.specs.RowSets.{RowSets};
 ghost use Rattle.plans.specs.Verdict.{differenceMeaning};
 ghost use Rattle.plans.specs.SharedRow.{outputsCell};
@@ -64,7 +68,7 @@ fn columns_difference(
     ensures { λ _. ⌜ Past (board .vertices) (was scratch) (now (scratch .exit)) ⌝ }
 {
     let mut chain = room::cell_bytes();
-    chain::chains(board, table, &mut chain);
+    chain::chains(board, table, order, &mut chain);
     let m = board.inputs;
     let mut seen = Seen::Nothing;
     let mut i = 0;
@@ -98,24 +102,38 @@ pub struct Looked {
     pub made: bool,
 }
 
-// Looks for a path from b to a. Where a stands before b, and where b→a is an arc, the row sets are not asked for.
+// Whether an order, where it is one of the table's, has a before b.
+fn is_ahead(order: &Order, sorted: bool, n: usize, a: usize, b: usize) -> bool
+    requires { ⌜ n ≤ maxVertices ⌝ }
+    ensures { λ r. ⌜ (r ≡ true → (sorted ≡ true) × T (standsBefore n (was order) a b)) ⌝ }
+{
+    if !sorted {
+        return false;
+    }
+    order::stands_before(order, n, a, b)
+}
+
+// Looks for a path from b to a. Where a is ahead of b, and where b→a is an arc, the row sets are not asked for. `sorted`: the order is one of the
+// table's.
 pub fn path_back(
     board: Board,
     table: &[i32],
     order: &Order,
+    sorted: bool,
     words: &mut [u64],
     made: bool,
     a: usize,
     b: usize,
 ) -> Looked
-    requires { ⌜ Passable board (now table) (now order) ⌝ }
+    requires { ⌜ Checked board (now table) ⌝ }
+    requires { ⌜ (sorted ≡ true → Passable board (now table) (now order)) ⌝ }
     requires { ⌜ TwoOutputs board a b ⌝ }
     requires { ⌜ Indexed board (now table) (now words) made ⌝ }
     ensures { λ r. ⌜ r .found ≡ pathOn board (was table) b a ⌝ }
     ensures { λ r. ⌜ Indexed board (was table) (now (words .exit)) (r .made) ⌝ }
 {
     let n = board.vertices;
-    if order::stands_before(order, n, a, b) {
+    if is_ahead(order, sorted, n, a, b) {
         return Looked { found: false, made };
     }
     let at = n * b + a;
@@ -123,7 +141,7 @@ pub fn path_back(
         return Looked { found: true, made };
     }
     index(board, table, words, made);
-    let found = reach::leads(words, order, n, b, a);
+    let found = reach::leads(words, n, b, a);
     Looked { found, made: true }
 }
 
@@ -165,7 +183,7 @@ pub fn share_outputs_verdict(
     let found = columns_difference(board, table, order, scratch, a, b);
     if let Difference::Common(e) = found {
         let mut words = reach::words();
-        let looked = path_back(board, table, order, &mut words, false, a, b);
+        let looked = path_back(board, table, order, true, &mut words, false, a, b);
         return outputs_saved(board, table, looked.found, b, e);
     }
     found

@@ -10,13 +10,16 @@ ghost use mathlib.Core.Path.{_≡_};
 ghost use Prim.Native.Nat.{_<_, _≤_};
 ghost use lib.Dec.{T};
 ghost use lib.ListN.{length};
+ghost use Rattle.laws.specs.Bounded.{every};
 ghost use Rattle.laws.specs.Lent.{was};
-ghost use Rattle.timing.specs.Limits.{maxVertices, absentCell};
+ghost use Rattle.graph.specs.Delay.{at};
+ghost use Rattle.timing.specs.Limits.{maxVertices, delayLimit, absentCell, fits};
 ghost use Rattle.timing.specs.Table.{readCell};
 ghost use Rattle.paths.specs.Board.{Lent};
+ghost use Rattle.paths.specs.Cells.{cellAt};
 ghost use Rattle.plans.specs.Verdict.{fitMeaning};
 ghost use Rattle.plans.specs.ShrunkRow.{sumsFit, joinedCell, bypassedCell, shrunkCell, Shrinkable};
-ghost use Rattle.plans.specs.OnBoards.{sumsThrough, relays, shrinkOn, remade};
+ghost use Rattle.plans.specs.OnBoards.{InRange, sumsThrough, relays, shrinkOn, remade};
 
 // Whether one arc leads to k, or one away from k.
 fn is_relay(board: Board, table: &[i32], k: usize) -> bool
@@ -30,38 +33,36 @@ fn is_relay(board: Board, table: &[i32], k: usize) -> bool
     cells::one_into(board, table, k)
 }
 
-// Whether the sums of an arc into k and the arcs out of k, in `via`, fit.
+// Whether the sums of `into`, the delay of an arc into k, and the arcs out of k, in `via`, fit: those are from low to high. No sum with a delay from 0 on is too low.
 pub fn row_sums_fit(into: i32, via: &[i32], n: usize) -> bool
     requires { ⌜ n ≤ length (now via) ⌝ }
-    ensures { λ r. ⌜ r ≡ sumsFit n (readCell absentCell into) (was via) ⌝ }
+    requires { ⌜ T (fits delayLimit (at into)) ⌝ }
+    requires { ⌜ T (every n (λ t. fits delayLimit (cellAt (now via) t))) ⌝ }
+    ensures { λ r. ⌜ r ≡ sumsFit n (at into) (was via) ⌝ }
 {
-    if !cells::is_arc(into) {
-        return true;
+    let high = cells::MAX_TICKS - into;
+    if 0 <= into {
+        return cells::row_upto(via, n, high);
     }
-    let mut t = 0;
-    while t < n {
-        if !sums::sum_fits(into, via[t]) {
-            return false;
-        }
-        t += 1;
-    }
-    true
+    let low = cells::MIN_TICKS - into;
+    cells::row_within(via, n, low, high)
 }
 
 fn sums_fit(board: Board, table: &[i32], k: usize) -> bool
     requires { ⌜ Lent board (now table) ⌝ }
+    requires { ⌜ InRange board (now table) ⌝ }
     requires { ⌜ k < board .vertices ⌝ }
     ensures { λ r. ⌜ r ≡ sumsThrough board (was table) k ⌝ }
 {
     let n = board.vertices;
     let from = n * k;
-    let mut u = 0;
+    let mut u = cells::next_into(board, table, k, 0);
     while u < n {
         let at = n * u + k;
         if !row_sums_fit(table[at], &table[from..], n) {
             return false;
         }
-        u += 1;
+        u = cells::next_into(board, table, k, u + 1);
     }
     true
 }
@@ -69,6 +70,7 @@ fn sums_fit(board: Board, table: &[i32], k: usize) -> bool
 // The step's conditions, in document 01's order.
 pub fn shrink_verdict(board: Board, table: &[i32], k: usize) -> Fit
     requires { ⌜ Lent board (now table) ⌝ }
+    requires { ⌜ InRange board (now table) ⌝ }
     ensures { λ r. ⌜ fitMeaning r ≡ shrinkOn board (was table) k ⌝ }
 {
     if !rows::is_inner(board, k) {

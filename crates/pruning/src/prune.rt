@@ -10,7 +10,7 @@ use timing::Refusal;
 ghost use mathlib.Core.Path.{_≡_};
 ghost use mathlib.Core.Logic.{_≢_};
 ghost use mathlib.Core.Bool.{false, not, cond, _&&_, _||_};
-ghost use Prim.Native.Nat.{_*_, _<_, _≤_};
+ghost use Prim.Native.Nat.{_+_, _*_, _<_, _≤_};
 ghost use lib.Dec.{T};
 ghost use lib.IntN.{pos};
 ghost use lib.ListN.{length, getD};
@@ -23,12 +23,12 @@ ghost use Rattle.reduction.specs.Outcome.{isOutput};
 ghost use Rattle.reduction.specs.Steps.{prune};
 ghost use Rattle.paths.specs.Board.{Sized, Lent, graphIn, ScratchRoom, PastScratch};
 ghost use Rattle.paths.specs.Cells.{cellAt};
-ghost use Rattle.paths.specs.Chain.{Chains};
+ghost use Rattle.paths.specs.Chain.{walkedAt, Chains};
 ghost use Rattle.paths.specs.Arrivals.{Reached, Pushable};
 ghost use Rattle.paths.specs.Checked.{Passable};
 ghost use Rattle.plans.specs.OnBoards.{changed, remade, Applies};
 ghost use Rattle.pruning.specs.TightArcs.{tight};
-ghost use Rattle.pruning.specs.PruneMarks.{RowMarked, MarkedFrom, DecidingMarked, Unmarked, someUnmarked, markedArcs};
+ghost use Rattle.pruning.specs.PruneMarks.{RowMarked, MarkedFrom, MarkedFour, FromInput, Swept, DecidingMarked, Unmarked, someUnmarked, markedArcs};
 
 // Whether the arc is tight: what is at its head came over it.
 fn is_tight(a: i64, cell: i32, w: i64) -> bool
@@ -40,27 +40,18 @@ fn is_tight(a: i64, cell: i32, w: i64) -> bool
     w == a + (cell as i64)
 }
 
-// Marks the arcs of a row that are tight and lead to a vertex that is alive. Answers whether there is one.
-fn mark_row(
-    row: &[i32],
-    chain: &[u8],
-    a: i64,
-    f: &[i64],
-    alive: &[bool; Board::MAX_VERTICES],
-    marks: &mut [bool],
-) -> bool
+// Marks the arcs that a row's chain walks that are tight. Answers whether there is one.
+fn mark_row(row: &[i32], chain: &[u8], a: i64, f: &[i64], marks: &mut [bool]) -> bool
     requires { ⌜ Reached a ⌝ }
     requires { ⌜ Pushable (length (now marks)) (now row) (now chain) (now f) ⌝ }
-    ensures { λ r. ⌜ RowMarked (was row) a (was f) (was alive) (was marks) (now (marks .exit)) r ⌝ }
+    ensures { λ r. ⌜ RowMarked (walkedAt (was row) (was chain)) a (was f) (was marks) (now (marks .exit)) r ⌝ }
 {
     let mut found = false;
     let mut v = chain[0] as usize;
     while v < marks.len() {
-        if alive[v] {
-            if is_tight(a, row[v], f[v]) {
-                marks[v] = true;
-                found = true;
-            }
+        if is_tight(a, row[v], f[v]) {
+            marks[v] = true;
+            found = true;
         }
         v = chain[v] as usize;
     }
@@ -83,7 +74,41 @@ fn is_alive(board: Board, v: usize, found: bool) -> bool
     found
 }
 
-// Marks the arcs that decide a delay from input i: the greatest delays from i, then the vertices from the last to the first.
+// Marks the arcs that decide a delay from the input whose greatest delays are in f: the vertices from the last to the first.
+// One that is not alive loses its delay, so that no arc to it is tight.
+fn sweep(
+    board: Board,
+    table: &[i32],
+    order: &Order,
+    chain: &[u8],
+    f: &mut [i64],
+    marks: &mut [bool],
+)
+    requires { ⌜ Passable board (now table) (now order) ⌝ }
+    requires { ⌜ Chains (board .vertices) (now table) (now chain) ⌝ }
+    requires { ⌜ FromInput board (now table) (now f) ⌝ }
+    requires { ⌜ board .vertices * board .vertices ≤ length (now marks) ⌝ }
+    ensures { λ _. ⌜ Swept board (was table) (was f) (was marks) (now (marks .exit)) ⌝ }
+    ensures { λ _. ⌜ Past (board .vertices) (was f) (now (f .exit)) ⌝ }
+{
+    let n = board.vertices;
+    let mut p = n;
+    while p > 0 {
+        p -= 1;
+        let u = order[p] as usize;
+        let a = f[u];
+        if a != Board::ABSENT_WIDE {
+            let at = n * u;
+            let end = at + n;
+            let found = mark_row(&table[at..], &chain[at..], a, f, &mut marks[at..end]);
+            if !is_alive(board, u, found) {
+                f[u] = Board::ABSENT_WIDE;
+            }
+        }
+    }
+}
+
+// Marks the arcs that decide a delay from input i.
 fn mark_from(
     board: Board,
     table: &[i32],
@@ -102,26 +127,35 @@ fn mark_from(
     ensures { λ _. ⌜ Past (board .vertices) (was f) (now (f .exit)) ⌝ }
 {
     arrivals::delays_from(board, table, order, chain, i, f);
+    sweep(board, table, order, chain, f, marks);
+}
+
+// The same for inputs i to i + 3, with one pass forwards.
+fn mark_four(
+    board: Board,
+    table: &[i32],
+    order: &Order,
+    chain: &[u8],
+    i: usize,
+    f: &mut [i64],
+    marks: &mut [bool],
+)
+    requires { ⌜ Passable board (now table) (now order) ⌝ }
+    requires { ⌜ Chains (board .vertices) (now table) (now chain) ⌝ }
+    requires { ⌜ i + 4 ≤ board .inputs ⌝ }
+    requires { ⌜ board .vertices * 4 ≤ length (now f) ⌝ }
+    requires { ⌜ board .vertices * board .vertices ≤ length (now marks) ⌝ }
+    ensures { λ _. ⌜ MarkedFour board i (was table) (was marks) (now (marks .exit)) ⌝ }
+    ensures { λ _. ⌜ Past (board .vertices * 4) (was f) (now (f .exit)) ⌝ }
+{
+    arrivals::delays_from_four(board, table, order, chain, i, f);
     let n = board.vertices;
-    let mut alive = room::vertex_flags();
-    let mut p = n;
-    while p > 0 {
-        p -= 1;
-        let u = order[p] as usize;
-        let a = f[u];
-        if a != Board::ABSENT_WIDE {
-            let at = n * u;
-            let end = at + n;
-            let found = mark_row(
-                &table[at..],
-                &chain[at..],
-                a,
-                f,
-                &alive,
-                &mut marks[at..end],
-            );
-            alive[u] = is_alive(board, u, found);
-        }
+    let mut l = 0;
+    while l < 4 {
+        let at = n * l;
+        let end = at + n;
+        sweep(board, table, order, chain, &mut f[at..end], marks);
+        l += 1;
     }
 }
 
@@ -134,15 +168,19 @@ pub fn prune_marks(
     marks: &mut [bool],
 )
     requires { ⌜ Passable board (now table) (now order) ⌝ }
-    requires { ⌜ board .vertices ≤ length (now scratch) ⌝ }
+    requires { ⌜ ScratchRoom board (now scratch) ⌝ }
     requires { ⌜ board .vertices * board .vertices ≤ length (now marks) ⌝ }
     ensures { λ _. ⌜ DecidingMarked board (was table) (was marks) (now (marks .exit)) ⌝ }
-    ensures { λ _. ⌜ Past (board .vertices) (was scratch) (now (scratch .exit)) ⌝ }
+    ensures { λ _. ⌜ PastScratch board (was scratch) (now (scratch .exit)) ⌝ }
 {
     let mut chain = room::cell_bytes();
-    chain::chains(board, table, &mut chain);
+    chain::chains(board, table, order, &mut chain);
     let m = board.inputs;
     let mut i = 0;
+    while i + 4 <= m {
+        mark_four(board, table, order, &chain, i, scratch, marks);
+        i += 4;
+    }
     while i < m {
         mark_from(board, table, order, &chain, i, scratch, marks);
         i += 1;
@@ -232,10 +270,10 @@ fn prune_in(
     marks: &mut [bool],
 ) -> Fit
     requires { ⌜ Passable board (now table) (now order) ⌝ }
-    requires { ⌜ board .vertices ≤ length (now scratch) ⌝ }
+    requires { ⌜ ScratchRoom board (now scratch) ⌝ }
     requires { ⌜ Unmarked board (now marks) ⌝ }
     ensures { λ r. ⌜ Applies board prune (was table) (now (table .exit)) r ⌝ }
-    ensures { λ _. ⌜ Past (board .vertices) (was scratch) (now (scratch .exit)) ⌝ }
+    ensures { λ _. ⌜ PastScratch board (was scratch) (now (scratch .exit)) ⌝ }
 {
     prune_marks(board, table, order, scratch, marks);
     if !some_unmarked(board, table, marks) {

@@ -3,13 +3,9 @@ use mathlib.Core.Path.{_≡_, sym, ap, _∙_, subst}
 use mathlib.Core.Logic.{_⊎_, inl, inr}
 use mathlib.Core.Bool.{true, false, _||_}
 use mathlib.Core.List.{List, [], _∷_}
-use Prim.Native.Nat.{ℕ, _+_, _≤_, _<_}
-use native.Mathlib.Decide.{ℕ-discrete}
-use native.Mathlib.Omega.{arith}
-use lib.Dec.{T}
-use lib.ListN.{getD}
-use Rattle.laws.proofs.Booleans.{or-l, or-r, or-cases, split}
-use Rattle.laws.proofs.Truth.{same-truth}
+use Prim.Native.Nat.{ℕ, _<_}
+use lib.Dec.{T, eqb, eqb→eq}
+use Rattle.laws.proofs.Booleans.{or-l, or-r, or-cases, split, is-true, is-false, true-is}
 use Rattle.graph.specs.Delay.{Delay, present}
 use Rattle.graph.specs.Graph.{Graph, pathDelay, longest}
 use Rattle.graph.proofs.Presence.{present-l, present-r, present-⊕}
@@ -18,7 +14,6 @@ use Rattle.graph.proofs.Cycle.{path-found}
 use Rattle.sets.specs.declared.Set.{Set}
 use Rattle.sets.specs.Sets.{holds}
 use Rattle.sets.specs.Rows.{setAt}
-use Rattle.paths.specs.Order.{TopologicalOrder}
 use Rattle.reach.specs.RowSets.{RowSets}
 
 module _ (N : ℕ) (g : Graph) (w : Within N g) where
@@ -62,71 +57,54 @@ module _ (N : ℕ) (g : Graph) (w : Within N g) where
       along x [] p s = h x v p s
       along x (y ∷ ys) p s = along y ys (h x y p (present-l (g x y) (pathDelay g y ys v) s)) (present-r (g x y) (pathDelay g y ys v) s)
 
-  module _ (o : List ℕ) (order : TopologicalOrder N g o) where
-    -- the vertex at place p, or another place
-    at-place : (x p : ℕ) → x < N → order .rank x ≡ p → x ≡ getD o p 0
-    at-place x p l e = sym (order .place x l .1) ∙ ap (λ (z : ℕ). getD o z 0) e
+  reached-in : (u v : ℕ) → R u v → v < N
+  reached-in u v r = split (first-arc u v r) (λ t. w .in-range u v t .1)
+      (λ p. closed (λ x. x < N) (λ x y _ t. w .in-range x y t .1) (p .0) v (w .in-range u (p .0) (p .1) .1) (p .2))
 
-    -- what v reaches, by way of the vertices before place p
-    pub record Passing (v p : ℕ) (met : Set) : Type 0 where
-      pub only : (u : ℕ) → T (holds met u) → R v u
-      pub start : (u : ℕ) → T (present (g v u)) → T (holds met u)
-      pub done : (x y : ℕ) → order .rank x < p → T (holds met x) → T (present (g x y)) → T (holds met y)
+  -- a walk from v: all that is met is reached, and the targets of v, and of what is done, are met
+  pub record Walked (v : ℕ) (met done : Set) : Type 0 where
+    pub only : (x : ℕ) → T (holds met x) → R v x
+    pub start : (x : ℕ) → T (present (g v x)) → T (holds met x)
+    pub onward : (x y : ℕ) → T (holds done x) → T (present (g x y)) → T (holds met y)
 
-    module _ (words : List ℕ) (sets : RowSets N g words) (v : ℕ) (lv : v < N) where
-      pub passing-start : (met : Set) → met ≡ setAt words v → Passing v 0 met
-      passing-start met e = record {
-        only = λ u t. by-arc v u (subst T (is u) t);
-        start = λ u t. subst T (sym (is u)) t;
-        done = λ x y l _ _. absurd (omega arith);
+  module _ (v : ℕ) (met done : Set) (m : Walked v met done) where
+    pub walked-in : (x : ℕ) → T (holds met x) → x < N
+    walked-in x t = reached-in v x (m .only x t)
+
+    pub walked-there : (u : ℕ) → holds met u ≡ true → true ≡ present (longest g N v u)
+    walked-there u e = sym (is-true (present (longest g N v u)) (m .only u (true-is e)))
+
+    -- all that is met is done
+    pub walked-all : (u : ℕ) → holds met u ≡ false → ((x : ℕ) → T (holds met x) → T (holds done x)) → false ≡ present (longest g N v u)
+    walked-all u e all = sym (is-false (present (longest g N v u)) (λ r. subst T e (split (first-arc v u r) (m .start u)
+        (λ p. closed (λ x. T (holds met x)) (λ x y h t. m .onward x y (all x h) t) (p .0) u (m .start (p .0) (p .1)) (p .2)))))
+
+  module _ (words : List ℕ) (sets : RowSets N g words) (v : ℕ) where
+    -- the set at place x
+    is : (x : ℕ) → x < N → (row : Set) → row ≡ setAt words x → (y : ℕ) → holds row y ≡ present (g x y)
+    is x l row e y = ap (λ (z : Set). holds z y) e ∙ sets .row x l y
+
+    pub walked-start : v < N → (met done : Set) → met ≡ setAt words v → ((x : ℕ) → holds done x ≡ false) → Walked v met done
+    walked-start l met done e none = record {
+      only = λ x t. by-arc v x (subst T (is v l met e x) t);
+      start = λ x t. subst T (sym (is v l met e x)) t;
+      onward = λ x y t _. absurd (subst T (none x) t);
+    }
+
+    module _ (met done : Set) (m : Walked v met done) (x : ℕ) (t : T (holds met x)) where
+      pub walked-turn : (row met' done' : Set) → row ≡ setAt words x → ((y : ℕ) → holds met' y ≡ (holds met y || holds row y)) → ((y : ℕ) → holds done' y ≡ (eqb y x || holds done y)) → Walked v met' done'
+      walked-turn row met' done' e grown more = record {
+        only = λ y k. split (or-cases (holds met y) (holds row y) (subst T (grown y) k)) (m .only y) (λ h. then-arc v x y (m .only x t) (subst T (row-is y) h));
+        start = λ y k. old y (m .start y k);
+        onward = λ y z k a. split (or-cases (eqb y x) (holds done y) (subst T (more y) k))
+            (λ q. new z (subst (λ (c : ℕ). T (present (g c z))) (eqb→eq y x q) a)) (λ h. old z (m .onward y z h a));
       }
         where
-          is : (u : ℕ) → holds met u ≡ present (g v u)
-          is u = ap (λ (z : Set). holds z u) e ∙ sets .row v lv u
+          row-is : (y : ℕ) → holds row y ≡ present (g x y)
+          row-is = is x (walked-in v met done m x t) row e
 
-      module _ (p : ℕ) (met : Set) (m : Passing v p met) (u : ℕ) (lp : p < N) (at : u ≡ getD o p 0) where
-        lu : u < N
-        lu = subst (λ (z : ℕ). z < N) (sym at) (order .vertex p lp .0)
+          old : (y : ℕ) → T (holds met y) → T (holds met' y)
+          old y k = subst T (sym (grown y)) (or-l (holds met y) (holds row y) k)
 
-        is-here : (x y : ℕ) → T (present (g x y)) → order .rank x ≡ p → x ≡ u
-        is-here x y t e = at-place x p (w .in-range x y t .0) e ∙ sym at
-
-        rank-here : order .rank u ≡ p
-        rank-here = ap (order .rank) at ∙ order .vertex p lp .1
-
-        pub passing-skip : holds met u ≡ false → Passing v (p + 1) met
-        passing-skip e = record { only = m .only; start = m .start; done = λ x y l h t. go x y l h t (ℕ-discrete (order .rank x) p) }
-          where
-            go : (x y : ℕ) → order .rank x < p + 1 → T (holds met x) → T (present (g x y)) → Dec (order .rank x ≡ p) → T (holds met y)
-            go x y l h t (yes q) = absurd (subst T e (subst (λ (z : ℕ). T (holds met z)) (is-here x y t q) h))
-            go x y l h t (no q) = m .done x y (omega arith) h t
-
-        pub passing-turn : (row met' : Set) → holds met u ≡ true → row ≡ setAt words u → ((x : ℕ) → holds met' x ≡ (holds met x || holds row x)) → Passing v (p + 1) met'
-        passing-turn row met' h e grown = record { only = only'; start = λ x t. old x (m .start x t); done = λ x y l k t. done' x y l t (ℕ-discrete (order .rank x) p) (or-cases (holds met x) (holds row x) (subst T (grown x) k)) }
-          where
-            is : (x : ℕ) → holds row x ≡ present (g u x)
-            is x = ap (λ (z : Set). holds z x) e ∙ sets .row u lu x
-
-            old : (x : ℕ) → T (holds met x) → T (holds met' x)
-            old x t = subst T (sym (grown x)) (or-l (holds met x) (holds row x) t)
-
-            new : (x : ℕ) → T (present (g u x)) → T (holds met' x)
-            new x t = subst T (sym (grown x)) (or-r (holds met x) (holds row x) (subst T (sym (is x)) t))
-
-            only' : (x : ℕ) → T (holds met' x) → R v x
-            only' x t = split (or-cases (holds met x) (holds row x) (subst T (grown x) t)) (m .only x)
-                (λ k. then-arc v u x (m .only u (subst T (sym h) tt)) (subst T (is x) k))
-
-            done' : (x y : ℕ) → order .rank x < p + 1 → T (present (g x y)) → Dec (order .rank x ≡ p) → T (holds met x) ⊎ T (holds row x) → T (holds met' y)
-            done' x y l t (yes q) _ = new y (subst (λ (z : ℕ). T (present (g z y))) (is-here x y t q) t)
-            done' x y l t (no q) (inl k) = old y (m .done x y (omega arith) k t)
-            done' x y l t (no q) (inr k) = absurd (late (order .rise u x (subst T (is x) k)))
-              where
-                late : order .rank u < order .rank x → ⊥
-                late r = omega (arith, rank-here)
-
-    -- from place p on no arc leads back to before it
-    pub passing-there : (v u p : ℕ) (met : Set) → Passing v p met → order .rank u ≤ p → holds met u ≡ present (longest g N v u)
-    passing-there v u p met m near = same-truth (holds met u) (present (longest g N v u)) (m .only u)
-        (λ t. split (first-arc v u t) (m .start u)
-        (λ r. closed (λ x. order .rank x ≤ p → T (holds met x)) (λ x y h k l. m .done x y (omega (arith, order .rise x y k)) (h (omega (arith, order .rise x y k))) k) (r .0) u (λ _. m .start (r .0) (r .1)) (r .2) near))
+          new : (y : ℕ) → T (present (g x y)) → T (holds met' y)
+          new y k = subst T (sym (grown y)) (or-r (holds met y) (holds row y) (subst T (sym (row-is y)) k))

@@ -7,7 +7,6 @@ use lib.Dec.{T, eqb}
 use lib.ListN.{length}
 use Rattle.graph.specs.Delay.{present}
 use Rattle.graph.specs.Graph.{Graph}
-use Rattle.paths.specs.Order.{TopologicalOrder}
 use Rattle.sets.specs.declared.Set.{Set}
 use Rattle.sets.specs.Sets.{holds}
 use Rattle.sets.specs.Rows.{setAt}
@@ -21,11 +20,10 @@ pub record RowSets (N : ℕ) (g : Graph) (words : List ℕ) : Type 0 where
   pub long : 2 * N ≤ length words
   pub row : (u : ℕ) → u < N → Targets g u (setAt words u)
 
--- with a topological order, and no arc past N
-pub record Routed (N : ℕ) (g : Graph) (words o : List ℕ) : Type 0 where
+-- and no arc leads from or to a vertex past N
+pub record Rowed (N : ℕ) (g : Graph) (words : List ℕ) : Type 0 where
   pub sets : RowSets N g words
   pub inside : (u v : ℕ) → T (present (g u v)) → (u < N) × (v < N)
-  pub order : TopologicalOrder N g o
 
 -- b is in row a, in no other, and all else is as it was
 pub record OneSource (N a b : ℕ) (before after : List ℕ) : Type 0 where

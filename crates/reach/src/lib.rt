@@ -1,7 +1,6 @@
 // The rows of a table as sets of vertices, and whether a path leads from one vertex to another.
 use paths::Board;
 use paths::cells;
-use paths::order::Order;
 use sets::Set;
 use sets::rows;
 ghost use mathlib.Core.Path.{_≡_};
@@ -16,7 +15,7 @@ ghost use Rattle.timing.specs.Limits.{maxVertices};
 ghost use Rattle.paths.specs.Board.{Lent, graphIn};
 ghost use Rattle.paths.specs.Cells.{cellAt};
 ghost use Rattle.sets.specs.Sets.{holds};
-ghost use Rattle.reach.specs.RowSets.{Targets, RowSets, Routed, OneSource};
+ghost use Rattle.reach.specs.RowSets.{Targets, RowSets, Rowed, OneSource};
 
 // The words of 90 sets.
 pub const WORDS: usize = 2 * Board::MAX_VERTICES;
@@ -88,25 +87,24 @@ pub fn one_source(words: &mut [u64], n: usize, a: usize, b: usize)
     rows::put(words, a, with);
 }
 
-// Whether a path leads from v to u: what v reaches, by way of the vertices that stand before u.
-pub fn leads(words: &[u64], order: &Order, n: usize, v: usize, u: usize) -> bool
+// Whether a path leads from v to u: from v on, each vertex met adds its targets, until u is met or none is left.
+pub fn leads(words: &[u64], n: usize, v: usize, u: usize) -> bool
     requires { ⌜ n ≤ maxVertices ⌝ }
     requires { ⌜ v < n ⌝ }
     requires { ⌜ u < n ⌝ }
-    requires { ⌜ ((g : Graph) × Routed n g (now words) (now order)) ⌝ }
-    ensures { λ r. ⌜ ((g : Graph) → Routed n g (was words) (was order) → r ≡ present (longest g n v u)) ⌝ }
+    requires { ⌜ ((g : Graph) × Rowed n g (now words)) ⌝ }
+    ensures { λ r. ⌜ ((g : Graph) → Rowed n g (was words) → r ≡ present (longest g n v u)) ⌝ }
 {
     let mut met = rows::at(words, v);
-    let mut p = 0;
-    while p < n {
-        let x = order[p] as usize;
-        if x == u {
-            break;
+    let mut done = Set::empty();
+    while !met.has(u) {
+        let left = met.without(done);
+        if left.is_empty() {
+            return false;
         }
-        if met.has(x) {
-            met = met.or(rows::at(words, x));
-        }
-        p += 1;
+        let x = left.first();
+        done = done.plus(x);
+        met = met.or(rows::at(words, x));
     }
-    met.has(u)
+    true
 }

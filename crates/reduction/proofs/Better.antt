@@ -1,8 +1,9 @@
 -- What every accepted step does to a graph: `Better`. And what the tests of roles say.
-use mathlib.Core.Path.{_≡_, _∙_}
+use mathlib.Core.Path.{_≡_, sym, _∙_}
 use mathlib.Core.Logic.{_≢_, _⊎_, inl, inr}
 use mathlib.Core.Bool.{Bool}
 use Prim.Native.Nat.{ℕ, _+_, _≤_, _<_}
+use native.Mathlib.Decide.{ℕ-discrete}
 use native.Mathlib.Omega.{arith}
 use lib.Dec.{T, eqb→eq, leb, ltb, leb→le, ltb→lt}
 use Rattle.laws.specs.Bounded.{sum}
@@ -11,8 +12,9 @@ use Rattle.laws.proofs.Sums.{sum-term}
 use Rattle.graph.specs.Delay.{Delay, absent, present}
 use Rattle.graph.specs.Graph.{Graph, Longest, longest}
 use Rattle.graph.specs.Count.{bit, fanIn, fanOut, arcs}
-use Rattle.graph.proofs.Presence.{absent-or, absent-bit}
+use Rattle.graph.proofs.Presence.{not-present, absent-or, absent-bit}
 use Rattle.graph.proofs.Longest.{Within, longest-is}
+use Rattle.graph.proofs.Count.{sole}
 use Rattle.graph.proofs.Rank.{Ranked, ranked-acyclic, acyclic-ranked}
 use Rattle.timing.specs.Sound.{LegalArc, Sound}
 use Rattle.timing.proofs.Checks.{sound-within}
@@ -54,6 +56,14 @@ none-counted N f below e u = go (absent-or (f u))
     go : (f u ≡ absent) ⊎ T (present (f u)) → f u ≡ absent
     go (inl z) = z
     go (inr h) = absent-bit (f u) (omega (arith, sum-term N (λ u. bit (f u)) u (below u h)))
+
+-- where one is counted, it is the one that is known
+pub alone : (N : ℕ) (f : ℕ → Delay) → ((u : ℕ) → T (present (f u)) → u < N) → sum N (λ u. bit (f u)) ≡ 1 → (u : ℕ) → T (present (f u)) → (x : ℕ) → x ≢ u → f x ≡ absent
+alone N f below e u t x n = let p = sole N f below e in go (p .0) (p .3) (ℕ-discrete u (p .0))
+  where
+    go : (p : ℕ) → ((x : ℕ) → x ≢ p → f x ≡ absent) → Dec (u ≡ p) → f x ≡ absent
+    go p only (yes z) = only x (λ y. n (y ∙ sym z))
+    go p only (no z) = absurd (not-present (f u) (only u z) t)
 
 -- a vertex that is not in use has no arcs
 module _ {N : ℕ} {g : Graph} (w : Within N g) (k : ℕ) (t : T (unused N g k)) where

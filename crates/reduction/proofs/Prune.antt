@@ -47,6 +47,10 @@ module _ {Counts : ℕ → ℕ → Type 0} {L g g′ : Graph} (s : Thinned Count
         let ih : L i j ⊑ (p ⊕ g u x) ⊕ pathDelay g′ x xs j = stays (p ⊕ g u x) x xs (⊑-trans (⊕-right (g u x) q) (⊑-trans (walk-arc a l i u x) (walk-⊒ a l i x))) (rw (⊕-assoc p (g u x) (pathDelay g x xs j)) k) in
         ⊑-trans ih (rw (⊕-assoc p (g u x) (pathDelay g′ x xs j)) (⊕-left p (⊕-right (pathDelay g′ x xs j) keep)))
 
+    -- a path of the greatest delay stays whole
+    pub path-stays : (xs : List ℕ) → L i j ⊑ pathDelay g i xs j → L i j ⊑ pathDelay g′ i xs j
+    path-stays xs k = rw (immediate-⊕ (pathDelay g′ i xs j)) at (stays immediate i xs (⊑-eq (sym (walk-same L i))) (rw immediate-⊕ k))
+
   pub thinned-same : {L′ : Graph} → Acyclic g → Longest g L → Longest g′ L′ → (i j : ℕ) → Counts i j → L′ i j ≡ L i j
   thinned-same {L′} a l l′ i j c =
       ⊑-antisym (⊑-trans (⊑-eq (l′ .reached i j .1)) (⊑-trans (less-path i (l′ .reached i j .0) j) (l .bound i (l′ .reached i j .0) j))) (go (absent-or (L i j)))
@@ -56,11 +60,11 @@ module _ {Counts : ℕ → ℕ → Type 0} {L g g′ : Graph} (s : Thinned Count
 
       go : (L i j ≡ absent) ⊎ T (present (L i j)) → L i j ⊑ L′ i j
       go (inl e) = rw e (absent-⊑ (L′ i j))
-      go (inr t) = ⊑-trans (stays a l i j c t immediate i xs (⊑-eq (sym (walk-same L i))) (rw immediate-⊕ (⊑-eq (l .reached i j .1)))) (rw immediate-⊕ (l′ .bound i xs j))
+      go (inr t) = ⊑-trans (path-stays a l i j c t xs (⊑-eq (l .reached i j .1))) (l′ .bound i xs j)
 
 -- ---- the step
 
-abbrev Counted : (ℕ → ℕ → Bool) → ℕ → ℕ → ℕ → ℕ → Type 0
+abbrev pub Counted : (ℕ → ℕ → Bool) → ℕ → ℕ → ℕ → ℕ → Type 0
 Counted counts m n i j = (i < m) × Output m n j × T (counts i j)
 
 -- no walk, arc and walk are longer than the greatest delay
@@ -76,7 +80,7 @@ module _ (counts : ℕ → ℕ → Bool) (m n N : ℕ) (g : Graph) (u v : ℕ) w
       let c = and-e (counts (a .0) (m + b .0)) (decides (longest g N) g u v (a .0) (m + b .0)) (b .2) in
       (a .0, m + b .0, (a .1, (omega arith, omega arith), c .0), c .1)
 
-  pub critical-of : (i j : ℕ) → Counted counts m n i j → T (decides (longest g N) g u v i j) → T (critical counts m n N g u v)
+  critical-of : (i j : ℕ) → Counted counts m n i j → T (decides (longest g N) g u v i j) → T (critical counts m n N g u v)
   unfolding critical
   critical-of i j c t =
       some-of m (λ i. some n (λ j. counts i (m + j) && decides (longest g N) g u v i (m + j))) i (c .0)
@@ -86,14 +90,19 @@ module _ (counts : ℕ → ℕ → Bool) (m n N : ℕ) (g : Graph) (u v : ℕ) w
       e : j ≡ m + (j - m)
       e = omega arith
 
+-- an arc that reaches the greatest delay of a pair that counts
+pub reaching-critical : (counts : ℕ → ℕ → Bool) {m n N : ℕ} {g : Graph} → Sound m n N g → (u v i j : ℕ) → Counted counts m n i j → T (present (longest g N i j))
+    → longest g N i j ⊑ throughArc (longest g N) g u v i j → T (critical counts m n N g u v)
+reaching-critical counts {m} {n} {N} {g} s u v i j c t h = critical-of counts m n N g u v i j c
+    (same-i (longest g N i j) (throughArc (longest g N) g u v i j) t (⊑-antisym h (through-⊑ (s .acyclic) (longest-of s) u v i j)))
+
 -- any arcs may go as long as those that decide stay
 module _ (counts : ℕ → ℕ → Bool) {m n N : ℕ} {g : Graph} (s : Sound m n N g) (stays : ℕ → ℕ → Bool) (deciding : (u v : ℕ) → T (critical counts m n N g u v) → T (stays u v)) where
-  thinned-is : Thinned (Counted counts m n) (longest g N) g (thinned stays g)
+  pub thinned-is : Thinned (Counted counts m n) (longest g N) g (thinned stays g)
   thinned-is = record {
     less = λ u v. cond-elim (λ (d : Delay). d ⊑ g u v) (stays u v) (g u v) absent (λ _. ⊑-refl (g u v)) (λ _. absent-⊑ (g u v));
     kept = λ u v i j c t h. cond-elim (λ (d : Delay). g u v ⊑ d) (stays u v) (g u v) absent (λ _. ⊑-refl (g u v))
-        (λ f. absurd (T-not (stays u v) f (deciding u v (critical-of counts m n N g u v i j c
-        (same-i (longest g N i j) (throughArc (longest g N) g u v i j) t (⊑-antisym h (through-⊑ (s .acyclic) (longest-of s) u v i j)))))));
+        (λ f. absurd (T-not (stays u v) f (deciding u v (reaching-critical counts s u v i j c t h))));
   }
 
   pub thinned-keeps : Same counts m n N g (thinned stays g)

@@ -39,15 +39,15 @@ module _ (N : ℕ) (g : Graph) (a b : ℕ) (e : ℤ) (v : ℕ) (v-a : v ≢ a) (
   unfolding fanIn outputsShared
   column-stays = sum-eq N _ _ (λ u _. rw (eqb-other v b v-b) refl)
 
-module _ {board : Board} {t : List ℤ} {o : List ℕ} {a b k : ℕ} where
-  others-stay : (side : Side) → Ready side board t o k → (e : ℤ) (v : ℕ) → OnSide board side v → v ≢ a → v ≢ b
+module _ {board : Board} {t : List ℤ} {o : List ℕ} {a b k : ℕ} {sorted : Bool} where
+  others-stay : (side : Side) → Ready side board t o k sorted → (e : ℤ) (v : ℕ) → OnSide board side v → v ≢ a → v ≢ b
       → isRich side (board .vertices) (shared side a b k (graphOf (board .vertices) t) e) v ≡ isRich side (board .vertices) (graphOf (board .vertices) t) v
   unfolding freshNumber
   others-stay Inputs ready e v on v-a v-b = ap (leb 3) (row-stays (board .vertices) (graphOf (board .vertices) t) a b e v v-a v-b k (λ q. omega (arith, q, on .below, ready .fresh refl)))
   others-stay Outputs ready e v on v-a v-b = ap (leb 2) (column-stays (board .vertices) (graphOf (board .vertices) t) a b e v v-a v-b)
 
   -- x and y are the new counts of a and b
-  pub counted-again : (side : Side) → Checked board t → Ready side board t o k → Pair side board a b → (rich : List Bool) → Counted side board t rich
+  pub counted-again : (side : Side) → Checked board t → Ready side board t o k sorted → Pair side board a b → (rich : List Bool) → Counted side board t rich
       → (after : List ℤ) → Trying board t side a b k after true → (x y : Bool) → x ≡ isRich side (board .vertices) (graphOf (board .vertices) after) a → y ≡ isRich side (board .vertices) (graphOf (board .vertices) after) b
       → Counted side board after (set (set rich a x) b y)
   counted-again side ok ready pair rich h after tried x y x-is y-is = record {

@@ -10,6 +10,7 @@ pub mod ShareVerdicts
 pub mod TriedShares
 pub mod Counting
 pub mod Rounding
+pub mod LeanRounds
 pub mod Ending
 pub mod HeldMatrix
 pub mod OrderKept

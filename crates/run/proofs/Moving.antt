@@ -148,6 +148,9 @@ module _ (b : Board) (qs : ℕ → List Try) (p q : Progress) (gain : (s : ℕ) 
       let w = way s (omega arith) in
       sym (ap (λ (x : Progress). x .table) w) ∙ round-quiet (b .inputs) (b .outputs) (b .vertices) (qs s) (gain s) p .1 (ap (λ (x : Progress). x .steps) w ∙ e)
 
+  pub steps-grow : p .steps ≤ q .steps
+  steps-grow = subst (λ (x : Progress). p .steps ≤ x .steps) (way (scratchCells (b .vertices)) (omega arith)) (round-keeps (b .inputs) (b .outputs) (b .vertices) (λ x. p .steps ≤ x .steps) (λ x r h k. omega (arith, h)) (qs (scratchCells (b .vertices))) (gain (scratchCells (b .vertices))) p (omega arith))
+
   pub same-length-on : length (q .table) ≡ length (p .table)
   same-length-on = subst (λ (x : Progress). length (x .table) ≡ length (p .table)) (way (scratchCells (b .vertices)) (omega arith)) (round-keeps (b .inputs) (b .outputs) (b .vertices) (λ x. length (x .table) ≡ length (p .table)) (λ x r h k. k .kept .same-length ∙ h) (qs (scratchCells (b .vertices))) (gain (scratchCells (b .vertices))) p refl)
 

@@ -17,7 +17,6 @@ use Rattle.paths.proofs.Before.{before-rank}
 use Rattle.run.specs.declared.side.Side.{Side}
 use Rattle.run.specs.declared.side.Side.the-variants.{Inputs, Outputs}
 use Rattle.run.specs.Pairs.{Pair}
-use Rattle.run.specs.Running.{Ready}
 use Rattle.run.proofs.Lines.{side-below}
 use Rattle.run.proofs.TriedShares.{Trying, share-graph}
 
@@ -31,11 +30,10 @@ order-kept {N} {g} {o} s a b e before = record { rank = s .rank; place = s .plac
         (λ _. s .rise u v)
 
 -- after an accepted share
-pub still-passable : (board : Board) (t : List ℤ) (o : List ℕ) (side : Side) (a b k : ℕ) → Checked board t → Ready side board t o k → Pair side board a b → (after : List ℤ) → Trying board t side a b k after true → Checked board after
-    → standsBefore (board .vertices) o a b ≡ true → side ≡ Outputs → Passable board after o
-still-passable board t o Inputs a b k ok ready pair after h ok′ before is = absurd (let y : _≡_ {A = ℕ} 0 1 = cc in omega arith)
-still-passable board t o Outputs a b k ok ready pair after h ok′ before is =
-    let p = ready .order refl in
-    let made = share-graph board t Outputs a b k ok after h in
-    let rises = before-rank (p .order) a b (side-below board Outputs b (ok .lent .sized) (pair .other)) (true-is before) in
+pub still-passable : (board : Board) (t : List ℤ) (o : List ℕ) (side : Side) (a b k : ℕ) → Passable board t o → Pair side board a b → (after : List ℤ) → Trying board t side a b k after true → Checked board after
+    → side ≡ Outputs → standsBefore (board .vertices) o a b ≡ true → Passable board after o
+still-passable board t o Inputs a b k p pair after h ok′ is before = absurd (let y : _≡_ {A = ℕ} 0 1 = cc in omega arith)
+still-passable board t o Outputs a b k p pair after h ok′ is before =
+    let made = share-graph board t Outputs a b k (p .checked) after h in
+    let rises = before-rank (p .order) a b (side-below board Outputs b (p .checked .lent .sized) (pair .other)) (true-is before) in
     record { checked = ok′; order = subst (λ (g : Graph). TopologicalOrder (board .vertices) g o) (sym (made .1)) (order-kept (p .order) a b (made .0) rises) }

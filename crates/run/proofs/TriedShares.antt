@@ -92,11 +92,11 @@ module _ (board : Board) (t : List ℤ) (side : Side) (a b k : ℕ) where
 -- ---- as the one try of a round
 
 -- with the smallest free number, or a number that is not used
-share-fresh : (board : Board) (t : List ℤ) (o : List ℕ) (side : Side) (a b k : ℕ) → Ready side board t o k → shareStep side a b k ≡ shareStep side a b (freshNumber (board .inputs) (board .outputs) (board .vertices) (graphOf (board .vertices) t))
+share-fresh : (board : Board) (t : List ℤ) (o : List ℕ) (side : Side) (a b k : ℕ) {sorted : Bool} → Ready side board t o k sorted → shareStep side a b k ≡ shareStep side a b (freshNumber (board .inputs) (board .outputs) (board .vertices) (graphOf (board .vertices) t))
 share-fresh board t o Inputs a b k h = ap (share-inputs a b) (h .fresh refl)
 share-fresh board t o Outputs a b k h = refl
 
-module _ (board : Board) (t : List ℤ) (o : List ℕ) (side : Side) (a b k c : ℕ) (run : Running board (progress t c)) (ready : Ready side board t o k) where
+module _ (board : Board) (t : List ℤ) (o : List ℕ) (side : Side) (a b k c : ℕ) {sorted : Bool} (run : Running board (progress t c)) (ready : Ready side board t o k sorted) where
   abbrev pub Tried : List ℤ → ℕ → Type 0
   Tried after d = Reaches (board .vertices) (λ s. tryShare (board .inputs) (board .outputs) (board .vertices) side s a b ∷ []) (progress t c) (progress after d)
 
@@ -113,10 +113,10 @@ module _ (board : Board) (t : List ℤ) (o : List ℕ) (side : Side) (a b k c : 
       let gain : (s : ℕ) → All (Gains (board .inputs) (board .outputs) (board .vertices)) (tryShare (board .inputs) (board .outputs) (board .vertices) side s a b ∷ []) = λ s. (share-try-gains (board .inputs) (board .outputs) (board .vertices) side s a b, tt) in
       (way, running-on board (λ s. tryShare (board .inputs) (board .outputs) (board .vertices) side s a b ∷ []) (progress t c) (progress after (c + 1)) gain way run .checked)
 
-  pub share-stays : (after : List ℤ) → Trying board t side a b k after false → Tried after c × Ready side board after o k
+  pub share-stays : (after : List ℤ) → Trying board t side a b k after false → Tried after c × Ready side board after o k sorted
   share-stays after h =
       let same : c + 0 ≡ c = omega arith in
-      (λ s room. share-reaches after false h s room ∙ ap (progress after) same, subst (λ (x : List ℤ). Ready side board x o k) (sym (h .refused refl .1)) ready)
+      (λ s room. share-reaches after false h s room ∙ ap (progress after) same, subst (λ (x : List ℤ). Ready side board x o k sorted) (sym (h .refused refl .1)) ready)
 
   -- b has too few arcs
   pub share-passed : isRich side (board .vertices) (graphOf (board .vertices) t) b ≡ false → Tried t c

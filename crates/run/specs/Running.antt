@@ -13,6 +13,7 @@ use Rattle.timing.specs.Table.{graphOf}
 use Rattle.timing.specs.Delays.{matrix, arrivalIn}
 use Rattle.reduction.specs.Run.{Progress, Try, round, freshNumber, tries, tryStep}
 use Rattle.reduction.specs.Steps.{Step, prune}
+use Rattle.reduction.specs.Lean.{LeanTable}
 use Rattle.paths.specs.declared.board.Board.{Board}
 use Rattle.paths.specs.Board.{graphIn}
 use Rattle.paths.specs.Checked.{Checked, Passable}
@@ -36,11 +37,10 @@ pub record Held (b : Board) (M t : List ℤ) : Type 0 where
   pub cells : (i j : ℕ) → i < b .inputs → j < b .outputs → arrivalIn M (b .outputs * i + j) ≡ matrix (b .inputs) (b .vertices) (graphOf (b .vertices) t) i j
   pub near : (i j : ℕ) → i < b .inputs → j < b .outputs → T (fits arrivalLimit (matrix (b .inputs) (b .vertices) (graphOf (b .vertices) t) i j))
 
--- what a side's tries need of the table as it is: inputs the smallest free number k, outputs a topological order o
-pub record Ready (side : Side) (b : Board) (t : List ℤ) (o : List ℕ) (k : ℕ) : Type 0 where
-  pub long : length o ≡ maxVertices
+-- what a side's tries need of the table as it is: inputs the smallest free number k; where `sorted`, o is a topological order of it
+pub record Ready (side : Side) (b : Board) (t : List ℤ) (o : List ℕ) (k : ℕ) (sorted : Bool) : Type 0 where
   pub fresh : side ≡ Inputs → k ≡ freshNumber (b .inputs) (b .outputs) (b .vertices) (graphOf (b .vertices) t)
-  pub order : side ≡ Outputs → Passable b t o
+  pub order : sorted ≡ true → Passable b t o
 
 -- what is known of the side's vertices before they are compared: which have arcs enough to be the second of a share
 pub record Counted (side : Side) (b : Board) (t : List ℤ) (rich : List Bool) : Type 0 where
@@ -77,6 +77,10 @@ Leads b qs t c t′ c′ = Reaches (b .vertices) qs (progress t c) (progress t�
 -- the tries of a round, and prune's alone, on a board
 abbrev pub triesOn : Board → ℕ → List Try
 triesOn b = tries (b .inputs) (b .outputs) (b .vertices)
+
+-- prune would take no arc
+abbrev pub LeanOn : Board → List ℤ → Type 0
+LeanOn b t = LeanTable (b .inputs) (b .outputs) (b .vertices) t
 
 abbrev pub pruneTry : Board → ℕ → List Try
 pruneTry b s = tryStep (b .inputs) (b .outputs) (b .vertices) s prune ∷ []

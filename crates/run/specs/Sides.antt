@@ -41,6 +41,11 @@ abbrev pub placeOf : Side → ℕ → ℕ → ℕ → ℕ → ℕ
 placeOf Inputs m n v j = n * v + j
 placeOf Outputs m n v j = n * j + (v - m)
 
+-- from an entry to the next
+abbrev pub strideOf : Side → ℕ → ℕ
+strideOf Inputs n = 1
+strideOf Outputs n = n
+
 -- a share of the side, k its new number
 abbrev pub shareStep : Side → ℕ → ℕ → ℕ → Step
 shareStep Inputs a b k = share-inputs a b k

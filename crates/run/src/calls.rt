@@ -30,12 +30,12 @@ fn rounds(board: Board, table: &mut [i32], order: &mut Order, scratch: &mut [i64
     queries::fill_matrix(board, table, order, scratch, &mut matrix);
     let mut steps = 0;
     let mut more = true;
-    let mut sorted = true;
+    let mut first = true;
     while more {
-        let after = round::round(board, table, order, scratch, &matrix, sorted, steps);
+        let after = round::round(board, table, order, scratch, &matrix, first, steps);
         more = after != steps;
         steps = after;
-        sorted = false;
+        first = false;
     }
     let left = cells::arcs(board, table);
     Ran::Accepted(steps, left)

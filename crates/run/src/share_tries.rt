@@ -4,7 +4,6 @@ use crate::fresh;
 use crate::side::Side;
 use paths::Board;
 use paths::cells;
-use paths::order;
 use paths::order::Order;
 use plans::rewrite;
 use plans::rewrite::Rewriting;
@@ -26,10 +25,11 @@ ghost use Rattle.run.specs.Sides.{shareStep, pairTry};
 ghost use Rattle.run.specs.Running.{progress, Running, Ready, Counted, RowsKept, TriesStep, freshOn, Leads};
 ghost use Rattle.run.specs.Pairs.{Pair, comparedBy, Compared};
 
-// The steps accepted so far, the smallest free number where inputs are shared, and whether the table's row sets are there.
+// The steps accepted so far, the smallest free number where inputs are shared, whether the order is one of the table's, and whether its row sets are there.
 pub struct Tally {
     pub steps: usize,
     pub fresh: usize,
+    pub sorted: bool,
     pub made: bool,
 }
 
@@ -64,13 +64,15 @@ fn share_columns(
     board: Board,
     table: &mut [i32],
     order: &Order,
+    sorted: bool,
     words: &mut [u64],
     made: bool,
     a: usize,
     b: usize,
     e: i64,
 ) -> Shared
-    requires { ⌜ Passable board (now table) (now order) ⌝ }
+    requires { ⌜ Checked board (now table) ⌝ }
+    requires { ⌜ (sorted ≡ true → Passable board (now table) (now order)) ⌝ }
     requires { ⌜ Pair Outputs board a b ⌝ }
     requires { ⌜ Compared Outputs board (now table) a b e ⌝ }
     requires { ⌜ Indexed board (now table) (now words) made ⌝ }
@@ -83,7 +85,7 @@ fn share_columns(
             made,
         };
     }
-    let looked = share_outputs::path_back(board, table, order, words, made, a, b);
+    let looked = share_outputs::path_back(board, table, order, sorted, words, made, a, b);
     let saved = share_outputs::outputs_saved(board, table, looked.found, b, e);
     if let Difference::Common(d) = saved {
         let d = cells::narrow(d);
@@ -104,6 +106,7 @@ fn share(
     board: Board,
     table: &mut [i32],
     order: &Order,
+    sorted: bool,
     words: &mut [u64],
     side: Side,
     made: bool,
@@ -113,7 +116,7 @@ fn share(
     e: i64,
 ) -> Shared
     requires { ⌜ Checked board (now table) ⌝ }
-    requires { ⌜ Ready side board (now table) (now order) k ⌝ }
+    requires { ⌜ Ready side board (now table) (now order) k sorted ⌝ }
     requires { ⌜ RowsKept side board (now table) (now words) made ⌝ }
     requires { ⌜ Pair side board a b ⌝ }
     requires { ⌜ Compared side board (now table) a b e ⌝ }
@@ -125,7 +128,7 @@ fn share(
             let accepted = share_rows(board, table, a, b, k, e);
             Shared { accepted, made }
         }
-        Side::Outputs => share_columns(board, table, order, words, made, a, b, e),
+        Side::Outputs => share_columns(board, table, order, sorted, words, made, a, b, e),
     }
 }
 
@@ -142,11 +145,11 @@ fn keep_up(board: Board, words: &mut [u64], made: bool, a: usize, b: usize)
     }
 }
 
-// The try of a pair. Only an accepted one asks for a new number or a new topological order; the arcs of a and b alone are counted again.
+// The try of a pair. Only an accepted one asks for a new number; the arcs of a and b alone are counted again.
 pub fn try_share(
     board: Board,
     table: &mut [i32],
-    order: &mut Order,
+    order: &Order,
     rich: &mut [bool; Board::MAX_VERTICES],
     words: &mut [u64],
     side: Side,
@@ -156,36 +159,50 @@ pub fn try_share(
     tally: Tally,
 ) -> Tally
     requires { ⌜ Running board (progress (now table) (tally .steps)) ⌝ }
-    requires { ⌜ Ready side board (now table) (now order) (tally .fresh) ⌝ }
+    requires { ⌜ Ready side board (now table) (now order) (tally .fresh) (tally .sorted) ⌝ }
     requires { ⌜ Counted side board (now table) (now rich) ⌝ }
     requires { ⌜ RowsKept side board (now table) (now words) (tally .made) ⌝ }
     requires { ⌜ Pair side board a b ⌝ }
     requires { ⌜ differenceMeaning difference ≡ comparedBy side board (now table) a b ⌝ }
     ensures { λ r. ⌜ Leads board (pairTry board side a b) (was table) (tally .steps) (now (table .exit)) (r .steps) ⌝ }
-    ensures { λ r. ⌜ Ready side board (now (table .exit)) (now (order .exit)) (r .fresh) × Counted side board (now (table .exit)) (now (rich .exit)) ⌝ }
+    ensures { λ r. ⌜ Ready side board (now (table .exit)) (was order) (r .fresh) (r .sorted) × Counted side board (now (table .exit)) (now (rich .exit)) ⌝ }
     ensures { λ r. ⌜ RowsKept side board (now (table .exit)) (now (words .exit)) (r .made) ⌝ }
-    ensures { λ _. ⌜ (side ≡ Inputs → now (order .exit) ≡ was order) ⌝ }
 {
     let steps = tally.steps;
     let k = tally.fresh;
+    let sorted = tally.sorted;
     if let Difference::Common(e) = difference {
-        let shared = share(board, table, order, words, side, tally.made, a, b, k, e);
+        let shared = share(
+            board,
+            table,
+            order,
+            sorted,
+            words,
+            side,
+            tally.made,
+            a,
+            b,
+            k,
+            e,
+        );
         let made = shared.made;
         if shared.accepted {
             keep_up(board, words, made, a, b);
             rich[a] = counts::is_rich(board, table, side, a);
             rich[b] = counts::is_rich(board, table, side, b);
-            let still = order::stands_before(order, board.vertices, a, b);
-            let fresh = fresh::renew(board, table, order, side, still);
+            let still = fresh::still_sorted(order, board.vertices, side, sorted, a, b);
+            let fresh = fresh::renew(board, table, side);
             return Tally {
                 steps: steps + 1,
                 fresh,
+                sorted: still,
                 made,
             };
         }
         return Tally {
             steps,
             fresh: k,
+            sorted,
             made,
         };
     }

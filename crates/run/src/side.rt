@@ -3,7 +3,7 @@ use paths::Board;
 ghost use mathlib.Core.Path.{_≡_};
 ghost use Prim.Native.Nat.{_<_};
 ghost use Rattle.paths.specs.Board.{Sized};
-ghost use Rattle.run.specs.Sides.{OnSide, firstOf, acrossOf, placeOf, endOf};
+ghost use Rattle.run.specs.Sides.{OnSide, firstOf, acrossOf, strideOf, placeOf, endOf};
 
 pub enum Side {
     Inputs,
@@ -38,6 +38,16 @@ pub fn across(board: Board, side: Side) -> usize
     match side {
         Side::Inputs => board.outputs,
         Side::Outputs => board.inputs,
+    }
+}
+
+// From an entry of a vertex to its next.
+pub fn stride(board: Board, side: Side) -> usize
+    ensures { λ r. ⌜ r ≡ strideOf side (board .outputs) ⌝ }
+{
+    match side {
+        Side::Inputs => 1,
+        Side::Outputs => board.outputs,
     }
 }
 

@@ -1,18 +1,21 @@
 -- What each operation on the two words does to membership.
-use mathlib.Core.Path.{_≡_, refl, sym, ap, ap₂, _∙_}
+use mathlib.Core.Path.{_≡_, refl, sym, ap, ap₂, _∙_, subst}
 use mathlib.Core.Bool.{Bool, true, false, not, cond, _&&_, _||_}
-use Prim.Native.Nat.{ℕ, _-_, _≤_, _<_}
-use native.Mathlib.Decide.{decLt}
+use Prim.Native.Nat.{ℕ, zero, suc, _+_, _-_, _≤_, _<_}
+use native.Mathlib.Decide.{ℕ-discrete, decLt}
 use native.Mathlib.Omega.{arith}
 use borrow.Author.Tests.{lt-ltb, le-ltb}
-use lib.Dec.{eqb, eqb→eq, ltb}
-use lib.Bits.{bitAnd, bitOr, bitXor}
-use Rattle.laws.proofs.Booleans.{eq→eqb, eqb-other}
+use lib.Dec.{T, eqb, eqb→eq, ltb}
+use lib.Bits.{bitAnd, bitOr, bitXor, and-le-l, and-le-r, or-lt, or-add-and}
+use lib.Count.{trailingZeros}
+use mir.Syntax.{w64}
+use mir.Val.{Fits}
+use Rattle.laws.proofs.Booleans.{T-true, or-cases, eq→eqb, eqb-other, split, true-is}
 use Rattle.laws.proofs.Truth.{same-truth}
 use Rattle.sets.specs.declared.Set.{Set}
 use Rattle.sets.specs.Words.{odd}
 use Rattle.sets.specs.Sets.{room, holds}
-use Rattle.sets.proofs.Words.{odd-none, or-digit, but-digit}
+use Rattle.sets.proofs.Words.{odd-none, or-digit, but-digit, least-digit}
 
 -- the three places where a number can lie
 pub low : (s : Set) (u : ℕ) → u < 64 → holds s u ≡ odd (s .low) u
@@ -50,6 +53,10 @@ or-member a b = each-member _||_ refl a b _ (or-digit (a .low) (b .low)) (or-dig
 
 abbrev but : Bool → Bool → Bool
 but x y = x && not y
+
+pub but-member : (a b : Set) (u : ℕ)
+    → holds (record { low = bitXor (a .low) (bitAnd (a .low) (b .low)); high = bitXor (a .high) (bitAnd (a .high) (b .high)) }) u ≡ (holds a u && not (holds b u))
+but-member a b = each-member but refl a b _ (but-digit (a .low) (b .low)) (but-digit (a .high) (b .high))
 
 pub empty-member : (u : ℕ) → holds (record { low = 0; high = 0 }) u ≡ false
 empty-member = place (λ u. holds none u ≡ false) (λ u l. low none u l ∙ odd-none u) (λ u h l. high none u h l ∙ odd-none (u - 64)) (λ u h. beyond none u h)
@@ -108,3 +115,46 @@ pub minus-high : (v w : ℕ) (s : Set) → 64 ≤ v → v < room → ((j : ℕ) 
 minus-high v w s g h e u =
     each-member but refl s (record { low = 0; high = w }) (record { low = s .low; high = bitXor (s .high) (bitAnd (s .high) w) }) (but-none (s .low)) (but-digit (s .high) w) u
     ∙ ap (λ (b : Bool). holds s u && not b) (lone-high v w g h e u)
+
+-- ---- whether there is a member, and one of them
+
+-- what the machine knows of a set's words
+abbrev pub Fit : Set → Type 0
+Fit s = Fits w64 (s .low) × (Fits w64 (s .high) × Unit {0})
+
+module _ (s : Set) where
+  words-none : s .low ≡ 0 → s .high ≡ 0 → (u : ℕ) → holds s u ≡ false
+  words-none e h u = ap₂ (λ (x y : ℕ). holds (record { low = x; high = y }) u) e h ∙ empty-member u
+
+  -- digit i of a word as a member
+  pub from-low : (i : ℕ) → i < 64 → odd (s .low) i ≡ true → T (holds s i)
+  from-low i l e = true-is (low s i l ∙ e)
+
+  pub from-high : (i : ℕ) → i < 64 → odd (s .high) i ≡ true → T (holds s (64 + i))
+  from-high i l e = let q : (64 + i) - 64 ≡ i = omega arith in true-is (high s (64 + i) (omega arith) (omega arith) ∙ ap (odd (s .high)) q ∙ e)
+
+  pub high-left : (u : ℕ) → T (holds s u) → s .low ≡ 0 → 0 < s .high
+  high-left u t e = go (ℕ-discrete (s .high) 0)
+    where
+      go : Dec (s .high ≡ 0) → 0 < s .high
+      go (yes h) = absurd (subst T (words-none e h u) t)
+      go (no h) = omega arith
+
+  pub empty-none : eqb (bitOr (s .low) (s .high)) 0 ≡ true → (u : ℕ) → holds s u ≡ false
+  empty-none t = words-none (omega (arith, both, or-add-and (s .low) (s .high), and-le-r (s .low) (s .high))) (omega (arith, both, or-add-and (s .low) (s .high), and-le-l (s .low) (s .high)))
+    where
+      both : bitOr (s .low) (s .high) ≡ 0
+      both = eqb→eq (bitOr (s .low) (s .high)) 0 (true-is t)
+
+  pub empty-some : Fit s → eqb (bitOr (s .low) (s .high)) 0 ≡ false → (u : ℕ) × T (holds s u)
+  empty-some f e = go (least-digit 64 (bitOr (s .low) (s .high)) (above (bitOr (s .low) (s .high)) e) (or-lt 64 (s .low) (s .high) (f .0 .fits) (f .1 .0 .fits)))
+    where
+      above : (x : ℕ) → eqb x 0 ≡ false → 0 < x
+      above zero q = absurd (subst T q tt)
+      above (suc x) q = omega arith
+
+      go : (trailingZeros 64 (bitOr (s .low) (s .high)) < 64) × (odd (bitOr (s .low) (s .high)) (trailingZeros 64 (bitOr (s .low) (s .high))) ≡ true) → (u : ℕ) × T (holds s u)
+      go r =
+          let i = trailingZeros 64 (bitOr (s .low) (s .high)) in
+          split (or-cases (odd (s .low) i) (odd (s .high) i) (true-is (sym (or-digit (s .low) (s .high) i) ∙ r .1)))
+          (λ t. (i, from-low i (r .0) (T-true t))) (λ t. (64 + i, from-high i (r .0) (T-true t)))

@@ -3,10 +3,13 @@ use mathlib.Core.Path.{_≡_, refl, sym, ap, ap₂, _∙_}
 use mathlib.Core.Bool.{Bool, true, false, not, _&&_, _||_}
 use Prim.Native.Nat.{ℕ, zero, suc, _+_, _*_, _/_, _%_, _^_, _<_, min, max}
 use native.Mathlib.Nat.{mod-lt, div-div-eq-div-mul, pow-succ', div-one}
+use native.Mathlib.Numerals.{add-one}
 use native.Mathlib.Omega.{arith}
 use lib.Dec.{eqb, eqb·suc-suc, eqb·suc-zero, eqb·zero-suc, lit<}
-use lib.Arith.{digits-div, digits-mod}
+use lib.Arith.{lt-one, digits-div, digits-mod}
 use lib.Bits.{bitAnd, bitOr, bitXor, differ, and-step, or-step, xor-step, shifted-half, shifted-even}
+use lib.Count.{trailingZeros, under}
+use lib.Pow.{shr-lt}
 use Rattle.sets.specs.Words.{odd}
 
 pub odd-zero : (x : ℕ) → odd x 0 ≡ eqb (x % 2) 1
@@ -74,3 +77,14 @@ one-digit zero zero = odd-zero 1
 one-digit zero (suc j) = odd-suc 1 j ∙ odd-none j ∙ sym (eqb·suc-zero j)
 one-digit (suc i) zero = odd-zero (1 * 2 ^ suc i) ∙ ap (λ (z : ℕ). eqb z 1) (shifted-even 1 i) ∙ sym (eqb·zero-suc i)
 one-digit (suc i) (suc j) = odd-suc (1 * 2 ^ suc i) j ∙ ap (λ (z : ℕ). odd z j) (shifted-half 1 i) ∙ one-digit i j ∙ sym (eqb·suc-suc j i)
+
+-- the least digit that is set
+pub least-digit : (k x : ℕ) → 0 < x → x < 2 ^ k → (trailingZeros k x < k) × (odd x (trailingZeros k x) ≡ true)
+unfolding trailingZeros
+least-digit zero x p h = absurd (omega (arith, lt-one h))
+least-digit (suc k) x p h = go (trailingZeros k (x / 2)) (λ q. least-digit k (x / 2) q (shr-lt k 1 (rw (add-one k) h)))
+  where
+    go : (t : ℕ) → (0 < x / 2 → (t < k) × (odd (x / 2) t ≡ true)) → (under (x % 2) t < suc k) × (odd x (under (x % 2) t) ≡ true)
+    go t rest = digit (λ d. x % 2 ≡ d → (under d t < suc k) × (odd x (under d t) ≡ true)) x
+        (λ e. let r = rest (omega arith) in (omega (arith, r .0), odd-suc x t ∙ r .1))
+        (λ e. (omega arith, odd-zero x ∙ ap (λ (z : ℕ). eqb z 1) e)) refl

@@ -2,9 +2,9 @@
 pub mod rows;
 
 ghost use mathlib.Core.Path.{_≡_};
-ghost use mathlib.Core.Bool.{false, not, _&&_, _||_};
+ghost use mathlib.Core.Bool.{true, false, not, _&&_, _||_};
 ghost use Prim.Native.Nat.{ℕ, _<_};
-ghost use lib.Dec.{eqb};
+ghost use lib.Dec.{T, eqb};
 ghost use Rattle.sets.specs.Words.{odd};
 ghost use Rattle.sets.specs.Sets.{room, holds};
 
@@ -22,6 +22,15 @@ fn has_bit(x: u64, i: usize) -> bool
     ensures { λ r. ⌜ r ≡ odd x i ⌝ }
 {
     (x >> i) & 1 == 1
+}
+
+// The least bit of a word that has one.
+fn least_bit(x: u64) -> usize
+    requires { ⌜ 0 < x ⌝ }
+    ensures { λ r. ⌜ r < 64 ⌝ }
+    ensures { λ r. ⌜ odd x r ≡ true ⌝ }
+{
+    u64::trailing_zeros(x) as usize
 }
 
 pub struct Set {
@@ -87,5 +96,32 @@ impl Set {
             low: self.low | other.low,
             high: self.high | other.high,
         }
+    }
+
+    pub fn without(self, other: Set) -> Set
+        ensures { λ r. ⌜ ((u : ℕ) → holds r u ≡ (holds self u && not (holds other u))) ⌝ }
+    {
+        Set {
+            low: self.low ^ (self.low & other.low),
+            high: self.high ^ (self.high & other.high),
+        }
+    }
+
+    pub fn is_empty(self) -> bool
+        ensures { λ r. ⌜ (r ≡ true → (u : ℕ) → holds self u ≡ false) ⌝ }
+        ensures { λ r. ⌜ (r ≡ false → (u : ℕ) × T (holds self u)) ⌝ }
+    {
+        (self.low | self.high) == 0
+    }
+
+    // A member, the least.
+    pub fn first(self) -> usize
+        requires { ⌜ ((u : ℕ) × T (holds self u)) ⌝ }
+        ensures { λ r. ⌜ T (holds self r) ⌝ }
+    {
+        if self.low != 0 {
+            return least_bit(self.low);
+        }
+        64 + least_bit(self.high)
     }
 }

@@ -26,7 +26,7 @@ passed-checked {m} {n} {N} {t} p = record { lent = record { sized = Paths.sized 
 
 module _ (m n N k : ℕ) (t : List ℤ) {after : List ℤ} {r : Ran} (runs : Runs (runCall m n N k t) t after r) where
   -- the table left has passed its checks, and both counts are small: each step costs an arc
-  pub ran-checked : (c a : ℕ) → r ≡ R.Accepted c a → Checked (Paths.sizes m n N) after × (c < 10 ^ 10) × (a < 10 ^ 10)
+  pub ran-checked : (c a : ℕ) → r ≡ R.Accepted c a → Checked (Paths.sizes m n N) after × (c < 10 ^ 4) × (a < 10 ^ 4)
   ran-checked c a q =
       let e : runCall m n N k t ≡ accepted (record { table = after; steps = c; arcsLeft = a }) = sym (runs .answer) ∙ ap (λ (x : Ran). ranMeaning x after) q in
       let g = run-gain m n N k t _ e in

@@ -24,7 +24,7 @@ ghost use Rattle.files.specs.Read.{sizesOf};
 ghost use Rattle.text.specs.Text.{textBytes};
 
 // The bytes that the longest text needs.
-pub const PAGE: usize = 307_875;
+pub const PAGE: usize = 88_149;
 
 pub fn page() -> [u8; PAGE]
     ensures { λ r. ⌜ length r ≡ textBytes ⌝ }
@@ -44,8 +44,8 @@ fn refused_text(refusal: Refusal, offset: usize, out: &mut [u8]) -> usize
 
 fn reduced_text(board: Board, table: &[i32], steps: usize, arcs: usize, out: &mut [u8]) -> usize
     requires { ⌜ Checked board (now table) ⌝ }
-    requires { ⌜ steps < 10 ^ 10 ⌝ }
-    requires { ⌜ arcs < 10 ^ 10 ⌝ }
+    requires { ⌜ steps < 10 ^ 4 ⌝ }
+    requires { ⌜ arcs < 10 ^ 4 ⌝ }
     requires { ⌜ textBytes ≤ length (now out) ⌝ }
     ensures { λ r. ⌜ Appends (reducedText (sizesOf board) (record { table = was table; steps = steps; arcsLeft = arcs })) (was out) 0 (now (out .exit)) r ⌝ }
     ensures { λ r. ⌜ r ≤ textBytes ⌝ }

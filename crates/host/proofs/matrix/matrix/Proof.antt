@@ -9,15 +9,15 @@ use Rattle.laws.proofs.Signed.{back}
 use Rattle.timing.specs.Refusal.{Verdict}
 use Rattle.timing.specs.Queries.{matrixCall}
 use Rattle.host.specs.Runs.{wholeCells, cellsOf}
-use Rattle.host.specs.Shown.{shown}
+use Rattle.host.specs.Shown.{shown, pairsShown}
 use Rattle.host.specs.Answers.{matrixAnswer, matrixBytes}
 use Rattle.host.proofs.Shown.{part-long, part-shown}
 use Rattle.host.proofs.Matrices.{matrix-room}
 use Rattle.host.proofs.matrix.matrix.Statement.{statement}
 use Rattle.host.proofs.matrix.matrix.Tie as tie
 
-module _ (c : tie.After-wide-cells2) where
-  abbrev pairs : tie.After-shown3
+module _ (c : tie.After-pair-cells) where
+  abbrev pairs : tie.After-pairs-shown
   pairs = c .before .before .before
 
   abbrev room : tie.After-shown2
@@ -30,10 +30,10 @@ module _ (c : tie.After-wide-cells2) where
   s = count .before .before .before .before
 
   cells-shown : length (take (count .shown .result) (c .before .before .cells .result)) ≡ shown (s .args .vertices) (s .args .vertices) (wholeCells 4 (s .args .table .now))
-  cells-shown = part-shown _ _ (c .before .before .cells .ensures) _ _ _ (count .shown .ensures)
+  cells-shown = part-shown _ _ (c .before .before .cells .ensures) _ (count .shown .ensures)
 
-  delays-shown : length (take (pairs .shown3 .result) (c .wide-cells2 .result)) ≡ shown (s .args .inputs) (s .args .outputs) (wholeCells 8 (s .args .matrix .now))
-  delays-shown = part-shown _ _ (c .wide-cells2 .ensures) _ _ _ (pairs .shown3 .ensures)
+  delays-shown : length (take (pairs .pairs-shown .result) (c .pair-cells .result)) ≡ pairsShown (s .args .inputs) (s .args .outputs) (wholeCells 8 (s .args .matrix .now))
+  delays-shown = part-shown _ _ (c .pair-cells .ensures) _ (pairs .pairs-shown .ensures)
 
   abbrev lent : List ℤ
   lent = take (room .shown2 .result) (c .before .wide-cells .result)
@@ -43,7 +43,7 @@ module _ (c : tie.After-wide-cells2) where
 
   same : verdict (length lent) ≡ verdict (wholeCells 8 (s .args .scratch .now))
   same =
-      ap verdict (part-shown _ _ (c .before .wide-cells .ensures) _ _ _ (room .shown2 .ensures))
+      ap verdict (part-shown _ _ (c .before .wide-cells .ensures) _ (room .shown2 .ensures))
       ∙ matrix-room (s .args .inputs) (s .args .outputs) (s .args .vertices) (wholeCells 8 (s .args .scratch .now)) (cellsOf 4 (s .args .table .now)) (cellsOf 8 (s .args .matrix .now))
 
   -- what the local scratch was lent for, said of the lent one
@@ -58,7 +58,7 @@ slice-aggregate-matrix-in-2 : tie.Need-slice-aggregate-matrix-in-2
 slice-aggregate-matrix-in-2 c = let w = c .before .before in sym (part-long _ _ (w .before .wide-cells .ensures) (room w .shown2 .ensures .1))
 
 slice-aggregate-matrix-in-3 : tie.Need-slice-aggregate-matrix-in-3
-slice-aggregate-matrix-in-3 c = let w = c .before .before .before .before in sym (part-long _ _ (w .wide-cells2 .ensures) (pairs w .shown3 .ensures .1))
+slice-aggregate-matrix-in-3 c = let w = c .before .before .before .before in sym (part-long _ _ (w .pair-cells .ensures) (pairs w .pairs-shown .ensures .1))
 
 matrix-in-requires : tie.Need-matrix-in-requires
 matrix-in-requires c κs = let w = c .before .before .before .before in (cells-shown w, delays-shown w)

@@ -29,7 +29,7 @@ module _ (c : tie.After-wide-cells) where
   s = count .before .before .before
 
   cells-shown : length (take (count .shown .result) (c .before .cells .result)) ≡ shown (s .args .vertices) (s .args .vertices) (wholeCells 4 (s .args .table .now))
-  cells-shown = part-shown _ _ (c .before .cells .ensures) _ _ _ (count .shown .ensures)
+  cells-shown = part-shown _ _ (c .before .cells .ensures) _ (count .shown .ensures)
 
   abbrev lent : List ℤ
   lent = take (room .shown2 .result) (c .wide-cells .result)
@@ -39,7 +39,7 @@ module _ (c : tie.After-wide-cells) where
 
   same : verdict (length lent) ≡ verdict (wholeCells 8 (s .args .scratch .now))
   same =
-      ap verdict (part-shown _ _ (c .wide-cells .ensures) _ _ _ (room .shown2 .ensures))
+      ap verdict (part-shown _ _ (c .wide-cells .ensures) _ (room .shown2 .ensures))
       ∙ step-room (s .args .inputs) (s .args .outputs) (s .args .vertices) (wholeCells 8 (s .args .scratch .now)) (stepMeaning (s .args .step)) (cellsOf 4 (s .args .table .now))
 
   -- what the local scratch was lent for, said of the lent one

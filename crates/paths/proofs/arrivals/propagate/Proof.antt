@@ -1,29 +1,21 @@
 use Rattle.paths.proofs.arrivals.propagate.Statement.{statement}
 use Rattle.paths.proofs.arrivals.propagate.Tie as tie
-use mathlib.Core.Path.{sym, subst}
 use mathlib.Core.List.{List}
 use Prim.Native.Nat.{ℕ, _≤_, _<_, _+_, _-_, _*_}
 use native.Mathlib.Omega.{arith}
 use lib.IntN.{ℤ}
 use lib.ListN.{length, getD}
-use mir.Syntax.{w64}
-use mir.Facts.{sfits-lit}
-use Rattle.laws.proofs.Booleans.{split}
 use Rattle.laws.proofs.Grid.{row-in}
-use Rattle.laws.proofs.Signed.{back, same-bits, other-bits}
-use Rattle.timing.specs.Limits.{absentWide}
-use Rattle.paths.specs.Arrivals.{Reached, Pushed}
-use Rattle.paths.proofs.Rows.{lent}
-use Rattle.paths.proofs.Propagating.{pushable, Going, going-start, x-in, skipped, reached, onward, ended}
+use Rattle.paths.proofs.Propagating.{pushable, Going, going-start, x-in, near, onward, ended}
 
 abbrev Inv-loop : tie.InvT-loop
-Inv-loop table list chain f₀ n p₀ f p = Going n table list f₀ f p
+Inv-loop table list chain f₀ n p₀ f p = Going n table list chain f₀ f p
 
 abbrev μ-loop : tie.MeasureT-loop
 μ-loop table list chain f₀ n p₀ f p = n - p
 
 loop-holds : tie.Need-loop-holds Inv-loop μ-loop
-loop-holds c = going-start _ _ _ _
+loop-holds c = going-start _ _ _ _ _
 
 -- a turn
 module _ (c : tie.In-loop Inv-loop μ-loop) where
@@ -46,7 +38,7 @@ module _ (c : tie.In-loop Inv-loop μ-loop) where
   room = start .pre .0 .passable .checked .lent .room
 
   vertex : u < n
-  vertex = x-in (start .pre .0) (c .before .loop .inv) (c .loop-test .taken)
+  vertex = x-in (start .pre .0) (start .pre .1) (c .before .loop .inv) (c .loop-test .taken)
 
   row : n * u + n ≤ n * n
   row = row-in n u vertex
@@ -57,65 +49,54 @@ element-copy-out-u c = omega (arith, few c)
 cast-u : tie.Need-cast-u Inv-loop μ-loop
 cast-u c = omega (arith, vertex (c .before), few (c .before))
 
-mul-a : tie.Need-mul-a Inv-loop μ-loop
-mul-a c = omega (arith, vertex (c .before), few (c .before))
-
-slice-copy-out-a : tie.Need-slice-copy-out-a Inv-loop μ-loop
-slice-copy-out-a c = omega (arith, vertex (c .before), start (c .before) .pre .0 .room, c .before .before .loop .inv .size)
-
 mul-at : tie.Need-mul-at Inv-loop μ-loop
-mul-at c = let i = c .before .before .before in omega (arith, row i, room i, vertex i)
+mul-at c = let i = c .before in omega (arith, row i, room i, vertex i, start i .good)
 
-mul-push : tie.Need-mul-push Inv-loop μ-loop
-mul-push c = let i = c .before .before .before in omega (arith, row i, room i, vertex i)
+mul-push-from : tie.Need-mul-push-from Inv-loop μ-loop
+mul-push-from c = let i = c .before in omega (arith, row i, room i, vertex i)
 
-sub-push : tie.Need-sub-push Inv-loop μ-loop
-sub-push c = let i = c .before .before .before in omega (arith, row i, room i, vertex i)
+sub-push-from : tie.Need-sub-push-from Inv-loop μ-loop
+sub-push-from c = let i = c .before in omega (arith, row i, room i, vertex i)
 
-part-push-start : tie.Need-part-push-start Inv-loop μ-loop
-part-push-start c = let i = c .before .before .before in omega (arith, row i, room i, vertex i)
+part-push-from-start : tie.Need-part-push-from-start Inv-loop μ-loop
+part-push-from-start c = let i = c .before in omega (arith, row i, room i, vertex i)
 
-sub-push-2 : tie.Need-sub-push-2 Inv-loop μ-loop
-sub-push-2 c = let i = c .before .before .before .before in omega (arith, row i, start i .pre .1 .room)
+sub-push-from-2 : tie.Need-sub-push-from-2 Inv-loop μ-loop
+sub-push-from-2 c = let i = c .before .before in omega (arith, row i, start i .pre .1 .room)
 
-part-push-start-2 : tie.Need-part-push-start-2 Inv-loop μ-loop
-part-push-start-2 c = let i = c .before .before .before .before in omega (arith, row i, start i .pre .1 .room)
+part-push-from-start-2 : tie.Need-part-push-from-start-2 Inv-loop μ-loop
+part-push-from-start-2 c = let i = c .before .before in omega (arith, row i, start i .pre .1 .room)
 
-push-requires : tie.Need-push-requires Inv-loop μ-loop
-push-requires c κs =
-    let k = c .before .before .before in
-    let a = k .before in
-    let i = a .before .before in
+push-from-requires : tie.Need-push-from-requires Inv-loop μ-loop
+push-from-requires c κs =
+    let i = c .before .before .before .before in
     let s = start i in
-    let l = i .before in
-    let P = s .pre .0 .passable in (
-      subst Reached (sym (back w64 _ (a .a .given))) (reached (s .pre .0) (l .loop .inv) (i .loop-test .taken) (other-bits w64 (k .if1 .taken))),
-      pushable P (s .pre .1) (u i) (vertex i) (l .loop .f) (omega (arith, l .loop .inv .size, s .pre .0 .room)),
+    let l = i .before in (
+      pushable (s .pre .0 .passable) (s .pre .1) (u i) (vertex i) (l .loop .f) (omega (arith, l .loop .inv .size, s .pre .0 .room)),
+      (vertex i, near (s .pre .0) (s .pre .1) (l .loop .inv) (i .loop-test .taken)),
     )
 
+abbrev turn-of : tie.After-f Inv-loop μ-loop → tie.In-loop Inv-loop μ-loop
+turn-of c = c .before .before .before .before .before .before
+
 add-p : tie.Need-add-p Inv-loop μ-loop
-add-p c = let i = c .before .before .before in omega (arith, i .loop-test .taken, few i)
+add-p c = let i = turn-of c in omega (arith, i .loop-test .taken, few i)
 
 loop-less : tie.Need-loop-less Inv-loop μ-loop
-loop-less c = let i = c .before .before .before in omega (arith, i .loop-test .taken)
+loop-less c = let i = turn-of c in omega (arith, i .loop-test .taken)
 
 loop-again : tie.Need-loop-again Inv-loop μ-loop
 loop-again c =
-    let i = c .before .before .before in
+    let i = turn-of c in
     let s = start i in
-    let l = i .before in
-    split (c .if1 .came)
-    (λ w. subst (λ (y : List ℤ). Going (n i) (t i) (s .args .order .now) (s .args .f .now) y (l .loop .p + 1)) (sym (w .6))
-    (onward (s .pre .0) (l .loop .inv) (i .loop-test .taken) (w .4 .last .1 .1 .1 .0) (w .4 .kept .1 .1 .1 .0)
-    (subst (λ (z : ℤ). Pushed (n i) (lent (n i) (t i) (u i) (room i) (vertex i)) z (l .loop .f) (w .4 .last .1 .1 .1 .0)) (back w64 _ (c .before .a .given)) (w .4 .ensures))))
-    (λ w. subst (λ (y : List ℤ). Going (n i) (t i) (s .args .order .now) (s .args .f .now) y (l .loop .p + 1)) (sym (w .1))
-    (skipped (s .pre .0) (l .loop .inv) (i .loop-test .taken) (same-bits {w = w64} {b = absentWide} (record { sfits = c .before .a .given }) (sfits-lit tt) (w .0 .left))))
+    let k = c .before .push-from in
+    onward (s .pre .0) (s .pre .1) (i .before .loop .inv) (i .loop-test .taken) (k .last .1 .1 .0) (k .kept .1 .1 .0) (k .ensures)
 
 same-length : tie.Need-same-length Inv-loop μ-loop
 same-length c = c .before .loop .inv .size
 
 returns : tie.Need-returns Inv-loop μ-loop
-returns c = ended (c .before .before .before .pre .0) (c .before .loop .inv) (omega (arith, c .before .loop .inv .upto, c .loop-test .left))
+returns c = ended (c .before .before .before .pre .0) (c .before .before .before .pre .1) (c .before .loop .inv) (omega (arith, c .before .loop .inv .upto, c .loop-test .left))
 
 pub propagate-spec : {M : Type 1} → statement M
 propagate-spec =
@@ -126,17 +107,15 @@ propagate-spec =
     loop-holds
     element-copy-out-u
     cast-u
-    mul-a
-    slice-copy-out-a
     mul-at
-    mul-push
-    sub-push
-    part-push-start
+    mul-push-from
+    sub-push-from
+    part-push-from-start
     (λ c. omega arith)
-    sub-push-2
-    part-push-start-2
+    sub-push-from-2
+    part-push-from-start-2
     (λ c. omega arith)
-    push-requires
+    push-from-requires
     add-p
     loop-less
     loop-again

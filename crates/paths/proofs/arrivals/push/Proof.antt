@@ -13,27 +13,21 @@ use mir.Val.{SFits, toZ, ofZ}
 use mir.Facts.{toZ-ofZ}
 use Rattle.laws.proofs.Booleans.{split}
 use Rattle.laws.proofs.Signed.{back, widens}
-use Rattle.graph.specs.Delay.{Delay, absent, _⋓_, _⊕_}
-use Rattle.graph.proofs.Delay.{⊕-absent, ⋓-absent}
+use Rattle.graph.specs.Delay.{Delay, _⋓_, _⊕_}
 use Rattle.graph.proofs.Presence.{not-present}
 use Rattle.timing.specs.Limits.{delayLimit, absentCell, absentWide, fits}
 use Rattle.timing.specs.Table.{readCell}
 use Rattle.timing.specs.Delays.{arrivalIn}
 use Rattle.timing.proofs.Table.{read-absent}
 use Rattle.paths.specs.Cells.{cellAt}
+use Rattle.paths.specs.Chain.{walkedAt}
 use Rattle.paths.specs.Arrivals.{Reached, Gains}
-use Rattle.paths.proofs.Chaining.{Along, along-start, along-turn, along-keep}
-
--- what is to hold of the cell of v
-abbrev Later : List ℤ → ℤ → List ℤ → ℕ → ℤ → Type 0
-Later row a f₀ v z = readCell absentWide z ≡ arrivalIn f₀ v ⋓ (readCell absentWide a ⊕ cellAt row v)
-
--- it holds where there is no arc
-idle : (row : List ℤ) (a : ℤ) (f₀ : List ℤ) (n v : ℕ) → v < n → cellAt row v ≡ absent → Later row a f₀ v (getD f₀ v (pos 0))
-idle row a f₀ n v h e = sym (⋓-absent (arrivalIn f₀ v)) ∙ ap (λ (d : Delay). arrivalIn f₀ v ⋓ d) (sym (ap (λ (d : Delay). readCell absentWide a ⊕ d) e ∙ ⊕-absent (readCell absentWide a)))
+use Rattle.paths.proofs.Walked.{walked-is, walked-first}
+use Rattle.paths.proofs.Chaining.{along-start, along-turn, along-keep}
+use Rattle.paths.proofs.Offering.{idle, Offering, all-offered}
 
 abbrev Inv-loop : tie.InvT-loop
-Inv-loop row chain a f₀ n v₀ f v = Along (Later row (toZ w64 a) f₀) (pos 0) n (cellAt row) f₀ f v
+Inv-loop row chain a f₀ n v₀ f v = Offering n row chain (toZ w64 a) f₀ f v
 
 abbrev μ-loop : tie.MeasureT-loop
 μ-loop row chain a f₀ n v₀ f v = n - v
@@ -47,7 +41,7 @@ cast-v c = let p = c .before .before .pre .1 in omega (arith, p .chain .on 0 (p 
 loop-holds : tie.Need-loop-holds Inv-loop μ-loop
 loop-holds c =
     let b = c .before .before in
-    along-start (b .pre .1 .chain) (b .args .f .now) (idle (b .args .row .now) _ (b .args .f .now) (b .args .n)) (b .pre .1 .some) (b .pre .1 .no-first)
+    along-start (b .pre .1 .chain) (b .args .f .now) (idle (walkedAt (b .args .row .now) (b .args .chain .now)) _ (b .args .f .now) (b .args .n)) (b .pre .1 .some) (walked-first (b .pre .1 .chain) (cellAt (b .args .row .now)) (b .pre .1 .some))
 
 -- a turn
 module _ (t : tie.In-loop Inv-loop μ-loop) where
@@ -66,8 +60,15 @@ module _ (t : tie.In-loop Inv-loop μ-loop) where
   in-f : v < length (head .loop .f)
   in-f = omega (arith, t .loop-test .taken, s .pre .1 .room, head .loop .inv .stored .size)
 
+  abbrev row : ℕ → Delay
+  row = walkedAt (s .args .row .now) (s .args .chain .now)
+
+  -- the arc is in the row
+  row-is : row v ≡ cellAt (s .args .row .now) v
+  row-is = walked-is (λ j. getD (s .args .chain .now) j 0) (cellAt (s .args .row .now)) v (head .loop .inv .arc (t .loop-test .taken))
+
   cell-there : getD (s .args .row .now) v (pos 0) ≢ absentCell
-  cell-there e = not-present (cellAt (s .args .row .now) v) (read-absent absentCell _ e) (head .loop .inv .arc (t .loop-test .taken))
+  cell-there e = not-present (row v) (row-is ∙ read-absent absentCell _ e) (head .loop .inv .arc (t .loop-test .taken))
 
 mul-d : tie.Need-mul-d Inv-loop μ-loop
 mul-d c = omega (arith, in-n c)
@@ -144,14 +145,15 @@ loop-again c =
     let g = a .before in
     let u = t g in
     let f₀ = s u .args .f .now in
-    let still = idle (s u .args .row .now) (from g) f₀ (s u .args .n) in
+    let still = idle (row u) (from g) f₀ (s u .args .n) in
+    let on = ap (λ (d : Delay). arrivalIn f₀ (v u) ⋓ (readCell absentWide (from g) ⊕ d)) (sym (row-is u)) in
     let next = getD (s u .args .chain .now) (v u) 0 in
     split (c .before .if1 .came)
     (λ w. let y = said a .later (w .0 .taken) in
-    subst (λ (l : List ℤ). Along (Later (s u .args .row .now) (from g) f₀) (pos 0) (s u .args .n) (cellAt (s u .args .row .now)) f₀ l next) (sym (w .1))
-    (along-turn (s u .pre .1 .chain) f₀ still (head u .loop .inv) (u .loop-test .taken) (s u .pre .1 .room) _ (ap (readCell absentWide) (ap (λ (z : ℤ). toZ w64 (ofZ w64 (from g +ℤ z))) (cell64-is g) ∙ toZ-ofZ (y .0)) ∙ y .1)))
-    (λ w. subst (λ (l : List ℤ). Along (Later (s u .args .row .now) (from g) f₀) (pos 0) (s u .args .n) (cellAt (s u .args .row .now)) f₀ l next) (sym (w .1))
-    (along-keep (s u .pre .1 .chain) f₀ still (head u .loop .inv) (u .loop-test .taken) (said a .not-later (w .0 .left))))
+    subst (λ (l : List ℤ). Offering (s u .args .n) (s u .args .row .now) (s u .args .chain .now) (from g) f₀ l next) (sym (w .1))
+    (along-turn (s u .pre .1 .chain) f₀ still (head u .loop .inv) (u .loop-test .taken) (s u .pre .1 .room) _ (ap (readCell absentWide) (ap (λ (z : ℤ). toZ w64 (ofZ w64 (from g +ℤ z))) (cell64-is g) ∙ toZ-ofZ (y .0)) ∙ y .1 ∙ on)))
+    (λ w. subst (λ (l : List ℤ). Offering (s u .args .n) (s u .args .row .now) (s u .args .chain .now) (from g) f₀ l next) (sym (w .1))
+    (along-keep (s u .pre .1 .chain) f₀ still (head u .loop .inv) (u .loop-test .taken) (said a .not-later (w .0 .left) ∙ on)))
 
 same-length : tie.Need-same-length Inv-loop μ-loop
 same-length c = c .before .loop .inv .stored .size
@@ -159,13 +161,7 @@ same-length c = c .before .loop .inv .stored .size
 returns : tie.Need-returns Inv-loop μ-loop
 returns c =
     let l = c .before in
-    let b = l .before .before .before in
-    let i = l .loop .inv in
-    record {
-      cells = λ v h. i .stored .done v (omega (arith, c .loop-test .left))
-          ∙ ap (λ (a : ℤ). arrivalIn (b .args .f .now) v ⋓ (readCell absentWide a ⊕ cellAt (b .args .row .now) v)) (toZ-ofZ (b .fits .a));
-      rest = λ v h. i .stored .left v (omega (arith, i .upto));
-    }
+    all-offered (l .loop .inv) (c .loop-test .left) (toZ-ofZ (l .before .before .before .fits .a))
 
 pub push-spec : {M : Type 1} → statement M
 push-spec =

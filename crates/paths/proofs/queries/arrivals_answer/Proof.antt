@@ -38,8 +38,8 @@ slice-aggregate-chains c = sym (c .before .cell-bytes .ensures)
 chains-requires : tie.Need-chains-requires
 chains-requires c κs =
     let s = start (c .before .before) in
-    let l = s .pre .0 .checked .lent in
-    (l, omega (arith, c .before .cell-bytes .ensures, board-area (s .args .board) (l .sized)))
+    let l = s .pre .0 in
+    (l, omega (arith, c .before .cell-bytes .ensures, board-area (s .args .board) (l .checked .lent .sized)))
 
 -- the chains are made
 module _ (m : tie.After-chains) where
@@ -47,7 +47,7 @@ module _ (m : tie.After-chains) where
   lists = m .before .before .before
 
 slice-aggregate-arrivals : tie.Need-slice-aggregate-arrivals
-slice-aggregate-arrivals c = let m = c .before .before in sym (m .chains .kept .1 .1 .0 ∙ m .before .before .cell-bytes .ensures)
+slice-aggregate-arrivals c = let m = c .before .before in sym (m .chains .kept .1 .1 .1 .0 ∙ m .before .before .cell-bytes .ensures)
 
 arrivals-requires : tie.Need-arrivals-requires
 arrivals-requires c κs = let m = c .before .before .before in let e = lists m in (start e .pre .0, (m .chains .ensures, (given-of _ _ (fit e), omega (arith, start e .pre .1, least e))))

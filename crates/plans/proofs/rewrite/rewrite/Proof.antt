@@ -4,6 +4,7 @@ use Prim.Native.Nat.{ℕ, _≤_, _<_, _+_, _-_, _*_}
 use native.Mathlib.Omega.{arith}
 use lib.IntN.{ℤ}
 use lib.ListN.{length, take, drop}
+use borrow.Rule.Slice.PartMut.{putMid}
 use Rattle.laws.specs.Lists.{rows}
 use Rattle.laws.proofs.Filling.{rows-none, row-lent, row-back}
 use Rattle.laws.proofs.Grid.{row-in}
@@ -13,15 +14,16 @@ use Rattle.timing.proofs.Table.{graphOf-at}
 use Rattle.plans.specs.declared.rewrite.Rewriting.{Rewriting}
 use Rattle.plans.specs.Rewritten.{rewritten, origin}
 use Rattle.plans.proofs.CopiedRow.{newCell, Copied}
+use Rattle.plans.proofs.PassedRows.{passed}
 use Rattle.plans.proofs.RewrittenRows.{origin-below, row-fit, row-rewritten}
 use Rattle.plans.proofs.rewrite.rewrite.Statement.{statement}
 use Rattle.plans.proofs.rewrite.rewrite.Tie as tie
 
 abbrev Inv-loop : tie.InvT-loop
-Inv-loop table₀ how n from via u₀ table u = (u ≤ n) × (length table ≡ length table₀) × (table ≡ rows n u (newCell (rewritten how (graphOf n table₀))) ++ drop (n * u) table₀)
+Inv-loop board table₀ how n from via u₀ table u = (u ≤ n) × (length table ≡ length table₀) × (table ≡ rows n u (newCell (rewritten how (graphOf n table₀))) ++ drop (n * u) table₀)
 
 abbrev μ-loop : tie.MeasureT-loop
-μ-loop table₀ how n from via u₀ table u = n - u
+μ-loop board table₀ how n from via u₀ table u = n - u
 
 -- the origin is known
 module _ (c : tie.After-origin Inv-loop μ-loop) where
@@ -58,13 +60,19 @@ mul-from c = omega (arith, row-k c, room c)
 row-copy-requires : tie.Need-row-copy-requires Inv-loop μ-loop
 row-copy-requires c κs = let o = c .before in (start o .pre .0 .sized .few, omega (arith, row-k o, room o))
 
+next-changed-requires : tie.Need-next-changed-requires Inv-loop μ-loop
+next-changed-requires c κs = let o = c .before .before .before in (start o .pre .0, (origin-below (how o) (n o) (t o) (start o .pre .1), omega arith))
+
 loop-holds : tie.Need-loop-holds Inv-loop μ-loop
-loop-holds c = (omega arith, refl, rows-none _ _ _)
+loop-holds c =
+    let o = c .before .before .before .before in
+    let s = c .next-changed .ensures in
+    (s .upto, refl, passed (n o) (t o) (t o) (how o) 0 (rows-none (n o) (new o) (t o)) (room o) _ s)
 
 -- a turn
 module _ (c : tie.In-loop Inv-loop μ-loop) where
   abbrev copy : tie.After-row-copy Inv-loop μ-loop
-  copy = c .before .before
+  copy = c .before .before .before .before
 
   abbrev o : tie.After-origin Inv-loop μ-loop
   o = copy .before .before
@@ -116,16 +124,40 @@ rewrite-row-requires c κs =
     let b = o i in
     row-fit (n b) (t b) (via i) (u i) (i .loop-test .taken) (lent i) (lent-is i) (how b) (copied i) (start b .pre .1)
 
+-- the row is back
+module _ (c : tie.After-table Inv-loop μ-loop) where
+  abbrev i : tie.In-loop Inv-loop μ-loop
+  i = c .before .before .before .before
+
+  abbrev back : List ℤ
+  back = putMid (n (o i) * u i) (n (o i) * u i + n (o i) - n (o i) * u i) (i .before .loop .table) (c .before .rewrite-row .last .0)
+
+  back-is : back ≡ rows (n (o i)) (u i + 1) (new (o i)) ++ drop (n (o i) * (u i + 1)) (t (o i))
+  back-is =
+      row-back (n (o i)) (new (o i)) (t (o i)) (i .before .loop .table) (u i) (i .before .loop .inv .2) (c .before .rewrite-row .last .0)
+      (row-rewritten (n (o i)) (t (o i)) (via i) (u i) (i .loop-test .taken) (lent i) (lent-is i) (how (o i)) (copied i) (start (o i) .pre .1) (c .before .rewrite-row .ensures))
+
+  back-long : length back ≡ length (t (o i))
+  back-long = c .table .given .1 ∙ i .before .loop .inv .1
+
+add-next-changed : tie.Need-add-next-changed Inv-loop μ-loop
+add-next-changed c = let a = c .before in omega (arith, i a .loop-test .taken, start (o (i a)) .pre .0 .sized .few)
+
+next-changed-requires-2 : tie.Need-next-changed-requires-2 Inv-loop μ-loop
+next-changed-requires-2 c κs =
+    let a = c .before in
+    let b = o (i a) in
+    (record { sized = start b .pre .0 .sized; room = omega (arith, back-long a, room b) }, (origin-below (how b) (n b) (t b) (start b .pre .1), omega (arith, i a .loop-test .taken)))
+
+loop-less : tie.Need-loop-less Inv-loop μ-loop
+loop-less c = omega (arith, i (c .before .before) .loop-test .taken, c .next-changed2 .ensures .past)
+
 loop-again : tie.Need-loop-again Inv-loop μ-loop
 loop-again c =
-    let i = c .before .before .before .before in
-    let b = o i in
-    let l = i .before in (
-      omega (arith, i .loop-test .taken),
-      c .table .given .1 ∙ l .loop .inv .1,
-      row-back (n b) (new b) (t b) (l .loop .table) (u i) (l .loop .inv .2) (c .before .rewrite-row .last .0)
-          (row-rewritten (n b) (t b) (via i) (u i) (i .loop-test .taken) (lent i) (lent-is i) (how b) (copied i) (start b .pre .1) (c .before .rewrite-row .ensures)),
-    )
+    let a = c .before .before in
+    let b = o (i a) in
+    let s = c .next-changed2 .ensures in
+    (s .upto, back-long a, passed (n b) (t b) (back a) (how b) (u (i a) + 1) (back-is a) (room b) _ s)
 
 same-length : tie.Need-same-length Inv-loop μ-loop
 same-length c = c .before .loop .inv .1
@@ -133,7 +165,7 @@ same-length c = c .before .loop .inv .1
 returns : tie.Need-returns Inv-loop μ-loop
 unfolding withGraph
 returns c =
-    let e : c .before .loop .u ≡ n (c .before .before .before .before) = omega arith in
+    let e : c .before .loop .u ≡ n (c .before .before .before .before .before .before) = omega arith in
     rw e at (c .before .loop .inv .2)
 
 pub rewrite-spec : {M : Type 1} → statement M
@@ -145,6 +177,7 @@ rewrite-spec =
     (λ c κs. tt)
     mul-from
     row-copy-requires
+    next-changed-requires
     loop-holds
     mul-at
     add-end
@@ -153,8 +186,9 @@ rewrite-spec =
     part-rewrite-row-start
     part-rewrite-row-end
     rewrite-row-requires
-    (λ c. omega arith)
-    (λ c. omega arith)
+    add-next-changed
+    next-changed-requires-2
+    loop-less
     loop-again
     same-length
     returns)

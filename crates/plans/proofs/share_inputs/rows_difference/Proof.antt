@@ -24,12 +24,12 @@ slice-aggregate-chains c = sym (c .before .cell-bytes .ensures)
 chains-requires : tie.Need-chains-requires
 chains-requires c κs =
     let s = c .before .before in
-    let l = s .pre .0 .checked .lent in
-    (l, omega (arith, c .before .cell-bytes .ensures, board-area (s .args .board) (l .sized)))
+    let l = s .pre .0 in
+    (l, omega (arith, c .before .cell-bytes .ensures, board-area (s .args .board) (l .checked .lent .sized)))
 
 -- the chains' room
-sized : (m : tie.After-chains) → length (m .chains .last .1 .1 .0) ≡ 8100
-sized m = m .chains .kept .1 .1 .0 ∙ m .before .before .cell-bytes .ensures
+sized : (m : tie.After-chains) → length (m .chains .last .1 .1 .1 .0) ≡ 8100
+sized m = m .chains .kept .1 .1 .1 .0 ∙ m .before .before .cell-bytes .ensures
 
 slice-aggregate-delays-from : tie.Need-slice-aggregate-delays-from
 slice-aggregate-delays-from c = sym (sized (c .before .before))

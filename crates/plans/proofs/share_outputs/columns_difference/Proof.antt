@@ -39,8 +39,8 @@ slice-aggregate-chains c = sym (c .before .cell-bytes .ensures)
 chains-requires : tie.Need-chains-requires Inv-compare μ-compare
 chains-requires c κs =
     let s = c .before .before in
-    let l = s .pre .0 .checked .lent in
-    (l, omega (arith, c .before .cell-bytes .ensures, board-area (s .args .board) (l .sized)))
+    let l = s .pre .0 in
+    (l, omega (arith, c .before .cell-bytes .ensures, board-area (s .args .board) (l .checked .lent .sized)))
 
 compare-holds : tie.Need-compare-holds Inv-compare μ-compare
 compare-holds c = (omega arith, refl, refl, seen-none _ _)
@@ -78,7 +78,7 @@ module _ (c : tie.Else1 Inv-compare μ-compare) where
   room = omega (arith, loop .compare .inv .1, start .pre .1 .0)
 
 slice-aggregate-delays-from : tie.Need-slice-aggregate-delays-from Inv-compare μ-compare
-slice-aggregate-delays-from c = let m = made (c .before) in sym (m .chains .kept .1 .1 .0 ∙ m .before .before .cell-bytes .ensures)
+slice-aggregate-delays-from c = let m = made (c .before) in sym (m .chains .kept .1 .1 .1 .0 ∙ m .before .before .cell-bytes .ensures)
 
 delays-from-requires : tie.Need-delays-from-requires Inv-compare μ-compare
 delays-from-requires c κs = let e = c .before .before in (start e .pre .0, (made e .chains .ensures, (inside e, room e)))

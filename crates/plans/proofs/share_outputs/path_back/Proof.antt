@@ -19,7 +19,7 @@ use Rattle.timing.specs.Table.{readCell, graphOf}
 use Rattle.timing.proofs.Checks.{sound-within}
 use Rattle.timing.proofs.Table.{graphOf-at}
 use Rattle.paths.proofs.Before.{no-path-back}
-use Rattle.reach.specs.RowSets.{Routed}
+use Rattle.reach.specs.RowSets.{Rowed}
 use Rattle.plans.proofs.share_outputs.path_back.Statement.{statement}
 use Rattle.plans.proofs.share_outputs.path_back.Tie as tie
 
@@ -37,21 +37,22 @@ module _ (s : tie.Start) where
   b = s .args .b
 
   cell-in : N * b + a < length (s .args .table .now)
-  cell-in = omega (arith, row-in N b (s .pre .1 .0 .below-b), s .pre .0 .checked .lent .room, s .pre .1 .0 .below-a)
+  cell-in = omega (arith, row-in N b (s .pre .1 .1 .0 .below-b), s .pre .0 .lent .room, s .pre .1 .1 .0 .below-a)
 
   within : Within N g
-  within = sound-within (s .pre .0 .checked .sound)
+  within = sound-within (s .pre .0 .sound)
 
   arc-path : present (g b a) ≡ true → present (longest g N b a) ≡ true
-  arc-path e = T-true (present-⊑ (arc-⊑ (longest-is N g within (s .pre .0 .checked .sound .acyclic)) b a) (true-is e))
+  arc-path e = T-true (present-⊑ (arc-⊑ (longest-is N g within (s .pre .0 .sound .acyclic)) b a) (true-is e))
 
-stands-before-requires : tie.Need-stands-before-requires
-stands-before-requires c κs = c .before .pre .0 .checked .lent .sized .few
+is-ahead-requires : tie.Need-is-ahead-requires
+is-ahead-requires c κs = c .before .pre .0 .lent .sized .few
 
 returns : tie.Need-returns
 returns c =
     let s = c .before .before .before in
-    (sym (no-path-back (s .pre .0 .order) (a s) (b s) (s .pre .1 .0 .below-b) (true-is (sym (c .before .stands-before .ensures) ∙ c .if1 .taken))), s .pre .1 .1)
+    let ahead = c .before .is-ahead .ensures (c .if1 .taken) in
+    (sym (no-path-back (s .pre .1 .0 (ahead .0) .order) (a s) (b s) (s .pre .1 .1 .0 .below-b) (ahead .1)), s .pre .1 .1 .1)
 
 mul-at : tie.Need-mul-at
 mul-at c = omega (arith, cell-in (c .before .before .before))
@@ -69,35 +70,35 @@ shared-slice-copy-out-is-arc c = cell-in (c .before .before .before)
 said : (c : tie.After-is-arc) → let s = c .before .before .before .before .before in present (g s (b s) (a s)) ≡ c .is-arc .result
 said c =
     let s = c .before .before .before .before .before in
-    ap present (graphOf-at (N s) (s .args .table .now) (b s) (a s) (s .pre .1 .0 .below-b) (s .pre .1 .0 .below-a))
+    ap present (graphOf-at (N s) (s .args .table .now) (b s) (a s) (s .pre .1 .1 .0 .below-b) (s .pre .1 .1 .0 .below-a))
     ∙ sym (c .is-arc .ensures ∙ ap (λ (z : ℤ). present (readCell absentCell z)) (back w32 _ (c .before .is-arc-arg .given)))
 
 returns-2 : tie.Need-returns-2
-returns-2 c = let s = c .before .before .before .before .before .before in (sym (arc-path s (said (c .before) ∙ c .if2 .taken)), s .pre .1 .1)
+returns-2 c = let s = c .before .before .before .before .before .before in (sym (arc-path s (said (c .before) ∙ c .if2 .taken)), s .pre .1 .1 .1)
 
 index-requires : tie.Need-index-requires
-index-requires c κs = let s = c .before .before .before .before .before .before .before in (s .pre .0 .checked .lent, s .pre .1 .1)
+index-requires c κs = let s = c .before .before .before .before .before .before .before in (s .pre .0 .lent, s .pre .1 .1 .1)
 
 -- with the row sets
-routed : (c : tie.After-index) → let s = c .before .before .before .before .before .before .before .before in Routed (N s) (g s) (c .index .last .1 .1 .0) (s .args .order .now)
-routed c = let s = c .before .before .before .before .before .before .before .before in record { sets = c .index .ensures; inside = within s .in-range; order = s .pre .0 .order }
+rowed : (c : tie.After-index) → let s = c .before .before .before .before .before .before .before .before in Rowed (N s) (g s) (c .index .last .1 .1 .0)
+rowed c = let s = c .before .before .before .before .before .before .before .before in record { sets = c .index .ensures; inside = within s .in-range }
 
 leads-requires : tie.Need-leads-requires
 leads-requires c κs =
     let x = c .before .before .before in
     let s = x .before .before .before .before .before .before .before .before in
-    (s .pre .0 .checked .lent .sized .few, (s .pre .1 .0 .below-b, (s .pre .1 .0 .below-a, (g s, routed x))))
+    (s .pre .0 .lent .sized .few, (s .pre .1 .1 .0 .below-b, (s .pre .1 .1 .0 .below-a, (g s, rowed x))))
 
 returns-3 : tie.Need-returns-3
 returns-3 c =
     let x = c .before .before .before .before in
-    (c .leads .ensures (g (x .before .before .before .before .before .before .before .before)) (routed x), record { long = x .index .ensures .long; sets = λ _. x .index .ensures })
+    (c .leads .ensures (g (x .before .before .before .before .before .before .before .before)) (rowed x), record { long = x .index .ensures .long; sets = λ _. x .index .ensures })
 
 pub path-back-spec : {M : Type 1} → statement M
 path-back-spec =
     tie.close
     (tie.spec
-    stands-before-requires
+    is-ahead-requires
     returns
     mul-at
     add-at

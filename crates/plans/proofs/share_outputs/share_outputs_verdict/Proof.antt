@@ -17,8 +17,9 @@ use Rattle.reduction.specs.Outcome.{isOutput}
 use Rattle.paths.specs.declared.board.Board.{Board}
 use Rattle.reduction.specs.ShareOutputs.{outputsSaved}
 use Rattle.plans.specs.Sharing.{TwoOutputs}
+use Rattle.paths.proofs.Sizes.{vector-fits}
 use Rattle.paths.proofs.Answering.{drop-further}
-use Rattle.plans.proofs.ShareConditions.{vector-fits, two-outputs, outputs-wrong, outputs-common, outputs-refused}
+use Rattle.plans.proofs.ShareConditions.{two-outputs, outputs-wrong, outputs-common, outputs-refused}
 use Rattle.plans.proofs.share_outputs.share_outputs_verdict.Statement.{statement}
 use Rattle.plans.proofs.share_outputs.share_outputs_verdict.Tie as tie
 
@@ -86,7 +87,7 @@ path-back-requires c κs =
     let w = c .before in
     let e = passed (w .before .before .before .before .before) in
     let few = start e .pre .0 .checked .lent .sized .few in
-    (start e .pre .0, (outputs e, record { long = omega (arith, w .words .ensures, few); sets = λ q. absurd (let z : _≡_ {A = ℕ} 0 1 = cc in omega arith) }))
+    (start e .pre .0 .checked, ((λ _. start e .pre .0), (outputs e, record { long = omega (arith, w .words .ensures, few); sets = λ q. absurd (let z : _≡_ {A = ℕ} 0 1 = cc in omega arith) })))
 
 outputs-saved-requires : tie.Need-outputs-saved-requires
 outputs-saved-requires c κs = let e = passed (c .before .before .before .before .before .before .before .before) in (start e .pre .0 .checked .lent, outputs e .below-b)

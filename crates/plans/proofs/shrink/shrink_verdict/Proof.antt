@@ -16,7 +16,7 @@ use Rattle.plans.proofs.shrink.shrink_verdict.Statement.{statement}
 use Rattle.plans.proofs.shrink.shrink_verdict.Tie as tie
 
 is-inner-requires : tie.Need-is-inner-requires
-is-inner-requires c κs = c .pre .sized
+is-inner-requires c κs = c .pre .0 .sized
 
 returns : tie.Need-returns
 unfolding shrinkVerdict
@@ -40,14 +40,14 @@ module _ (c : tie.Else1) where
   inside = below _ (start .args .board .outputs) _ k inner
 
 is-relay-requires : tie.Need-is-relay-requires
-is-relay-requires c κs = (start c .pre, inside c)
+is-relay-requires c κs = (start c .pre .0, inside c)
 
 returns-2 : tie.Need-returns-2
 unfolding shrinkVerdict
 returns-2 c = simp (inner (c .before .before), sym (c .before .is-relay .ensures) ∙ not-true _ (c .if2 .taken))
 
 sums-fit-requires : tie.Need-sums-fit-requires
-sums-fit-requires c κs = let i = c .before .before in (start i .pre, inside i)
+sums-fit-requires c κs = let i = c .before .before in (start i .pre .0, (start i .pre .1, inside i))
 
 -- k has passed the second condition
 module _ (c : tie.Else2) where

@@ -1,17 +1,15 @@
 use mathlib.Core.Path.{_≡_, refl, sym, _∙_, subst}
-use mathlib.Core.Bool.{Bool, true, not}
+use mathlib.Core.Bool.{Bool, true, false, not}
 use Prim.Native.Nat.{ℕ, _≤_, _<_}
 use native.Mathlib.Omega.{arith}
 use lib.Dec.{eqb}
 use lib.ListN.{length, drop}
-use Rattle.laws.proofs.Grid.{square}
 use Rattle.timing.specs.Limits.{maxVertices, scratchCells}
 use Rattle.reduction.specs.Run.{Progress, tries, reduce}
 use Rattle.reduction.proofs.Run.{tries-gain}
 use Rattle.paths.specs.declared.board.Board.{Board}
 use Rattle.paths.specs.Checked.{Passable}
-use Rattle.paths.proofs.Answering.{drop-further}
-use Rattle.run.specs.Running.{progress, Running, Held}
+use Rattle.run.specs.Running.{progress, Running, Held, LeanOn}
 use Rattle.run.proofs.Moving.{running-on, held-on}
 use Rattle.run.proofs.Ending.{Toward, roundsLeft, toward-next, fewer-left, runs-done}
 use Rattle.run.proofs.HeldMatrix.{held-start, running-start}
@@ -20,32 +18,25 @@ use Rattle.run.proofs.calls.rounds.Statement.{statement}
 use Rattle.run.proofs.calls.rounds.Tie as tie
 
 abbrev Inv-loop : tie.InvT-loop
-Inv-loop board table₀ list₀ scratch₀ matrix steps₀ more₀ sorted₀ table list scratch steps more sorted =
+Inv-loop board table₀ list₀ scratch₀ matrix steps₀ more₀ first₀ table list scratch steps more first =
     Running board (progress table steps) × Held board matrix table × (length list ≡ maxVertices) × (length table ≡ length table₀) × (length scratch ≡ length scratch₀)
     × (drop (scratchCells (board .vertices)) scratch ≡ drop (scratchCells (board .vertices)) scratch₀)
     × ((s : ℕ) → scratchCells (board .vertices) ≤ s → Toward (board .inputs) (board .outputs) (board .vertices) s (reduce (board .inputs) (board .outputs) (board .vertices) s table₀) more (progress table steps))
-    × (sorted ≡ true → Passable board table list)
+    × (first ≡ true → Passable board table list)
+    × (first ≡ false → LeanOn board table)
 
 abbrev μ-loop : tie.MeasureT-loop
-μ-loop board table₀ list₀ scratch₀ matrix steps₀ more₀ sorted₀ table list scratch steps more sorted = roundsLeft (board .vertices) more table
+μ-loop board table₀ list₀ scratch₀ matrix steps₀ more₀ first₀ table list scratch steps more first = roundsLeft (board .vertices) more table
 
 fill-matrix-requires : tie.Need-fill-matrix-requires Inv-loop μ-loop
-fill-matrix-requires c κs = let s = c .before .before .before .before in (s .pre .0, (omega (arith, s .pre .1 .1, square (s .args .board .vertices) (omega (arith, s .pre .0 .checked .lent .sized .roles, s .pre .0 .checked .lent .sized .some-inputs))), pairs-fit (s .pre .0 .checked .lent .sized)))
+fill-matrix-requires c κs = let s = c .before .before .before .before in (s .pre .0, (s .pre .1 .1, pairs-fit (s .pre .0 .checked .lent .sized)))
 
 loop-holds : tie.Need-loop-holds Inv-loop μ-loop
 unfolding reduce
 loop-holds c =
     let f = c .before .before in
     let s = f .before .before .before .before .before in
-    (running-start (s .pre .0), held-start (s .pre .0) _ _ (f .fill-matrix .ensures .0), s .pre .1 .0, refl, refl, refl, λ q room. refl, λ _. s .pre .0)
-
--- the scratch after the matrix is there
-past-filled : (f : tie.After-fill-matrix Inv-loop μ-loop) → let a = f .before .before .before .before .before in
-    drop (scratchCells (a .args .board .vertices)) (f .fill-matrix .last .1 .1 .1 .0) ≡ drop (scratchCells (a .args .board .vertices)) (a .args .scratch .now)
-past-filled f =
-    let a = f .before .before .before .before .before in
-    let N = a .args .board .vertices in
-    drop-further N (scratchCells N) (a .args .scratch .now) (f .fill-matrix .last .1 .1 .1 .0) (square N (omega (arith, a .pre .0 .checked .lent .sized .roles, a .pre .0 .checked .lent .sized .some-inputs))) (f .fill-matrix .ensures .1)
+    (running-start (s .pre .0), held-start (s .pre .0) _ _ (f .fill-matrix .ensures .0), s .pre .1 .0, refl, refl, refl, λ q room. refl, λ _. s .pre .0, λ e. absurd (let z : _≡_ {A = ℕ} 0 1 = cc in omega arith))
 
 slice-aggregate-round : tie.Need-slice-aggregate-round Inv-loop μ-loop
 slice-aggregate-round c = sym (c .before .before .before .before .before .before .before .before .fill-matrix .kept .1 .1 .1 .1 .0)
@@ -56,7 +47,7 @@ round-requires c κs =
     let f = l .before .before .before in
     let s = f .before .before .before .before .before in
     let h = l .loop .inv in
-    (h .0, (h .1, (h .2, (h .7, omega (arith, s .pre .1 .1, h .4, f .fill-matrix .kept .1 .1 .1 .0)))))
+    (h .0, (h .1, (h .2, (h .7, (h .8, omega (arith, s .pre .1 .1, h .4, f .fill-matrix .kept .1 .1 .1 .0))))))
 
 -- after a round
 module _ (r : tie.After-round Inv-loop μ-loop) where
@@ -107,13 +98,14 @@ loop-again c =
     let t = start r .args .table .now in (
       running r,
       held r,
-      r .round .ensures .1 .0,
+      r .round .ensures .1 .1 .0,
       table-long r,
       r .round .kept .1 .1 .1 .0 ∙ loop r .loop .inv .4,
-      r .round .ensures .1 .1 ∙ loop r .loop .inv .5,
+      r .round .ensures .1 .1 .1 ∙ loop r .loop .inv .5,
       λ q room. toward-next (d .inputs) (d .outputs) (d .vertices) q (before r) (after r) (r .round .ensures .0 q room) (goal q t)
           (subst (λ (x : Bool). Toward (d .inputs) (d .outputs) (d .vertices) q (goal q t) x (before r)) (due r) (loop r .loop .inv .6 q room)),
       λ e. absurd (let z : _≡_ {A = ℕ} 0 1 = cc in omega arith),
+      λ _. r .round .ensures .1 .0,
     )
 
 arcs-requires : tie.Need-arcs-requires Inv-loop μ-loop
@@ -136,7 +128,7 @@ returns c =
     let goal = reduce (d .inputs) (d .outputs) (d .vertices) s (a .args .table .now) in
     let there = subst (λ (x : Bool). Toward (d .inputs) (d .outputs) (d .vertices) s goal x (progress (l .loop .table) (l .loop .steps))) (e .loop-test .left) (l .loop .inv .6 s (a .pre .1 .1)) in (
       runs-done (d .inputs) (d .outputs) (d .vertices) s (a .args .table .now) (l .loop .table) (l .loop .steps) (c .arcs .result) (sym there) (c .arcs .ensures),
-      l .loop .inv .5 ∙ past-filled f,
+      l .loop .inv .5 ∙ f .fill-matrix .ensures .1,
     )
 
 pub rounds-spec : {M : Type 1} → statement M

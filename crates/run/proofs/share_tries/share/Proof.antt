@@ -46,7 +46,7 @@ share-columns-requires c κs =
     let s = w .before .before .before in
     let is = w .enum-told2 .given .1 in
     let rows = s .pre .1 .1 .0 in
-    (s .pre .1 .0 .order is, (pair s Outputs is, (compared s Outputs is, record { long = omega (arith, rows .long, s .pre .0 .lent .sized .few); sets = rows .sets })))
+    (s .pre .0, (s .pre .1 .0 .order, (pair s Outputs is, (compared s Outputs is, record { long = omega (arith, rows .long, s .pre .0 .lent .sized .few); sets = rows .sets }))))
 
 returns : tie.Need-returns
 returns c =
@@ -62,7 +62,7 @@ returns-2 c =
     let s = w .before .before .before in
     let is = w .enum-told2 .given .1 in
     let x = f .share-columns in
-    (trying s Outputs is (x .last .1 .0) (x .result .accepted) (x .ensures .0), record { long = x .kept .1 .1 .1 .0 ∙ s .pre .1 .1 .0 .long; outputs = λ _. is; sets = x .ensures .1 .sets })
+    (trying s Outputs is (x .last .1 .0) (x .result .accepted) (x .ensures .0), record { long = x .kept .1 .1 .1 .1 .0 ∙ s .pre .1 .1 .0 .long; outputs = λ _. is; sets = x .ensures .1 .sets })
 
 pub share-spec : {M : Type 1} → statement M
 share-spec =

@@ -38,23 +38,23 @@ module _ (s : tie.Start) where
   verdict = shareOutputsVerdict (board .inputs) (board .outputs) (board .vertices) (s .args .a) (s .args .b) g
 
   left-to-ask : verdict ≡ outputsSaved (board .vertices) g (s .args .a) (s .args .b) (s .args .e)
-  left-to-ask = columns-saved board t (s .args .a) (s .args .b) (s .args .e) (s .pre .1 .0) (s .pre .1 .1 .0)
+  left-to-ask = columns-saved board t (s .args .a) (s .args .b) (s .args .e) (s .pre .1 .1 .0) (s .pre .1 .1 .1 .0)
 
   outputs : TwoOutputs board (s .args .a) (s .args .b)
-  outputs = pair-outputs (s .pre .0 .checked .lent .sized) (s .pre .1 .0)
+  outputs = pair-outputs (s .pre .0 .lent .sized) (s .pre .1 .1 .0)
 
 returns : tie.Need-returns
 returns c =
     let r = c .before in
     let s = r .before .before in
     let far = ap (λ (z : ℤ). fits delayLimit (at z)) (sym (toZ-ofZ (s .fits .e))) ∙ sym (r .in-range .ensures) ∙ not-true _ (c .if1 .taken) in
-    (share-left (board s) (t s) Outputs (s .args .a) (s .args .b) 0 (columns-far (board s) (t s) (s .args .a) (s .args .b) (s .args .e) (s .pre .1 .0) (s .pre .1 .1 .0) far), s .pre .1 .1 .1)
+    (share-left (board s) (t s) Outputs (s .args .a) (s .args .b) 0 (columns-far (board s) (t s) (s .args .a) (s .args .b) (s .args .e) (s .pre .1 .1 .0) (s .pre .1 .1 .1 .0) far), s .pre .1 .1 .1 .1)
 
 path-back-requires : tie.Need-path-back-requires
-path-back-requires c κs = let s = c .before .before .before .before .before in (s .pre .0, (outputs s, s .pre .1 .1 .1))
+path-back-requires c κs = let s = c .before .before .before .before .before in (s .pre .0, (s .pre .1 .0, (outputs s, s .pre .1 .1 .1 .1)))
 
 outputs-saved-requires : tie.Need-outputs-saved-requires
-outputs-saved-requires c κs = let s = c .before .before .before .before .before .before .before .before .before in (s .pre .0 .checked .lent, outputs s .below-b)
+outputs-saved-requires c κs = let s = c .before .before .before .before .before .before .before .before .before in (s .pre .0 .lent, outputs s .below-b)
 
 module _ (d : tie.After-outputs-saved) where
   abbrev looked : tie.After-path-back
@@ -80,7 +80,7 @@ module _ (c : tie.After-saved) where
   found = said differenceMeaning (answered asked) (c .saved .given .1)
 
   ready : (start asked .args .b < board (start asked) .vertices) × T (fits delayLimit (at e))
-  ready = let s = start asked in share-outputs-ready (board s .inputs) (board s .outputs) (board s .vertices) (s .args .a) (s .args .b) (g s) e (s .pre .0 .checked .lent .sized .roles) found
+  ready = let s = start asked in share-outputs-ready (board s .inputs) (board s .outputs) (board s .vertices) (s .args .a) (s .args .b) (g s) e (s .pre .0 .lent .sized .roles) found
 
 narrow-requires : tie.Need-narrow-requires
 narrow-requires c κs = let d = c .before in narrow-fits (e d) (ready d .1)
@@ -88,7 +88,7 @@ narrow-requires c κs = let d = c .before in narrow-fits (e d) (ready d .1)
 rewrite-requires : tie.Need-rewrite-requires
 rewrite-requires c κs =
     let d = c .before .before .before in
-    (start (asked d) .pre .0 .checked .lent, ready d .0)
+    (start (asked d) .pre .0 .lent, ready d .0)
 
 returns-2 : tie.Need-returns-2
 returns-2 c =

@@ -11,7 +11,7 @@ use Rattle.timing.specs.Limits.{maxVertices}
 use Rattle.timing.specs.Refusal.{accepted}
 use Rattle.paths.specs.Board.{Lent}
 use Rattle.plans.specs.Verdict.{differenceMeaning}
-use Rattle.paths.specs.Checked.{Checked}
+use Rattle.paths.specs.Checked.{Checked, Passable}
 use Rattle.timing.proofs.Verdict.{said}
 use Rattle.run.specs.Sides.{OnSide}
 use Rattle.run.specs.Running.{Counted, RowsKept}
@@ -30,14 +30,14 @@ e-is c = search needs
 
 share-requires : tie.Need-share-requires
 share-requires c κs =
-    let k = c .before .before .before in
+    let k = c .before .before in
     let s = k .before .before .before .before in
     (s .pre .0 .checked, (s .pre .1 .0, (s .pre .1 .1 .1 .0, (s .pre .1 .1 .1 .1 .0, said differenceMeaning (s .pre .1 .1 .1 .1 .1) (k .before .difference .given .1) ∙ ap accepted (sym (e-is k))))))
 
 -- the share has been tried
 module _ (f : tie.After-share) where
   abbrev start : tie.Start
-  start = f .before .before .before .before .before .before .before .before
+  start = f .before .before .before .before .before .before .before
 
   abbrev after : List ℤ
   after = f .share .last .1 .0
@@ -82,26 +82,27 @@ is-rich-requires-2 c κs = let d = c .before .before .before .before .before .be
 element-write-rich-2 : tie.Need-element-write-rich-2
 element-write-rich-2 c = let d = c .before .before .before .before .before .before .before .before in inside d (s d .args .b) (s d .pre .1 .1 .1 .1 .0 .other)
 
-stands-before-requires : tie.Need-stands-before-requires
-stands-before-requires c κs = goes (c .before .before .before .before .before .before .before .before .before) .1 .lent .sized .few
+still-sorted-requires : tie.Need-still-sorted-requires
+still-sorted-requires c κs = goes (c .before .before .before .before .before .before .before .before) .1 .lent .sized .few
 
 renew-requires : tie.Need-renew-requires
-renew-requires c κs =
-    let f = c .before .before in
-    let d = f .before .before .before .before .before .before .before .before .before .before in (goes d .1, (s d .pre .1 .0 .long, λ e. still-passable (s d .args .board) (s d .args .table .now) (s d .args .order .now) (s d .args .side) (s d .args .a) (s d .args .b) (s d .args .tally .fresh) (s d .pre .0 .checked) (s d .pre .1 .0) (s d .pre .1 .1 .1 .1 .0) (after (made d)) (tried (made d) true (d .if1 .taken)) (goes d .1) (sym (f .stands-before .ensures) ∙ e)))
+renew-requires c κs = goes (c .before .before .before .before .before .before .before .before .before .before) .1 .lent
 
-add-t40 : tie.Need-add-t40
-add-t40 c = omega (arith, s (c .before .before .before .before .before .before .before .before .before .before .before .before .before) .pre .0 .bound)
+add-t38 : tie.Need-add-t38
+add-t38 c = omega (arith, s (c .before .before .before .before .before .before .before .before .before .before .before) .pre .0 .bound)
 
 returns : tie.Need-returns
 returns c =
-    let r = c .before .before .before .before .before in
+    let r = c .before .before .before in
     let kept = r .before .before .before .before .before .before .keep-up in
     let d = r .before .before .before .before .before .before .before .before in
     let counted = counted-again (s d .args .side) (s d .pre .0 .checked) (s d .pre .1 .0) (s d .pre .1 .1 .1 .1 .0) (s d .args .rich .now) (s d .pre .1 .1 .0) (after (made d)) (tried (made d) true (d .if1 .taken)) (r .before .before .is-rich .result) (r .is-rich2 .result) (r .before .before .is-rich .ensures) (r .is-rich2 .ensures) in
     let tries = made d .share in
     let rows = rows-shared (s d .args .board) (s d .args .table .now) (s d .args .side) (s d .args .a) (s d .args .b) (s d .args .tally .fresh) (s d .pre .0 .checked) (after (made d)) (tried (made d) true (d .if1 .taken)) _ _ (tries .result .made) (tries .ensures .1) (kept .kept .1 .0) (kept .ensures) in
-    (goes d .0, ((c .renew .ensures .0, counted), (rows, c .renew .ensures .1)))
+    let sorts = c .before .before .still-sorted .ensures in
+    let order : c .before .before .still-sorted .result ≡ true → Passable (s d .args .board) (after (made d)) (s d .args .order .now) =
+    λ q. still-passable (s d .args .board) (s d .args .table .now) (s d .args .order .now) (s d .args .side) (s d .args .a) (s d .args .b) (s d .args .tally .fresh) (s d .pre .1 .0 .order (sorts q .0)) (s d .pre .1 .1 .1 .1 .0) (after (made d)) (tried (made d) true (d .if1 .taken)) (goes d .1) (sorts q .1) (sorts q .2) in
+    (goes d .0, ((record { fresh = c .renew .ensures; order = order }, counted), rows))
 
 returns-2 : tie.Need-returns-2
 returns-2 c =
@@ -109,7 +110,7 @@ returns-2 c =
     let s = start f in
     let stays = share-stays (s .args .board) (s .args .table .now) (s .args .order .now) (s .args .side) (s .args .a) (s .args .b) (s .args .tally .fresh) (s .args .tally .steps) (s .pre .0) (s .pre .1 .0) (after f) (tried f false (c .if1 .left)) in
     let same = sym (tried f false (c .if1 .left) .refused refl .1) in
-    (stays .0, ((stays .1, subst (λ (x : List ℤ). Counted (s .args .side) (s .args .board) x (s .args .rich .now)) same (s .pre .1 .1 .0)), (subst (λ (x : List ℤ). RowsKept (s .args .side) (s .args .board) x (f .share .last .1 .1 .1 .0) (f .share .result .made)) same (f .share .ensures .1), λ _. refl)))
+    (stays .0, ((stays .1, subst (λ (x : List ℤ). Counted (s .args .side) (s .args .board) x (s .args .rich .now)) same (s .pre .1 .1 .0)), subst (λ (x : List ℤ). RowsKept (s .args .side) (s .args .board) x (f .share .last .1 .1 .1 .1 .0) (f .share .result .made)) same (f .share .ensures .1)))
 
 returns-3 : tie.Need-returns-3
 returns-3 c =
@@ -117,7 +118,7 @@ returns-3 c =
     let low = share-apart (s .args .board) (s .args .table .now) (s .args .side) (s .args .a) (s .args .b) (s .args .tally .fresh) _ (said differenceMeaning (s .pre .1 .1 .1 .1 .1) (c .enum-told .given .1)) in
     let left = share-left (s .args .board) (s .args .table .now) (s .args .side) (s .args .a) (s .args .b) (s .args .tally .fresh) low in
     let stays = share-stays (s .args .board) (s .args .table .now) (s .args .order .now) (s .args .side) (s .args .a) (s .args .b) (s .args .tally .fresh) (s .args .tally .steps) (s .pre .0) (s .pre .1 .0) (s .args .table .now) left in
-    (stays .0, ((stays .1, s .pre .1 .1 .0), (s .pre .1 .1 .1 .0, λ _. refl)))
+    (stays .0, ((stays .1, s .pre .1 .1 .0), s .pre .1 .1 .1 .0))
 
 pub try-share-spec : {M : Type 1} → statement M
 try-share-spec =
@@ -130,9 +131,9 @@ try-share-spec =
     element-write-rich
     is-rich-requires-2
     element-write-rich-2
-    stands-before-requires
+    still-sorted-requires
     renew-requires
-    add-t40
+    add-t38
     (λ c. search needs)
     (λ c. search needs)
     returns

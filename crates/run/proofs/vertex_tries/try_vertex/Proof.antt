@@ -25,24 +25,23 @@ named b t v kind k e after fit r h q =
 
 returns : tie.Need-returns
 returns c =
-    let a = c .before .before in
+    let a = c .before in
     let k = a .before .before in
     let s = k .before .before in
-    named (s .args .board) (s .args .table .now) (s .args .v) _ _ (k .enum-told .given .1) (a .apply-shrink .last .1 .0) (a .apply-shrink .result) _ (a .apply-shrink .ensures) (c .accepted .ensures)
+    subst (λ (x : VertexStep). Tries (tableBy (s .args .board) (vertexStep x (s .args .v)) (s .args .table .now)) (s .args .table .now) (a .try-shrink .last .1 .0) (a .try-shrink .result)) (sym (k .enum-told .given .1)) (a .try-shrink .ensures)
 
 returns-2 : tie.Need-returns-2
 returns-2 c =
     let a = c .before .before in
     let k = a .before .before in
     let s = k .before .before in
-    named (s .args .board) (s .args .table .now) (s .args .v) _ _ (k .enum-told2 .given .1) (a .apply-merge-back .last .1 .0) (a .apply-merge-back .result) _ (a .apply-merge-back .ensures) (c .accepted2 .ensures)
+    named (s .args .board) (s .args .table .now) (s .args .v) _ _ (k .enum-told2 .given .1) (a .apply-merge-back .last .1 .0) (a .apply-merge-back .result) _ (a .apply-merge-back .ensures) (c .accepted .ensures)
 
 pub try-vertex-spec : {M : Type 1} → statement M
 try-vertex-spec =
     tie.close
     (tie.spec
     (λ c. search needs)
-    (λ c κs. search needs)
     (λ c κs. search needs)
     (λ c. search needs)
     (λ c κs. search needs)

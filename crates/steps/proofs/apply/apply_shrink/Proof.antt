@@ -1,6 +1,7 @@
 use borrow.Author.Needs.{needs}
 use mathlib.Core.Path.{refl}
 use Rattle.timing.specs.Table.{graphOf}
+use Rattle.timing.proofs.Checks.{sound-fits}
 use Rattle.reduction.specs.Shrink.{shrunk}
 use Rattle.reduction.specs.Steps.{shrink, plan}
 use Rattle.plans.specs.Verdict.{fitMeaning}
@@ -9,6 +10,9 @@ use Rattle.timing.proofs.Verdict.{said}
 use Rattle.steps.proofs.Ready.{shrink-ready}
 use Rattle.steps.proofs.apply.apply_shrink.Statement.{statement}
 use Rattle.steps.proofs.apply.apply_shrink.Tie as tie
+
+shrink-verdict-requires : tie.Need-shrink-verdict-requires
+shrink-verdict-requires c κs = (c .before .pre .lent, sound-fits (c .before .pre .sound))
 
 rewrite-requires : tie.Need-rewrite-requires
 rewrite-requires c κs =
@@ -41,7 +45,7 @@ pub apply-shrink-spec : {M : Type 1} → statement M
 apply-shrink-spec =
     tie.close
     (tie.spec
-    (λ c κs. search needs)
+    shrink-verdict-requires
     (λ c. search needs)
     rewrite-requires
     (λ c. search needs)
