@@ -6,7 +6,7 @@ use native.Mathlib.Nat.{mul-le-mul-left}
 use native.Mathlib.Omega.{arith}
 use lib.Dec.{T, leb, leb→le, le→leb}
 use Rattle.laws.proofs.Booleans.{and-i, and-e, is-false}
-use Rattle.laws.proofs.Grid.{area, square}
+use Rattle.laws.proofs.Grid.{area, square, row-in}
 use Rattle.timing.specs.Limits.{maxVertices, scratchCells}
 use Rattle.timing.specs.declared.Refusal.the-variants.{Sizes}
 use Rattle.timing.specs.Refusal.{refused, accepted, require}
@@ -49,6 +49,9 @@ board-area b s = area (b .vertices) maxVertices (s .few)
 
 pub vector-fits : (b : Board) → Sized b → b .vertices ≤ scratchCells (b .vertices)
 vector-fits b s = square (b .vertices) (omega (arith, s .roles, s .some-inputs))
+
+pub vectors-fit : (b : Board) → Sized b → b .vertices + b .vertices ≤ scratchCells (b .vertices)
+vectors-fit b s = omega (arith, row-in (b .vertices) 1 (omega (arith, s .roles, s .some-inputs, s .some-outputs)))
 
 -- four inputs and an output are five vertices
 pub lanes-fit : (b : Board) → Sized b → (i : ℕ) → i + 4 ≤ b .inputs → b .vertices * 4 ≤ scratchCells (b .vertices)

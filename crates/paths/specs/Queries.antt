@@ -5,11 +5,13 @@ use mathlib.Core.List.{List, _++_}
 use Prim.Native.Nat.{ℕ, _*_}
 use lib.IntN.{ℤ}
 use lib.ListN.{length, drop}
+use Rattle.laws.specs.Lists.{rows}
 use Rattle.laws.specs.Lent.{Past}
-use Rattle.timing.specs.Limits.{scratchCells}
+use Rattle.timing.specs.Limits.{absentWide, scratchCells}
 use Rattle.timing.specs.Refusal.{number, Verdict, refused, accepted, Answers}
 use Rattle.timing.specs.Checks.{sizesFit, tableFits, scratchFits}
-use Rattle.timing.specs.Delays.{matrixCells}
+use Rattle.timing.specs.Table.{writeCell}
+use Rattle.timing.specs.Delays.{matrix, matrixCells}
 use Rattle.timing.specs.Queries.{matrixInto, arrivalsInto}
 use Rattle.paths.specs.declared.board.Board.{Board}
 use Rattle.paths.specs.declared.queries.Answer.{Answer}
@@ -35,6 +37,18 @@ arrivalsOn b t given answers = arrivalsInto (b .inputs) (b .outputs) (b .vertice
 -- a destination that begins with the matrix
 abbrev pub withMatrix : Board → List ℤ → List ℤ → List ℤ
 withMatrix b t destination = matrixCells (b .inputs) (b .outputs) (b .vertices) (graphIn b t) ++ drop (b .outputs * b .inputs) destination
+
+-- a cell of the matrix
+abbrev pub entry : Board → List ℤ → ℕ → ℕ → ℤ
+entry b t i j = writeCell absentWide (matrix (b .inputs) (b .vertices) (graphIn b t) i j)
+
+-- the first i rows are there, and the rest is as in d₀
+abbrev pub RowsDone : Board → List ℤ → ℕ → List ℤ → List ℤ → Type 0
+RowsDone b t i d₀ d = d ≡ rows (b .outputs) i (entry b t) ++ drop (b .outputs * i) d₀
+
+-- where there were i rows there are k
+abbrev pub RowsMade : Board → List ℤ → ℕ → ℕ → List ℤ → List ℤ → Type 0
+RowsMade b t i k before after = (d₀ : List ℤ) → RowsDone b t i d₀ before → RowsDone b t k d₀ after
 
 -- the lent memory passes checks 1, 2 and 3
 abbrev pub lentFits : ℕ → ℕ → ℕ → List ℤ → ℕ → Bool

@@ -12,13 +12,14 @@ ghost use Prim.Native.Nat.{_+_, _*_, _≤_};
 ghost use lib.IntN.{pos};
 ghost use lib.ListN.{length, getD};
 ghost use Rattle.laws.specs.Lists.{tabulate};
-ghost use Rattle.laws.specs.Lent.{was, size};
+ghost use Rattle.laws.specs.Lent.{was, size, Past};
 ghost use Rattle.timing.specs.Limits.{arrivalLimit, absentWide, fits};
 ghost use Rattle.timing.specs.Table.{readCell};
 ghost use Rattle.timing.specs.Delays.{arrivalsFit};
 ghost use Rattle.timing.specs.Queries.{matrixCall, arrivalCall};
+ghost use Rattle.paths.specs.Chain.{Chains};
 ghost use Rattle.paths.specs.Checked.{Passable};
-ghost use Rattle.paths.specs.Queries.{ScratchAfter, Fills, matrixOn, arrivalsOn, withMatrix};
+ghost use Rattle.paths.specs.Queries.{ScratchAfter, Fills, matrixOn, arrivalsOn, withMatrix, RowsMade};
 ghost use Rattle.paths.specs.Board.{ScratchRoom, PastScratch};
 
 pub enum Answer {
@@ -35,6 +36,38 @@ fn copy_out(row: &mut [i64], f: &[i64], m: usize)
     while j < row.len() {
         row[j] = f[m + j];
         j += 1;
+    }
+}
+
+// The rows of inputs i to i + 3.
+fn fill_four(
+    board: Board,
+    table: &[i32],
+    order: &Order,
+    chain: &[u8],
+    i: usize,
+    scratch: &mut [i64],
+    destination: &mut [i64],
+)
+    requires { ⌜ Passable board (now table) (now order) ⌝ }
+    requires { ⌜ Chains (board .vertices) (now table) (now chain) ⌝ }
+    requires { ⌜ i + 4 ≤ board .inputs ⌝ }
+    requires { ⌜ board .vertices * 4 ≤ length (now scratch) ⌝ }
+    requires { ⌜ board .outputs * board .inputs ≤ length (now destination) ⌝ }
+    ensures { λ _. ⌜ RowsMade board (was table) i (i + 4) (was destination) (now (destination .exit)) ⌝ }
+    ensures { λ _. ⌜ Past (board .vertices * 4) (was scratch) (now (scratch .exit)) ⌝ }
+{
+    arrivals::delays_from_four(board, table, order, chain, i, scratch);
+    let n = board.outputs;
+    let v = board.vertices;
+    let mut l = 0;
+    while l < 4 {
+        let from = v * l;
+        let to = from + v;
+        let at = n * (i + l);
+        let end = at + n;
+        copy_out(&mut destination[at..end], &scratch[from..to], board.inputs);
+        l += 1;
     }
 }
 
@@ -56,19 +89,9 @@ pub fn fill_matrix(
     chain::chains(board, table, order, &mut chain);
     let m = board.inputs;
     let n = board.outputs;
-    let v = board.vertices;
     let mut i = 0;
     while i + 4 <= m {
-        arrivals::delays_from_four(board, table, order, &chain, i, scratch);
-        let mut l = 0;
-        while l < 4 {
-            let from = v * l;
-            let to = from + v;
-            let at = n * (i + l);
-            let end = at + n;
-            copy_out(&mut destination[at..end], &scratch[from..to], m);
-            l += 1;
-        }
+        fill_four(board, table, order, &chain, i, scratch, destination);
         i += 4;
     }
     while i < m {

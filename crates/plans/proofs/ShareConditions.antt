@@ -6,12 +6,10 @@ use native.Mathlib.Omega.{arith}
 use lib.Dec.{eqb, leb, ltb, leb→le, ltb→lt}
 use lib.IntN.{ℤ}
 use Rattle.laws.proofs.Booleans.{and-e, true-is, eqb-other, neqb→ne}
-use Rattle.laws.proofs.Grid.{row-in}
 use Rattle.graph.specs.Graph.{Graph}
 use Rattle.graph.specs.Count.{fanIn, fanOut}
 use Rattle.timing.specs.declared.Refusal.{Refusal}
 use Rattle.timing.specs.declared.Refusal.the-variants.{WrongVertex, NumberTaken}
-use Rattle.timing.specs.Limits.{scratchCells}
 use Rattle.timing.specs.Refusal.{Verdict, refused, require, _then_}
 use Rattle.timing.specs.Delays.{matrix, column}
 use Rattle.reduction.specs.Outcome.{isInput, isOutput, isInner, unused}
@@ -24,10 +22,6 @@ use Rattle.plans.specs.declared.verdict.Difference.{Difference}
 use Rattle.plans.specs.declared.verdict.Difference.the-variants as D
 use Rattle.plans.specs.Verdict.{differenceMeaning}
 use Rattle.plans.specs.Sharing.{TwoOutputs}
-
--- the scratch has room for two vectors
-pub vectors-fit : (b : Board) → Sized b → b .vertices + b .vertices ≤ scratchCells (b .vertices)
-vectors-fit b s = omega (arith, row-in (b .vertices) 1 (omega (arith, s .roles, s .some-inputs, s .some-outputs)))
 
 pub two-outputs : (board : Board) → Sized board → (a b : ℕ) → (isOutput (board .inputs) (board .outputs) a && isOutput (board .inputs) (board .outputs) b && not (eqb a b)) ≡ true → TwoOutputs board a b
 two-outputs board s a b e =

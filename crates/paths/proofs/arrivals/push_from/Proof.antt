@@ -1,5 +1,4 @@
 use mathlib.Core.Path.{sym, subst}
-use mathlib.Core.List.{List}
 use native.Mathlib.Omega.{arith}
 use lib.IntN.{ℤ}
 use mir.Syntax.{w64}

@@ -1,11 +1,11 @@
 use Rattle.paths.proofs.arrivals.start_four.Statement.{statement}
 use Rattle.paths.proofs.arrivals.start_four.Tie as tie
-use mathlib.Core.Path.{_≡_, sym, ap, _∙_, subst}
+use mathlib.Core.Path.{_≡_, ap, _∙_, subst}
 use mathlib.Core.List.{List}
-use Prim.Native.Nat.{ℕ, _+_, _-_, _*_, _≤_, _<_}
+use Prim.Native.Nat.{ℕ, _+_, _-_, _*_, _≤_}
 use native.Mathlib.Omega.{arith}
 use lib.IntN.{ℤ}
-use lib.ListN.{length, drop}
+use lib.ListN.{length}
 use Rattle.paths.specs.Arrivals.{stored, onlyAt, lane}
 use Rattle.paths.proofs.Lanes.{Lanes, lane-room, lane-length, lanes-start, lanes-part, lanes-turn, lanes-past}
 

@@ -14,8 +14,9 @@ use Rattle.timing.specs.Table.{graphOf}
 use Rattle.reduction.specs.Outcome.{isInput, isInner, unused}
 use Rattle.paths.specs.declared.board.Board.{Board}
 use Rattle.reduction.specs.ShareInputs.{inputsSaved}
+use Rattle.paths.proofs.Sizes.{vectors-fit}
 use Rattle.paths.proofs.Answering.{drop-further}
-use Rattle.plans.proofs.ShareConditions.{vectors-fit, two-inputs, inputs-wrong, number-taken, inputs-common, inputs-refused}
+use Rattle.plans.proofs.ShareConditions.{two-inputs, inputs-wrong, number-taken, inputs-common, inputs-refused}
 use Rattle.plans.proofs.share_inputs.share_inputs_verdict.Statement.{statement}
 use Rattle.plans.proofs.share_inputs.share_inputs_verdict.Tie as tie
 

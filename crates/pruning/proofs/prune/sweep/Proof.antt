@@ -1,6 +1,6 @@
 use Rattle.pruning.proofs.prune.sweep.Statement.{statement}
 use Rattle.pruning.proofs.prune.sweep.Tie as tie
-use mathlib.Core.Path.{_≡_, sym, _∙_, subst}
+use mathlib.Core.Path.{_≡_, sym, subst}
 use mathlib.Core.Bool.{Bool}
 use mathlib.Core.List.{List}
 use Prim.Native.Nat.{ℕ, _≤_, _<_, _+_, _-_, _*_}
