@@ -24,7 +24,7 @@ process() {
 
 echo "| call | stack, bytes | at most |"
 echo "|---|---:|---:|"
-row matrix "$("$work/stack" matrix)" 12288
+for call in matrix margins; do row "$call" "$("$work/stack" "$call")" 12288; done
 row prune "$("$work/stack" prune)" 20480
 row run "$("$work/stack" run)" 36864
 row board_matrix "$("$work/stack" board_matrix)" 126976

@@ -51,6 +51,11 @@ fn lent(name: &str) -> Result<Lent, String> {
         sizes,
         scratch: vec![0; table.len()],
         matrix: vec![0; board.inputs * board.outputs],
+        at_inputs: (0..board.inputs).map(|i| 100 * i as i64).collect(),
+        at_outputs: (0..board.outputs).map(|j| 10_000 - 100 * j as i64).collect(),
+        arrival: vec![0; board.vertices],
+        required: vec![0; board.vertices],
+        margin: vec![0; board.vertices],
         table,
         file,
     })
@@ -90,14 +95,15 @@ fn is_measured(board: &str, call: &str) -> bool {
     (board == boards::FULLEST) == (call == "read")
 }
 
-/// Both sides answer the same and leave the same table and matrix.
+/// Both sides answer the same and leave the same in the table and in the lists of answers.
 fn same(first: &Lent, ours: Side, rust: Side) -> Result<(), String> {
     let (mut one, mut other) = (first.clone(), first.clone());
     let (answer, expected) = (ours(&mut one), rust(&mut other));
     if answer != expected {
         return Err(format!("ours answers {answer}, Rust {expected}"));
     }
-    if one.table != other.table || one.matrix != other.matrix {
+    let left = |lent: Lent| (lent.table, lent.matrix, lent.arrival, lent.required, lent.margin);
+    if left(one) != left(other) {
         return Err("the two leave different cells".into());
     }
     Ok(())

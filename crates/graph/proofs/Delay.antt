@@ -135,6 +135,11 @@ pub ⋓-absent : (x : Delay) → x ⋓ absent ≡ x
 ⋓-absent absent = refl
 ⋓-absent (at x) = refl
 
+pub ⋓-assoc : (x y z : Delay) → (x ⋓ y) ⋓ z ≡ x ⋓ (y ⋓ z)
+⋓-assoc x y z = ⊑-antisym
+    (⋓-lub (⋓-lub (⋓-l x (y ⋓ z)) (⊑-trans (⋓-l y z) (⋓-r x (y ⋓ z)))) (⊑-trans (⋓-r y z) (⋓-r x (y ⋓ z))))
+    (⋓-lub (⊑-trans (⋓-l x y) (⋓-l (x ⋓ y) z)) (⋓-lub (⊑-trans (⋓-r x y) (⋓-l (x ⋓ y) z)) (⋓-r (x ⋓ y) z)))
+
 pub ⋓-idem : (x : Delay) → x ⋓ x ≡ x
 ⋓-idem x = ⋓-elim (λ (t : Delay). t ≡ x) x x refl refl
 

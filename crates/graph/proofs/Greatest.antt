@@ -1,9 +1,10 @@
 -- `greatest` is the least upper bound of its terms, and one of them.
-use mathlib.Core.Path.{_≡_, refl, ap₂, _∙_}
+use mathlib.Core.Path.{_≡_, refl, ap₂, _∙_, subst}
 use mathlib.Core.Logic.{_⊎_, inl, inr}
-use Prim.Native.Nat.{ℕ, zero, suc, _≤_, _<_}
+use Prim.Native.Nat.{ℕ, zero, suc, _+_, _-_, _≤_, _<_}
 use native.Mathlib.Nat.{not-suc-le-zero}
 use native.Mathlib.Decide.{ℕ-discrete, decLt}
+use native.Mathlib.Numerals.{add-one}
 use native.Mathlib.Omega.{arith}
 use Rattle.graph.specs.Delay.{Delay, absent, _⋓_, _⊑_, greatest}
 use Rattle.graph.proofs.Delay.{absent-⊑, ⊑-trans, ⊑-antisym, ⊑-eq, ⋓-sel, ⋓-l, ⋓-r, ⋓-lub}
@@ -21,6 +22,15 @@ pub greatest-lub : (n : ℕ) (f : ℕ → Delay) (y : Delay) → ((i : ℕ) → 
 unfolding greatest
 greatest-lub zero f y h = absent-⊑ y
 greatest-lub (suc n) f y h = ⋓-lub (greatest-lub n f y (λ i l. h i (omega arith))) (h n (omega arith))
+
+-- for loops that count up
+pub greatest-none : (f : ℕ → Delay) → greatest 0 f ≡ absent
+unfolding greatest
+greatest-none f = refl
+
+pub greatest-more : (n : ℕ) (f : ℕ → Delay) → greatest (n + 1) f ≡ greatest n f ⋓ f n
+unfolding greatest
+greatest-more n f = rw (add-one n) refl
 
 pub greatest-hit : (n : ℕ) (f : ℕ → Delay) → (greatest n f ≡ absent) ⊎ ((i : ℕ) × (i < n) × (greatest n f ≡ f i))
 unfolding greatest
@@ -45,3 +55,15 @@ greatest-pad m n f l h = ⊑-antisym (greatest-lub n f (greatest m f) (λ i k. g
     go : (i : ℕ) → i < n → Dec (i < m) → f i ⊑ greatest m f
     go i k (yes p) = greatest-ge m f i p
     go i k (no p) = ⊑-trans (⊑-eq (h i (omega arith) k)) (absent-⊑ (greatest m f))
+
+-- only the terms from m to m + n - 1 count
+pub greatest-window : (m n N : ℕ) (f : ℕ → Delay) → m + n ≤ N → ((i : ℕ) → i < m → f i ≡ absent) → ((i : ℕ) → m + n ≤ i → i < N → f i ≡ absent) → greatest N f ≡ greatest n (λ j. f (m + j))
+greatest-window m n N f l low high =
+    ⊑-antisym (greatest-lub N f (greatest n (λ j. f (m + j))) (λ i k. go i k (decLt i m) (decLt i (m + n)))) (greatest-lub n (λ j. f (m + j)) (greatest N f) (λ j k. greatest-ge N f (m + j) (omega arith)))
+  where
+    go : (i : ℕ) → i < N → Dec (i < m) → Dec (i < m + n) → f i ⊑ greatest n (λ j. f (m + j))
+    go i k (yes p) _ = ⊑-trans (⊑-eq (low i p)) (absent-⊑ (greatest n (λ j. f (m + j))))
+    go i k (no p) (yes q) =
+        let e : m + (i - m) ≡ i = omega arith in
+        subst (λ (x : ℕ). f x ⊑ greatest n (λ j. f (m + j))) e (greatest-ge n (λ j. f (m + j)) (i - m) (omega arith))
+    go i k (no p) (no q) = ⊑-trans (⊑-eq (high i (omega arith) k)) (absent-⊑ (greatest n (λ j. f (m + j))))

@@ -8,6 +8,9 @@ pub mod Arrivals
 pub mod Cycle
 pub mod Count
 pub mod Span
+pub mod PathSpan
 pub mod Propagation
+pub mod Mirror
+pub mod Reversed
 pub mod FewerArcs
 pub mod MostArcs

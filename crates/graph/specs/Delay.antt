@@ -2,7 +2,7 @@
 use mathlib.Core.Bool.{Bool, true, false}
 use mathlib.Core.List.{List, [], _∷_}
 use Prim.Native.Nat.{ℕ, zero, suc}
-use lib.IntN.{ℤ, pos, _+ℤ_, _-ℤ_}
+use lib.IntN.{ℤ, pos, negℤ, _+ℤ_, _-ℤ_}
 use lib.Signed.{_≤ℤ_}
 use Rattle.laws.specs.Integers.{eqZ, maxZ, minZ}
 
@@ -23,7 +23,7 @@ ticks (at a) = a
 abbrev pub immediate : Delay
 immediate = at (pos 0)
 
-infixl 60 _⋓_ _⋒_
+infixl 60 _⋓_ _⋒_ _⋏_
 infixl 70 _⊕_ _⊖_
 -- the greater of two; absent is below every number
 abbrev pub _⋓_ : Delay → Delay → Delay
@@ -49,6 +49,17 @@ absent ⋒ y = absent
 at a ⋒ absent = absent
 at a ⋒ at b = at (minZ a b)
 
+-- the lesser of two; absent is above every number
+abbrev pub _⋏_ : Delay → Delay → Delay
+absent ⋏ y = y
+at a ⋏ absent = at a
+at a ⋏ at b = at (minZ a b)
+
+-- the mirror image: the number negated
+abbrev pub mirror : Delay → Delay
+mirror absent = absent
+mirror (at a) = at (negℤ a)
+
 -- equal, as a test
 abbrev pub eqD : Delay → Delay → Bool
 eqD absent absent = true
@@ -70,6 +81,11 @@ pub record _⊑_ (x y : Delay) : Type 0 where
 unfoldable pub greatest : ℕ → (ℕ → Delay) → Delay
 greatest zero f = absent
 greatest (suc n) f = greatest n f ⋓ f n
+
+-- the smallest of f 0, …, f (n - 1) that are present; absent where none is
+unfoldable pub smallest : ℕ → (ℕ → Delay) → Delay
+smallest zero f = absent
+smallest (suc n) f = smallest n f ⋏ f n
 
 -- the least of f over the members of a list
 unfoldable pub least : List ℕ → (ℕ → Delay) → Delay

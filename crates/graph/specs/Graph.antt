@@ -9,6 +9,10 @@ use Rattle.graph.specs.Delay.{Delay, absent, immediate, _⋓_, _⊕_, _�
 abbrev pub Graph : Type 0
 Graph = ℕ → ℕ → Delay
 
+-- every arc turned round
+abbrev pub reversed : Graph → Graph
+reversed g u v = g v u
+
 -- A path from u to v is one or more arcs end to end, given by the vertices between; its delay is the sum, absent where an arc is missing.
 abbrev pub pathDelay : Graph → ℕ → List ℕ → ℕ → Delay
 pathDelay g u [] v = g u v

@@ -1,6 +1,7 @@
 // The calls that the benchmark (bench/) measures, as exports over cells. Each answers 0, or the refusal's number.
 use files::answer::Read;
 use files::read;
+use paths::margins;
 use paths::queries;
 use paths::queries::Answer;
 use run::answer::Ran;
@@ -14,7 +15,8 @@ ghost use Rattle.reduction.specs.Steps.{prune, stepCall};
 ghost use Rattle.reduction.specs.Run.{runCall};
 ghost use Rattle.format.specs.Reading.{readCall, tableRead};
 ghost use Rattle.paths.specs.Queries.{ScratchAfter};
-ghost use Rattle.meter.specs.Answers.{Measures, readNumber};
+ghost use Rattle.paths.specs.Margins.{are, were, marginsLent};
+ghost use Rattle.meter.specs.Answers.{Measures, Meters, readNumber};
 
 #[no_mangle]
 pub extern "C" fn meter_matrix(
@@ -29,6 +31,39 @@ pub extern "C" fn meter_matrix(
     ensures { λ _. ⌜ ScratchAfter inputs outputs vertices (was table) (was scratch) (now (scratch .exit)) ⌝ }
 {
     let answer = queries::delay_matrix(inputs, outputs, vertices, table, scratch, matrix);
+    match answer {
+        Answer::Done => 0,
+        Answer::Refused(r) => numbers::number(r),
+    }
+}
+
+#[no_mangle]
+pub extern "C" fn meter_margins(
+    inputs: usize,
+    outputs: usize,
+    vertices: usize,
+    table: &[i32],
+    scratch: &[i64],
+    given: &[i64],
+    due: &[i64],
+    arrival: &mut [i64],
+    required: &mut [i64],
+    margin: &mut [i64],
+) -> usize
+    ensures { λ r. ⌜ Meters (marginsLent inputs outputs vertices table scratch given due) (were arrival required margin) (are (arrival .exit) (required .exit) (margin .exit)) r ⌝ }
+{
+    let answer = margins::margins(
+        inputs,
+        outputs,
+        vertices,
+        table,
+        scratch,
+        given,
+        due,
+        arrival,
+        required,
+        margin,
+    );
     match answer {
         Answer::Done => 0,
         Answer::Refused(r) => numbers::number(r),

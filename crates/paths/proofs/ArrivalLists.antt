@@ -28,14 +28,14 @@ use Rattle.paths.specs.Arrivals.{insideLimit, filled, Given}
 use Rattle.paths.specs.Queries.{Fills}
 use Rattle.paths.proofs.Starting.{stored-cell}
 
-pub given-of : (b : Board) (a : List ℤ) → arrivalsFit (b .inputs) a ≡ true → Given b a
+pub given-of : (k : ℕ) (a : List ℤ) → arrivalsFit k a ≡ true → Given k a
 unfolding arrivalsFit
-given-of b a e =
-    let p = and-e (eqb (length a) (b .inputs)) (every (b .inputs) (λ i. fits arrivalLimit (arrivalIn a i))) (true-is e) in
+given-of k a e =
+    let p = and-e (eqb (length a) k) (every k (λ i. fits arrivalLimit (arrivalIn a i))) (true-is e) in
     record {
-      long = eqb→eq (length a) (b .inputs) (p .0);
+      long = eqb→eq (length a) k (p .0);
       near = λ i l. span-fits insideLimit (arrivalIn a i) (span-le arrivalLimit insideLimit (arrivalIn a i) (omega arith)
-          (fits-span arrivalLimit (arrivalIn a i) (every-at (b .inputs) (λ i. fits arrivalLimit (arrivalIn a i)) (p .1) i l)));
+          (fits-span arrivalLimit (arrivalIn a i) (every-at k (λ i. fits arrivalLimit (arrivalIn a i)) (p .1) i l)));
     }
 
 module _ (m n N : ℕ) (a before : List ℤ) (g : Graph) where

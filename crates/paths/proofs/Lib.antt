@@ -12,10 +12,13 @@ pub mod Before
 pub mod Pushing
 pub mod Later
 pub mod Propagating
+pub mod Pulling
+pub mod MarginCells
 pub mod Starting
 pub mod Checking
 pub mod MatrixRows
 pub mod Answering
 pub mod ArrivalLists
+pub mod MarginTimes
 pub mod PathDelays
 pub mod WalkBounds

@@ -1,45 +1,31 @@
 -- The greatest delays from a vertex as `delays_from` leaves them: how large they are, and what is read in the cells.
-use mathlib.Core.Path.{_≡_, refl, sym, ap, _∙_, subst}
+use mathlib.Core.Path.{_≡_, sym, ap, _∙_, subst}
 use mathlib.Core.Logic.{_≢_}
-use mathlib.Core.Bool.{Bool, true, false, cond}
 use mathlib.Core.List.{List}
-use Prim.Native.Nat.{ℕ, _+_, _*_, _≤_, _<_}
+use Prim.Native.Nat.{ℕ, _*_, _≤_, _<_}
 use native.Mathlib.Omega.{arith}
-use lib.Dec.{T, eqb}
+use lib.Dec.{T}
 use lib.IntN.{ℤ}
 use lib.ListN.{length, drop}
-use Rattle.laws.proofs.Booleans.{eqb-same, eqb-other}
-use Rattle.laws.proofs.Linear.{zarith}
-use Rattle.graph.specs.Delay.{Delay, absent, at, immediate}
+use Rattle.graph.specs.Delay.{Delay}
 use Rattle.graph.specs.Graph.{Graph, longest, walk}
 use Rattle.graph.proofs.Span.{InSpan, span-le}
-use Rattle.graph.proofs.Longest.{longest-is}
-use Rattle.graph.proofs.Closure.{walk-other}
-use Rattle.graph.proofs.Propagation.{propagated-one}
+use Rattle.graph.proofs.PathSpan.{longest-span}
+use Rattle.graph.proofs.Closure.{walk-other, walk-elim}
 use Rattle.timing.specs.Limits.{delayLimit, arrivalLimit, absentWide, fits}
 use Rattle.timing.specs.Table.{readCell, writeCell, graphOf}
 use Rattle.timing.specs.Delays.{arrivalIn}
 use Rattle.timing.proofs.Checks.{sound-within, sound-fits}
-use Rattle.timing.proofs.Limits.{fits-bounds, fits-span, span-fits}
-use Rattle.timing.proofs.Table.{graphOf-within, read-absent, read-at}
+use Rattle.timing.proofs.Limits.{fits-span, span-fits}
+use Rattle.timing.proofs.Table.{read-held}
 use Rattle.paths.specs.declared.board.Board.{Board}
 use Rattle.paths.specs.Arrivals.{filled}
 use Rattle.paths.specs.Checked.{Passable}
-use Rattle.paths.proofs.Pushing.{pushed, pushed-span, pushed-all}
 use Rattle.paths.proofs.Starting.{stored-length, stored-cell, stored-drop}
 
 -- a delay within the limits is read back
 read-near : (d : Delay) → T (fits arrivalLimit d) → readCell absentWide (writeCell absentWide d) ≡ d
-read-near absent t = read-absent absentWide absentWide refl
-read-near (at z) t = read-at absentWide z (λ e. let b = fits-bounds arrivalLimit z t in let lo = b .0 in omega zarith)
-
--- a signal at i alone
-abbrev alone : ℕ → ℕ → Delay
-alone i v = cond (eqb v i) immediate absent
-
-alone-span : (b : Bool) → InSpan 0 (cond b immediate absent)
-alone-span true = (omega arith, omega arith)
-alone-span false = tt
+read-near d t = read-held arrivalLimit (omega arith) d (fits-span arrivalLimit d t)
 
 module _ {b : Board} {t : List ℤ} {o : List ℕ} (p : Passable b t o) (i : ℕ) (hi : i < b .vertices) where
   abbrev n : ℕ
@@ -50,12 +36,9 @@ module _ {b : Board} {t : List ℤ} {o : List ℕ} (p : Passable b t o) (i : ℕ
 
   -- at most 90 arcs of at most 1,000,000,000
   pub walk-near : (v : ℕ) → v < b .vertices → T (fits arrivalLimit (walk (longest (graphOf (b .vertices) t) (b .vertices)) i v))
-  walk-near v hv =
-      subst (λ (d : Delay). T (fits arrivalLimit d))
-      (pushed-all (graphOf-within n t) (p .order) (alone i) v
-      ∙ propagated-one n (p .checked .sound .acyclic) (longest-is n g (sound-within (p .checked .sound)) (p .checked .sound .acyclic)) (alone i) i hi (rw (eqb-same i)) (λ u _ ne. rw (eqb-other u i ne)) v hv)
-      (span-fits arrivalLimit (pushed g o (alone i) n v) (span-le (0 + n * delayLimit) arrivalLimit (pushed g o (alone i) n v) (omega (arith, p .checked .lent .sized .few))
-      (pushed-span (graphOf-within n t) (p .order) (alone i) 0 delayLimit (λ v _. alone-span (eqb v i)) (λ u v. fits-span delayLimit (g u v) (sound-fits (p .checked .sound) u v)) n v (omega arith) hv)))
+  walk-near v hv = span-fits arrivalLimit (walk (longest g n) i v) (walk-elim (longest g n) i v (InSpan arrivalLimit) (λ _. (omega arith, omega arith))
+      (λ _. span-le (n * delayLimit) arrivalLimit (longest g n i v) (omega (arith, p .checked .lent .sized .few))
+      (longest-span n (sound-within (p .checked .sound)) (p .checked .sound .acyclic) delayLimit (λ u v. fits-span delayLimit (g u v) (sound-fits (p .checked .sound) u v)) i v)))
 
   -- f is what `delays_from` leaves of f₀
   module _ (f₀ f : List ℤ) (room : b .vertices ≤ length f₀) (e : f ≡ filled (b .vertices) (walk (longest (graphOf (b .vertices) t) (b .vertices)) i) f₀) where

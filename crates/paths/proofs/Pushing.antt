@@ -1,4 +1,4 @@
--- The pass that `propagate` makes, as mathematics: what stands at v when the first p vertices of the order have pushed. At the end it is `propagated`.
+-- The pass that `propagate` makes, as mathematics: what stands at v when the first p vertices of the order have pushed. At the end it has settled.
 use mathlib.Core.Path.{_≡_, sym, ap, _∙_, subst}
 use mathlib.Core.Logic.{_⊎_, inl, inr}
 use mathlib.Core.List.{List}
@@ -9,14 +9,13 @@ use native.Mathlib.Omega.{arith}
 use lib.Dec.{T}
 use lib.ListN.{getD}
 use Rattle.graph.specs.Delay.{Delay, absent, present, _⋓_, _⊕_, _⊑_}
-use Rattle.graph.specs.Graph.{Graph, propagated}
+use Rattle.graph.specs.Graph.{Graph}
 use Rattle.graph.proofs.Delay.{absent-⊑, ⊑-refl, ⊑-trans, ⊕-absent, ⊕-right, ⋓-elim, ⋓-l, ⋓-r, ⋓-absent}
 use Rattle.graph.proofs.Presence.{absent-or}
 use Rattle.graph.proofs.Longest.{Within}
 use Rattle.graph.proofs.Span.{InSpan, span-⊕, span-le}
-use Rattle.graph.proofs.Propagation.{Settled, settled-is}
+use Rattle.graph.proofs.Propagation.{Settled}
 use Rattle.paths.specs.Order.{TopologicalOrder}
-use Rattle.paths.proofs.Sorting.{order-ranked}
 
 unfoldable pub pushed : Graph → List ℕ → (ℕ → Delay) → ℕ → ℕ → Delay
 pushed g o F zero v = F v
@@ -88,6 +87,3 @@ module _ {n : ℕ} {g : Graph} {o : List ℕ} (w : Within n g) (s : TopologicalO
       go : (u v : ℕ) → Pushing (pushed g o F n) n → (g u v ≡ absent) ⊎ T (present (g u v)) → pushed g o F n u ⊕ g u v ⊑ pushed g o F n v
       go u v P (inl e) = rw (e, ⊕-absent (pushed g o F n u)) (absent-⊑ _)
       go u v P (inr t) = P .flow u v (s .place u (w .in-range u v t .0) .0)
-
-  pub pushed-all : (v : ℕ) → pushed g o F n v ≡ propagated n g F v
-  pushed-all v = settled-is w (order-ranked s) pushed-settled v

@@ -7,7 +7,7 @@ use Prim.Native.Nat.{ℕ, _≤_, _<_}
 use native.Mathlib.Omega.{arith}
 use native.Mathlib.Decide.{ℕ-discrete, decLt}
 use borrow.Author.Tests.{lt-ltb, le-ltb}
-use lib.Dec.{T, ltb}
+use lib.Dec.{T}
 use lib.IntN.{ℤ, pos}
 use lib.ListN.{length, getD, drop, length-append, length-drop, List·getD-append}
 use lib.Seq.{drop-at}
@@ -15,19 +15,17 @@ use Rattle.laws.specs.Lists.{tabulate}
 use Rattle.laws.proofs.Linear.{zarith}
 use Rattle.laws.proofs.Booleans.{eqb-same, eqb-other}
 use Rattle.laws.proofs.Lists.{length-tabulate, getD-tabulate, tabulate-same}
-use Rattle.graph.specs.Delay.{Delay, absent, immediate, _⋓_, _⊕_, greatest}
+use Rattle.graph.specs.Delay.{Delay, absent, immediate}
 use Rattle.graph.specs.Graph.{Graph, Longest, longest, walk, propagated}
-use Rattle.graph.proofs.Delay.{⋓-absent, ⊑-absent, none-r}
-use Rattle.graph.proofs.Greatest.{greatest-ext, greatest-pad, greatest-lub}
 use Rattle.graph.proofs.Longest.{longest-is}
-use Rattle.graph.proofs.Closure.{undriven}
 use Rattle.graph.proofs.Propagation.{propagated-one}
 use Rattle.timing.specs.Limits.{absentWide, fits}
 use Rattle.timing.specs.Table.{readCell, writeCell, graphOf}
 use Rattle.timing.specs.Delays.{arrivalIn, arrivalAt}
-use Rattle.timing.proofs.Checks.{sound-within, sound-inputs}
+use Rattle.timing.proofs.Checks.{sound-within}
 use Rattle.timing.proofs.Limits.{fits-absent}
 use Rattle.timing.proofs.Table.{read-absent, read-at}
+use Rattle.timing.proofs.Recursion.{arrival-propagated}
 use Rattle.paths.specs.declared.board.Board.{Board}
 use Rattle.paths.specs.Arrivals.{insideLimit, stored, filled, onlyAt, fromList, Started, Given}
 use Rattle.paths.specs.Checked.{Passable}
@@ -87,7 +85,7 @@ module _ {b : Board} {t : List ℤ} {o : List ℕ} (p : Passable b t o) where
 
   -- ---- at the inputs
 
-  module _ (a : List ℤ) (given : Given b a) (f : List ℤ) (room : b .vertices ≤ length f) where
+  module _ (a : List ℤ) (given : Given (b .inputs) a) (f : List ℤ) (room : b .vertices ≤ length f) where
     F : ℕ → Delay
     F = arrivalIn (stored n (fromList a) f)
 
@@ -115,23 +113,7 @@ module _ {b : Board} {t : List ℤ} {o : List ℕ} (p : Passable b t o) where
         go v h (yes q) = subst (λ (d : Delay). T (fits insideLimit d)) (sym (at-input v q)) (given .near v q)
         go v h (no q) = fits-absent insideLimit (at-other v (omega arith) h)
 
-    arrival : (v : ℕ) → v < n → propagated n g F v ≡ arrivalAt m n g (arrivalIn a) v
-    unfolding propagated arrivalAt
-    arrival v hv = go (decLt v m)
-      where
-        go : Dec (v < m) → F v ⋓ greatest n (λ u. F u ⊕ longest g n u v) ≡ cond (ltb v m) (arrivalIn a v) (greatest m (λ i. arrivalIn a i ⊕ longest g n i v))
-        go (yes q) =
-            ap₂ _⋓_ (at-input v q) none ∙ ⋓-absent (arrivalIn a v) ∙ sym (ap (λ (c : Bool). cond c (arrivalIn a v) (greatest m (λ i. arrivalIn a i ⊕ longest g n i v))) (lt-ltb v m q))
-          where
-            none : greatest n (λ u. F u ⊕ longest g n u v) ≡ absent
-            none = ⊑-absent (greatest-lub n (λ u. F u ⊕ longest g n u v) absent (λ u _. none-r (F u) (undriven l v (λ u. sound-inputs (p .checked .sound) u v q) u)))
-        go (no q) =
-            ap (λ (d : Delay). d ⋓ greatest n (λ u. F u ⊕ longest g n u v)) (at-other v (omega arith) hv)
-            ∙ greatest-pad m n (λ u. F u ⊕ longest g n u v) m≤n (λ u lo hi. ap (λ (d : Delay). d ⊕ longest g n u v) (at-other u lo hi))
-            ∙ greatest-ext m (λ u. F u ⊕ longest g n u v) (λ i. arrivalIn a i ⊕ longest g n i v) (λ i hi. ap (λ (d : Delay). d ⊕ longest g n i v) (at-input i hi))
-            ∙ sym (ap (λ (c : Bool). cond c (arrivalIn a v) (greatest m (λ i. arrivalIn a i ⊕ longest g n i v))) (le-ltb v m (omega arith)))
-
     pub inputs-propagated : filled (b .vertices) (propagated (b .vertices) (graphOf (b .vertices) t) (arrivalIn (stored (b .vertices) (fromList a) f))) (stored (b .vertices) (fromList a) f)
         ≡ filled (b .vertices) (arrivalAt (b .inputs) (b .vertices) (graphOf (b .vertices) t) (arrivalIn a)) f
     unfolding F
-    inputs-propagated = filled-over n (propagated n g (arrivalIn (stored n (fromList a) f))) (arrivalAt m n g (arrivalIn a)) (fromList a) f arrival
+    inputs-propagated = filled-over n (propagated n g (arrivalIn (stored n (fromList a) f))) (arrivalAt m n g (arrivalIn a)) (fromList a) f (arrival-propagated (p .checked .sound) (arrivalIn a) (arrivalIn (stored n (fromList a) f)) at-input at-other)

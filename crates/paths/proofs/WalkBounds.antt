@@ -1,18 +1,17 @@
 -- The walks from a vertex are far from the ends of their 64 bits, so that each is read as it was written.
-use mathlib.Core.Path.{_≡_, refl}
+use mathlib.Core.Path.{_≡_}
 use mathlib.Core.List.{List}
 use Prim.Native.Nat.{ℕ, _<_}
 use native.Mathlib.Omega.{arith}
 use lib.Dec.{T}
 use lib.IntN.{ℤ}
-use Rattle.laws.proofs.Linear.{zarith}
-use Rattle.graph.specs.Delay.{Delay, absent, at}
+use Rattle.graph.specs.Delay.{Delay}
 use Rattle.graph.specs.Graph.{longest, walk}
 use Rattle.graph.proofs.Span.{span-le}
 use Rattle.timing.specs.Limits.{arrivalLimit, absentWide, fits}
 use Rattle.timing.specs.Table.{readCell, writeCell, graphOf}
 use Rattle.timing.proofs.Limits.{fits-span, span-fits}
-use Rattle.timing.proofs.Table.{read-absent, read-at}
+use Rattle.timing.proofs.Table.{read-held}
 use Rattle.paths.specs.declared.board.Board.{Board}
 use Rattle.paths.specs.Arrivals.{reachedLimit}
 use Rattle.paths.specs.Checked.{Passable}
@@ -24,5 +23,4 @@ walk-far {b} {t} p i hi v h =
     span-fits reachedLimit w (span-le arrivalLimit reachedLimit w (omega arith) (fits-span arrivalLimit w (walk-near p i hi v h)))
 
 pub read-far : (d : Delay) → T (fits reachedLimit d) → readCell absentWide (writeCell absentWide d) ≡ d
-read-far absent t = read-absent absentWide absentWide refl
-read-far (at z) t = read-at absentWide z (λ e. omega (zarith, fits-span reachedLimit (at z) t))
+read-far d t = read-held reachedLimit (omega arith) d (fits-span reachedLimit d t)

@@ -2,11 +2,13 @@
 use mathlib.Core.Path.{_≡_, refl, sym, ap, ap₂, _∙_, subst}
 use mathlib.Core.Logic.{_≢_, _⊎_, inl, inr}
 use mathlib.Core.Bool.{Bool, true, false, cond}
+use mathlib.Core.List.{List}
 use Prim.Native.Nat.{ℕ, zero, suc, _+_, _-_, _≤_, _<_}
 use native.Mathlib.Decide.{ℕ-discrete}
 use native.Mathlib.Omega.{arith}
 use lib.Dec.{T, eqb}
-use lib.IntN.{ℤ, _+ℤ_, ℤ-discrete}
+use lib.IntN.{ℤ, pos, _+ℤ_, ℤ-discrete}
+use lib.ListN.{getD}
 use lib.Signed.{ltZ}
 use mir.Syntax.{w32, w64}
 use mir.Val.{SFits}
@@ -24,6 +26,7 @@ use Rattle.timing.specs.Table.{readCell}
 use Rattle.timing.proofs.Limits.{fits-span}
 use Rattle.timing.proofs.Table.{read-absent, read-at}
 use Rattle.paths.proofs.ReadCells.{arc-cell}
+use Rattle.paths.specs.Cells.{cellAt}
 use Rattle.paths.specs.Chain.{Chain, walked, Beaten, Chained, below, unbeaten}
 
 -- a chain is known by its cells
@@ -58,6 +61,10 @@ walked-is c row v t = go (walked-or c row v)
     go : (walked c row v ≡ row v) ⊎ (walked c row v ≡ absent) → walked c row v ≡ row v
     go (inl e) = e
     go (inr e) = absurd (not-present (walked c row v) e t)
+
+-- a cell that a chain walks has an arc
+pub walked-there : (c : ℕ → ℕ) (row : List ℤ) (v : ℕ) → T (present (walked c (cellAt row) v)) → getD row v (pos 0) ≢ absentCell
+walked-there c row v t e = not-present (walked c (cellAt row) v) (walked-is c (cellAt row) v t ∙ read-absent absentCell (getD row v (pos 0)) e) t
 
 pub walked-⊑ : (c : ℕ → ℕ) (row : ℕ → Delay) (v : ℕ) → walked c row v ⊑ row v
 walked-⊑ c row v = go (walked-or c row v)

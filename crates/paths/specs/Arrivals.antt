@@ -107,7 +107,7 @@ pub record Pushed (n : ℕ) (row : List ℤ) (c : List ℕ) (a : ℤ) (f₀ f : 
   pub cells : (v : ℕ) → v < n → arrivalIn f v ≡ arrivalIn f₀ v ⋓ (readCell absentWide a ⊕ walkedAt row c v)
   pub rest : (v : ℕ) → n ≤ v → getD f v (pos 0) ≡ getD f₀ v (pos 0)
 
--- an arrival for each input, each within the inside limit
-pub record Given (b : Board) (a : List ℤ) : Type 0 where
-  pub long : length a ≡ b .inputs
-  pub near : (i : ℕ) → i < b .inputs → T (fits insideLimit (arrivalIn a i))
+-- a list of k times, each absent or within the inside limit
+pub record Given (k : ℕ) (a : List ℤ) : Type 0 where
+  pub long : length a ≡ k
+  pub near : (i : ℕ) → i < k → T (fits insideLimit (arrivalIn a i))

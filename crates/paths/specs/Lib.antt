@@ -5,3 +5,4 @@ pub mod Order
 pub mod Checked
 pub mod Arrivals
 pub mod Queries
+pub mod Margins

@@ -18,13 +18,13 @@ use Rattle.paths.specs.declared.queries.Answer.{Answer}
 use Rattle.paths.specs.declared.queries.Answer.the-variants as A
 use Rattle.paths.specs.Board.{graphIn}
 
--- document 01's number, or the destination afterwards
-abbrev pub queryMeaning : Answer → List ℤ → Verdict (List ℤ)
+-- document 01's number, or the destination afterwards: a list, or three
+abbrev pub queryMeaning : {L : Type 0} → Answer → L → Verdict L
 queryMeaning A.Done destination = accepted destination
 queryMeaning (A.Refused r) destination = refused (number r)
 
 -- r and the destination afterwards are what v says
-abbrev pub Fills : Verdict (List ℤ) → List ℤ → List ℤ → Answer → Type 0
+abbrev pub Fills : {L : Type 0} → Verdict L → L → L → Answer → Type 0
 Fills = Answers queryMeaning (λ cells. cells)
 
 -- the two calls after their checks, at a board's table

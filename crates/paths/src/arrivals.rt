@@ -16,7 +16,7 @@ ghost use Rattle.paths.specs.Arrivals.{reachedLimit, stored, filled, onl
 ghost use Rattle.paths.specs.Checked.{Passable};
 
 // Whether what comes over an arc is later than what is there. An absent arrival is below every other.
-fn gains(best: i64, a: i64, cell: i32) -> bool
+pub fn gains(best: i64, a: i64, cell: i32) -> bool
     requires { ⌜ Reached a ⌝ }
     requires { ⌜ cell ≢ absentCell ⌝ }
     requires { ⌜ T (fits delayLimit (readCell absentCell cell)) ⌝ }
@@ -143,7 +143,7 @@ pub fn arrivals(
 )
     requires { ⌜ Passable board (now table) (now order) ⌝ }
     requires { ⌜ Chains (board .vertices) (now table) (now chain) ⌝ }
-    requires { ⌜ Given board (now inputs) ⌝ }
+    requires { ⌜ Given (board .inputs) (now inputs) ⌝ }
     requires { ⌜ board .vertices ≤ length (now f) ⌝ }
     ensures { λ _. ⌜ now (f .exit) ≡ filled (board .vertices) (arrivalsFrom board (was table) (was inputs)) (was f) ⌝ }
 {

@@ -156,16 +156,15 @@ fn arrival_fits(x: i64) -> bool
     x <= Board::MAX_ARRIVAL
 }
 
-// Whether there is an arrival for each input, each absent or within the limits.
-fn arrivals_fit(board: Board, given: &[i64]) -> bool
-    ensures { λ r. ⌜ r ≡ arrivalsFit (board .inputs) (was given) ⌝ }
+// Whether there are so many times, each absent or within the limits.
+pub fn times_fit(given: &[i64], count: usize) -> bool
+    ensures { λ r. ⌜ r ≡ arrivalsFit count (was given) ⌝ }
 {
-    let m = board.inputs;
-    if given.len() != m {
+    if given.len() != count {
         return false;
     }
     let mut i = 0;
-    while i < m {
+    while i < count {
         if !arrival_fits(given[i]) {
             return false;
         }
@@ -188,7 +187,7 @@ fn arrivals_answer(
     ensures { λ r. ⌜ Fills (arrivalsOn board (was table) (was given) (was answers)) (was answers) (now (answers .exit)) r ⌝ }
     ensures { λ _. ⌜ PastScratch board (was scratch) (now (scratch .exit)) ⌝ }
 {
-    if !arrivals_fit(board, given) {
+    if !times_fit(given, board.inputs) {
         return Answer::Refused(Refusal::ArrivalLists);
     }
     if answers.len() != board.outputs {

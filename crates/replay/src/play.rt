@@ -5,6 +5,7 @@ use crate::calls::Sizes;
 use crate::file_calls;
 use crate::input;
 use crate::input::Got;
+use crate::margin_calls;
 use crate::memory;
 use crate::print;
 use crate::query_calls;
@@ -23,6 +24,7 @@ fn played(call: Call, table: &mut [i32], scratch: &mut [i64], page: &mut [u8]) -
         8 | 9 => query_calls::query(call, table, scratch, page),
         10 => file_calls::write(call, table, scratch, page),
         11 => file_calls::read(call, table, scratch, page),
+        12 => margin_calls::margins(call, table, scratch, page),
         _ => Played::Ended,
     }
 }

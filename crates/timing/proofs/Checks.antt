@@ -49,6 +49,10 @@ pub room-of : (m n N : ℕ) → T (sizesFit m n N) → m + n ≤ N
 unfolding sizesFit
 room-of m n N t = leb→le (m + n) N (and-e (leb 1 m && leb 1 n) (leb (m + n) N) (and-e (leb 1 m && leb 1 n && leb (m + n) N) (leb N maxVertices) t .0) .1)
 
+pub few-of : (m n N : ℕ) → T (sizesFit m n N) → N ≤ maxVertices
+unfolding sizesFit
+few-of m n N t = leb→le N maxVertices (and-e (leb 1 m && leb 1 n && leb (m + n) N) (leb N maxVertices) t .1)
+
 pub noCycle-acyclic : (N : ℕ) (g : Graph) → Within N g → T (noCycle N g) → Acyclic g
 unfolding noCycle
 noCycle-acyclic N g w t = test-acyclic w (λ v l. absent-unless (longest g N v v) (every-at N (λ v. not (present (longest g N v v))) t v l))

@@ -6,8 +6,13 @@ use crate::refusal::{self, Refusal};
 /// No path, or no signal.
 pub const NONE: i64 = i64::MIN;
 
-/// Present arrivals lie within plus and minus this.
-pub const MOST_ARRIVAL: i64 = 1_000_000_000_000;
+/// Present arrivals and required times lie within plus and minus this.
+pub const MOST_TIME: i64 = 1_000_000_000_000;
+
+/// An arrival or a required time as a caller may give it: absent, or within the limits.
+pub fn is_time(&time: &i64) -> bool {
+    time == NONE || (-MOST_TIME..=MOST_TIME).contains(&time)
+}
 
 /// The greatest delay from each input to each vertex, 0 from an input to itself.
 pub struct FromInputs {
@@ -99,12 +104,11 @@ pub fn arrivals(
     answers: &mut [i64],
 ) -> Result<(), Refusal> {
     let (board, order) = Board::open(sizes, table, scratch)?;
-    let legal = |&a: &i64| a == NONE || (-MOST_ARRIVAL..=MOST_ARRIVAL).contains(&a);
     if arrivals.len() != board.inputs
-        || !arrivals.iter().all(legal)
+        || !arrivals.iter().all(is_time)
         || answers.len() != board.outputs
     {
-        return Err(refusal::ARRIVALS);
+        return Err(refusal::TIMES);
     }
     let matrix = Matrix::new(&board, table, &order);
     for (j, answer) in answers.iter_mut().enumerate() {

@@ -1,4 +1,4 @@
-//! Document 01 written a second time, from its text alone.
+//! Document 01, and ticket 1 of document 02, written a second time, from their text alone.
 //!
 //! Nothing here is shared with the proved crates; the random test (`src/bin/random`) holds the two
 //! against each other. Each call takes any sizes and vertex numbers, the lent table, and the lent
@@ -8,6 +8,7 @@ pub mod board;
 pub mod delays;
 pub mod file;
 pub mod literal;
+pub mod margins;
 pub mod order;
 pub mod refusal;
 pub mod run;

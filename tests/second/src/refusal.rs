@@ -1,4 +1,4 @@
-//! The refusals of document 01, by number.
+//! The refusals of documents 01 and 02, by number.
 
 pub type Refusal = u64;
 
@@ -23,4 +23,4 @@ pub const NOT_RISING: Refusal = 18;
 pub const END_COUNT: Refusal = 19;
 pub const BYTES_AFTER_END: Refusal = 20;
 pub const SHORT_DESTINATION: Refusal = 21;
-pub const ARRIVALS: Refusal = 22;
+pub const TIMES: Refusal = 22;

@@ -1,7 +1,10 @@
-//! Document 01's boards for checking, and one for the run, on the second implementation.
+//! Document 01's boards for checking, one for the run, and 003's example for the margins, on the second
+//! implementation.
 
 use second::board::{Board, Sizes};
+use second::delays::{MOST_TIME, NONE};
 use second::file::{read, RefusedRead};
+use second::margins::{self, Answers};
 use second::{delays, literal, run, steps, thin};
 
 const SCRATCH: usize = 8_100;
@@ -16,6 +19,20 @@ fn table(vertices: usize, arcs: &[(usize, usize, i32)]) -> Vec<i32> {
         table[vertices * u + v] = delay;
     }
     table
+}
+
+/// Arrivals, required times and margins in lists of the right length, 9 in each cell before the call.
+fn margins(
+    sizes: Sizes,
+    table: &[i32],
+    at_inputs: &[i64],
+    at_outputs: &[i64],
+) -> (Result<(), u64>, [Vec<i64>; 3]) {
+    let mut answers = [(); 3].map(|()| vec![9; sizes.vertices as usize]);
+    let [arrival, required, margin] = &mut answers;
+    let lent = Answers { arrival, required, margin };
+    let answer = margins::margins(sizes, table, SCRATCH, at_inputs, at_outputs, lent);
+    (answer, answers)
 }
 
 fn p2() -> Vec<i32> {
@@ -35,7 +52,7 @@ fn p1_has_nothing_to_prune() {
     let mut cells = table(2, &[]);
     let mut matrix = [9];
     assert_eq!(delays::matrix(sizes(1, 1, 2), &cells, SCRATCH, &mut matrix), Ok(()));
-    assert_eq!(matrix, [delays::NONE]);
+    assert_eq!(matrix, [NONE]);
     assert_eq!(steps::prune(sizes(1, 1, 2), &mut cells, SCRATCH), Err(13));
 }
 
@@ -118,6 +135,95 @@ fn a_shrink_opens_a_share() {
     let mut cells = first;
     assert_eq!(run::run(sizes(4, 3, 9), &mut cells, SCRATCH), Ok(outcome));
     assert_eq!(cells, last);
+}
+
+/// 003's network: inputs a to h are 0 to 7, g12 is 8, g1 to g11 are 9 to 19.
+fn lecture() -> Vec<i32> {
+    let (a, b, c, d, e, f, g, h) = (0, 1, 2, 3, 4, 5, 6, 7);
+    let (g12, g1, g2, g3, g4, g5) = (8, 9, 10, 11, 12, 13);
+    let (g6, g7, g8, g9, g10, g11) = (14, 15, 16, 17, 18, 19);
+    let nands = [
+        (g1, [a, b]),
+        (g3, [g1, g2]),
+        (g5, [g3, g4]),
+        (g7, [e, f]),
+        (g9, [g8, g]),
+        (g10, [g6, g9]),
+        (g12, [g11, h]),
+    ];
+    let inverters = [(g2, c), (g4, d), (g6, g5), (g8, g7), (g11, g10)];
+    let into_nands = nands.into_iter().flat_map(|(to, from)| from.map(|from| (from, to, 2)));
+    let into_inverters = inverters.into_iter().map(|(to, from)| (from, to, 1));
+    table(20, &into_nands.chain(into_inverters).collect::<Vec<_>>())
+}
+
+#[test]
+fn the_lecture_has_a_least_margin_of_minus_two() {
+    let (answer, [arrival, required, margin]) =
+        margins(sizes(8, 1, 20), &lecture(), &[0; 8], &[10]);
+    assert_eq!(answer, Ok(()));
+    // a to h, g12, g1 to g11
+    assert_eq!(arrival, [0, 0, 0, 0, 0, 0, 0, 0, 12, 2, 1, 4, 1, 6, 7, 2, 3, 5, 9, 10]);
+    assert_eq!(required, [-2, -2, -1, 1, 0, 0, 3, 8, 10, 0, 0, 2, 2, 4, 5, 2, 3, 5, 7, 8]);
+    assert_eq!(margin, [-2, -2, -1, 1, 0, 0, 3, 8, -2, -2, -1, -2, 1, -2, -2, 0, 0, 0, -2, -2]);
+    assert_eq!(margins::least(&margin), Some(-2));
+}
+
+#[test]
+fn an_output_with_arcs_out_takes_the_smaller_time() {
+    // 0 →4 1 →3 2
+    let cells = p5();
+    let required = |own, next| margins(sizes(1, 2, 3), &cells, &[0], &[own, next]).1[1].clone();
+    assert_eq!(required(20, 10), [3, 7, 10]);
+    assert_eq!(required(5, 10), [1, 5, 10]);
+    assert_eq!(required(NONE, 10), [3, 7, 10]);
+    assert_eq!(required(5, NONE), [1, 5, NONE]);
+    assert_eq!(required(NONE, NONE), [NONE; 3]);
+}
+
+/// Input 1 has no arrival, input 2 reaches nothing, inner 5 is undriven, output 4 has no time of its own.
+#[test]
+fn a_margin_needs_both_its_parts() {
+    let cells = table(6, &[(0, 3, -2), (1, 3, 50), (0, 4, 1), (5, 3, 3)]);
+    let (answer, [arrival, required, margin]) =
+        margins(sizes(3, 2, 6), &cells, &[7, NONE, 0], &[10, NONE]);
+    assert_eq!(answer, Ok(()));
+    assert_eq!(arrival, [7, NONE, 0, 5, 8, NONE]);
+    assert_eq!(required, [12, -40, NONE, 10, NONE, 7]);
+    assert_eq!(margin, [5, NONE, NONE, 5, NONE, NONE]);
+    assert_eq!(margins::least(&margin), Some(5));
+    assert_eq!(margins::least(&[NONE; 6]), None);
+}
+
+#[test]
+fn margins_are_refused_for_lists_of_another_length_or_times_out_of_range() {
+    let cells = p5();
+    let refused = |at_inputs: &[i64], at_outputs: &[i64]| {
+        let (answer, answers) = margins(sizes(1, 2, 3), &cells, at_inputs, at_outputs);
+        assert_eq!(answers, [[9; 3]; 3]);
+        assert_eq!(answer, Err(22));
+    };
+    refused(&[], &[0, 0]);
+    refused(&[0, 0], &[0, 0]);
+    refused(&[0], &[0]);
+    refused(&[0], &[0, 0, 0]);
+    refused(&[MOST_TIME + 1], &[0, 0]);
+    refused(&[NONE + 1], &[0, 0]);
+    refused(&[0], &[0, -MOST_TIME - 1]);
+    refused(&[0], &[i64::MAX, 0]);
+    assert_eq!(margins(sizes(1, 2, 3), &cells, &[MOST_TIME], &[-MOST_TIME, NONE]).0, Ok(()));
+
+    for lengths in [[2, 3, 3], [3, 4, 3], [3, 3, 0]] {
+        let mut answers = lengths.map(|length| vec![9; length]);
+        let [arrival, required, margin] = &mut answers;
+        let lent = Answers { arrival, required, margin };
+        let answer = margins::margins(sizes(1, 2, 3), &cells, SCRATCH, &[0], &[0, 0], lent);
+        assert_eq!(answer, Err(22));
+        assert!(answers.iter().flatten().all(|&cell| cell == 9));
+    }
+    // the table comes first
+    let looped = table(3, &[(2, 2, 0)]);
+    assert_eq!(margins(sizes(1, 2, 3), &looped, &[], &[]).0, Err(6));
 }
 
 #[test]

@@ -14,15 +14,13 @@ use mir.Facts.{toZ-ofZ}
 use Rattle.laws.proofs.Booleans.{split}
 use Rattle.laws.proofs.Signed.{back, widens}
 use Rattle.graph.specs.Delay.{Delay, _⋓_, _⊕_}
-use Rattle.graph.proofs.Presence.{not-present}
 use Rattle.timing.specs.Limits.{delayLimit, absentCell, absentWide, fits}
 use Rattle.timing.specs.Table.{readCell}
 use Rattle.timing.specs.Delays.{arrivalIn}
-use Rattle.timing.proofs.Table.{read-absent}
 use Rattle.paths.specs.Cells.{cellAt}
 use Rattle.paths.specs.Chain.{walkedAt}
 use Rattle.paths.specs.Arrivals.{Reached, Gains}
-use Rattle.paths.proofs.Walked.{walked-is, walked-first}
+use Rattle.paths.proofs.Walked.{walked-is, walked-there, walked-first}
 use Rattle.paths.proofs.Chaining.{along-start, along-turn, along-keep}
 use Rattle.paths.proofs.Offering.{idle, Offering, all-offered}
 
@@ -68,7 +66,7 @@ module _ (t : tie.In-loop Inv-loop μ-loop) where
   row-is = walked-is (λ j. getD (s .args .chain .now) j 0) (cellAt (s .args .row .now)) v (head .loop .inv .arc (t .loop-test .taken))
 
   cell-there : getD (s .args .row .now) v (pos 0) ≢ absentCell
-  cell-there e = not-present (row v) (row-is ∙ read-absent absentCell _ e) (head .loop .inv .arc (t .loop-test .taken))
+  cell-there = walked-there (λ j. getD (s .args .chain .now) j 0) (s .args .row .now) v (head .loop .inv .arc (t .loop-test .taken))
 
 mul-d : tie.Need-mul-d Inv-loop μ-loop
 mul-d c = omega (arith, in-n c)

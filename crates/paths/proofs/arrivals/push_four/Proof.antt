@@ -12,14 +12,12 @@ use mir.Syntax.{w32, w64}
 use mir.Val.{SFits, toZ, ofZ}
 use mir.Facts.{toZ-ofZ}
 use Rattle.laws.proofs.Signed.{back}
-use Rattle.graph.proofs.Presence.{not-present}
 use Rattle.timing.specs.Limits.{delayLimit, absentCell, fits}
 use Rattle.timing.specs.Table.{readCell}
-use Rattle.timing.proofs.Table.{read-absent}
 use Rattle.paths.specs.Cells.{cellAt}
 use Rattle.paths.specs.Chain.{walkedAt}
 use Rattle.paths.specs.Arrivals.{lane, Reached, Pushable}
-use Rattle.paths.proofs.Walked.{walked-is, walked-first}
+use Rattle.paths.proofs.Walked.{walked-is, walked-there, walked-first}
 use Rattle.paths.proofs.Chaining.{along-start}
 use Rattle.paths.proofs.Lanes.{drop-same}
 use Rattle.paths.proofs.Offering.{idle, Offering, all-offered, Walk, walk-turn}
@@ -76,7 +74,7 @@ module _ (t : tie.In-loop Inv-loop μ-loop) where
   row-is = walked-is (λ j. getD (s .args .chain .now) j 0) (cellAt (s .args .row .now)) v (head .loop .inv .first .arc in-n)
 
   cell-there : getD (s .args .row .now) v (pos 0) ≢ absentCell
-  cell-there e = not-present (walkedAt (s .args .row .now) (s .args .chain .now) v) (row-is ∙ read-absent absentCell _ e) (head .loop .inv .first .arc in-n)
+  cell-there = walked-there (λ j. getD (s .args .chain .now) j 0) (s .args .row .now) v (head .loop .inv .first .arc in-n)
 
 mul-x : tie.Need-mul-x Inv-loop μ-loop
 mul-x c = omega (arith, in-n c, few c)

@@ -16,7 +16,7 @@ use Rattle.paths.proofs.queries.arrivals_answer.Statement.{statement}
 use Rattle.paths.proofs.queries.arrivals_answer.Tie as tie
 
 returns : tie.Need-returns
-returns c = (lists-refused _ _ _ _ _ _ (inl (sym (c .before .arrivals-fit .ensures) ∙ not-true _ (c .if1 .taken))), refl)
+returns c = (lists-refused _ _ _ _ _ _ (inl (sym (c .before .times-fit .ensures) ∙ not-true _ (c .if1 .taken))), refl)
 
 returns-2 : tie.Need-returns-2
 returns-2 c = (lists-refused _ _ _ _ _ _ (inr (c .if2 .taken)), refl)
@@ -27,7 +27,7 @@ module _ (e : tie.Else2) where
   start = e .before .before .before .before
 
   fit : arrivalsFit (start .args .board .inputs) (start .args .given .now) ≡ true
-  fit = sym (e .before .before .before .arrivals-fit .ensures) ∙ not-false _ (e .before .before .if1 .left)
+  fit = sym (e .before .before .before .times-fit .ensures) ∙ not-false _ (e .before .before .if1 .left)
 
   least : start .args .board .vertices ≤ start .args .board .vertices * start .args .board .vertices
   least = square (start .args .board .vertices) (omega (arith, start .pre .0 .checked .lent .sized .some-inputs, start .pre .0 .checked .lent .sized .roles))

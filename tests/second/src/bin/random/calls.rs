@@ -2,6 +2,7 @@
 
 use second::board::{Board, Sizes};
 use second::file::RefusedRead;
+use second::margins::{self, Answers};
 use second::{delays, file, literal, steps};
 use std::fmt::Write;
 
@@ -18,6 +19,7 @@ pub enum Call {
     Arrivals { arrivals: Vec<i64>, answers: usize },
     Write { destination: usize },
     Read { bytes: Vec<u8> },
+    Margins { arrivals: Vec<i64>, required: Vec<i64>, answers: [usize; 3] },
 }
 
 /// What an accepted call answers.
@@ -58,10 +60,15 @@ fn answer<T>(result: Result<T, u64>, accepted: impl Fn(T) -> Accepted) -> Answer
 /// What `replay` fills a destination with before the call.
 const DESTINATION_FILL: u8 = 9;
 
-/// An answer and what the call left in its destination.
+/// So many cells of a destination before the call.
+fn filled(cells: usize) -> Vec<i64> {
+    vec![i64::from(DESTINATION_FILL); cells]
+}
+
+/// An answer and what the call left in its destinations.
 pub struct Performed {
     pub answer: Answer,
-    pub destination: Option<Vec<i64>>,
+    pub destinations: Vec<Vec<i64>>,
 }
 
 impl Call {
@@ -79,6 +86,7 @@ impl Call {
             Call::Arrivals { .. } => 9,
             Call::Write { .. } => 10,
             Call::Read { .. } => 11,
+            Call::Margins { .. } => 12,
         }
     }
 
@@ -106,13 +114,17 @@ impl Call {
             }
             Call::Matrix { destination } | Call::Write { destination } => length(to, *destination),
             Call::Arrivals { arrivals, answers } => {
-                length(to, arrivals.len());
-                arrivals.iter().for_each(|&a| number(to, a as u64));
+                times(to, arrivals);
                 length(to, *answers);
             }
             Call::Read { bytes } => {
                 length(to, bytes.len());
                 to.extend(bytes);
+            }
+            Call::Margins { arrivals, required, answers } => {
+                times(to, arrivals);
+                times(to, required);
+                answers.iter().for_each(|&answers| length(to, answers));
             }
         }
     }
@@ -120,7 +132,7 @@ impl Call {
     /// The call, by the second implementation.
     pub fn perform(&self, sizes: Sizes, table: &mut [i32], scratch: usize) -> Performed {
         let left = Accepted::Left;
-        let mut kept = None;
+        let mut destinations = Vec::new();
         let answer = match self {
             Call::Shrink { k } => answer(steps::shrink(sizes, table, scratch, *k), left),
             Call::ShareInputs { a, b, k } => {
@@ -136,29 +148,40 @@ impl Call {
             }
             Call::Run => answer(literal::run(sizes, table, scratch), Accepted::Ran),
             Call::Matrix { destination } => {
-                let mut cells = vec![i64::from(DESTINATION_FILL); *destination];
+                let mut cells = filled(*destination);
                 let result = delays::matrix(sizes, table, scratch, &mut cells);
-                kept = Some(cells);
+                destinations = vec![cells];
                 answer(result, |()| Accepted::Done)
             }
             Call::Arrivals { arrivals, answers } => {
-                let mut cells = vec![i64::from(DESTINATION_FILL); *answers];
+                let mut cells = filled(*answers);
                 let result = delays::arrivals(sizes, table, scratch, arrivals, &mut cells);
-                kept = Some(cells);
+                destinations = vec![cells];
                 answer(result, |()| Accepted::Done)
             }
             Call::Write { destination } => {
                 let mut bytes = vec![DESTINATION_FILL; *destination];
                 let result = file::write(sizes, table, scratch, &mut bytes);
-                kept = Some(bytes.into_iter().map(i64::from).collect());
+                destinations = vec![bytes.into_iter().map(i64::from).collect()];
                 answer(result, Accepted::Bytes)
             }
             Call::Read { bytes } => match file::read(bytes, table, scratch) {
                 Ok(sizes) => Answer::Accepted(Accepted::Board(sizes)),
                 Err(refused) => Answer::RefusedRead(refused),
             },
+            Call::Margins { arrivals, required, answers } => {
+                let [mut arrival_at, mut required_at, mut margin_at] = answers.map(filled);
+                let lent = Answers {
+                    arrival: &mut arrival_at,
+                    required: &mut required_at,
+                    margin: &mut margin_at,
+                };
+                let result = margins::margins(sizes, table, scratch, arrivals, required, lent);
+                destinations = vec![arrival_at, required_at, margin_at];
+                answer(result, |()| Accepted::Done)
+            }
         };
-        Performed { answer, destination: kept }
+        Performed { answer, destinations }
     }
 
     /// The scratch cells that the call may have changed, at most.
@@ -181,6 +204,11 @@ fn number(to: &mut Vec<u8>, number: u64) {
 
 fn length(to: &mut Vec<u8>, length: usize) {
     to.extend((length as u16).to_le_bytes());
+}
+
+fn times(to: &mut Vec<u8>, times: &[i64]) {
+    length(to, times.len());
+    times.iter().for_each(|&time| number(to, time as u64));
 }
 
 /// What stands before the calls.
@@ -223,7 +251,7 @@ pub fn text(performed: &Performed, table: &[i32]) -> String {
         }
     }
     text.push('\n');
-    if let Some(cells) = &performed.destination {
+    for cells in &performed.destinations {
         text.push_str("destination");
         for cell in cells {
             let _ = write!(text, " {cell}");

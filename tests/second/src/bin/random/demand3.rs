@@ -1,10 +1,12 @@
-//! Demand 3, on the second implementation, by methods of its own: path delays by relaxing all arcs
-//! until nothing changes, cycles by taking away vertices without arcs out.
+//! Demand 3 and ticket 1's least margin, on the second implementation, by methods of its own: path
+//! delays and times by relaxing all arcs until nothing changes, cycles by taking away vertices without
+//! arcs out.
 
 use crate::calls::{Accepted, Answer, Call};
 use crate::lists;
 use crate::rng::Rng;
 use second::board::{Board, Sizes};
+use second::margins::{self, Answers};
 use second::{delays, file};
 
 /// What the first table of a list promises for every later one.
@@ -14,8 +16,16 @@ pub struct Claim {
     matrix: Vec<Option<i64>>,
     /// Lists of input arrivals, each with the output arrivals.
     arrivals: Vec<(Vec<i64>, Vec<i64>)>,
+    margins: Vec<LeastMargin>,
     arcs: u64,
     accepted: u64,
+}
+
+/// A list of input arrivals and one of required times, with the least margin for them.
+struct LeastMargin {
+    arrivals: Vec<i64>,
+    required: Vec<i64>,
+    least: Option<i64>,
 }
 
 impl Claim {
@@ -25,13 +35,21 @@ impl Claim {
         let matrix = slow_matrix(&board, table);
         let arrivals = (0..2)
             .map(|_| {
-                let inputs = lists::arrivals(rng, board.inputs);
+                let inputs = lists::times(rng, board.inputs);
                 let outputs = slow_arrivals(&board, &matrix, &inputs);
                 (inputs, outputs)
             })
             .collect();
+        let margins = (0..3)
+            .map(|_| {
+                let arrivals = lists::times(rng, board.inputs);
+                let required = lists::times(rng, board.outputs);
+                let least = slow_least_margin(&matrix, &arrivals, &required);
+                LeastMargin { arrivals, required, least }
+            })
+            .collect();
         let arcs = board.arcs(table);
-        Some(Claim { board, sizes, matrix, arrivals, arcs, accepted: 0 })
+        Some(Claim { board, sizes, matrix, arrivals, margins, arcs, accepted: 0 })
     }
 
     /// After a call: the table as it left it.
@@ -50,6 +68,7 @@ impl Claim {
             return Err("demand 3: another matrix".into());
         }
         self.check_queries(table)?;
+        self.check_margins(table)?;
         let arcs = present(board, table);
         match answer {
             Answer::Accepted(Accepted::Left(left)) => {
@@ -92,6 +111,26 @@ impl Claim {
             let answer = delays::arrivals(self.sizes, table, cells, inputs, &mut answers);
             if answer.is_err() || answers != *outputs {
                 return Err("demand 3: other output arrivals".into());
+            }
+        }
+        Ok(())
+    }
+
+    /// The margins call agrees with the slow method at every vertex, and its least margin is the one that
+    /// the first matrix gives, which is this table's too.
+    fn check_margins(&self, table: &[i32]) -> Result<(), String> {
+        let board = &self.board;
+        for LeastMargin { arrivals, required, least } in &self.margins {
+            let mut cells = [(); 3].map(|()| vec![0; board.vertices]);
+            let [arrival_at, required_at, margin_at] = &mut cells;
+            let lent = Answers { arrival: arrival_at, required: required_at, margin: margin_at };
+            let answer =
+                margins::margins(self.sizes, table, board.cells(), arrivals, required, lent);
+            if answer.is_err() || cells != slow_margins(board, table, arrivals, required) {
+                return Err("the margins call and the slow method differ".into());
+            }
+            if margins::least(&cells[2]) != *least {
+                return Err("ticket 1: another least margin".into());
             }
         }
         Ok(())
@@ -167,27 +206,42 @@ fn is_acyclic(board: &Board, table: &[i32]) -> bool {
     !left.contains(&true)
 }
 
-/// The delay matrix of a table without cycles, by relaxing all arcs until nothing changes.
-fn slow_matrix(board: &Board, table: &[i32]) -> Vec<Option<i64>> {
+#[derive(Clone, Copy)]
+enum Way {
+    Along,
+    Against,
+}
+
+/// The greatest sum of what a vertex starts with and the delays of the arcs from it, along them or
+/// against them, in a table without cycles: by relaxing all arcs until nothing changes.
+fn relaxed(board: &Board, table: &[i32], way: Way, mut best: Vec<Option<i64>>) -> Vec<Option<i64>> {
     let size = board.vertices;
-    let mut matrix = Vec::new();
-    for i in 0..board.inputs {
-        let mut best: Vec<Option<i64>> = vec![None; size];
-        best[i] = Some(0);
-        let mut changed = true;
-        while changed {
-            changed = false;
-            for (place, &cell) in table[..size * size].iter().enumerate() {
-                let (u, v) = (place / size, place % size);
-                if let (Some(at), true) = (best[u], cell != i32::MIN) {
-                    let through = Some(at + i64::from(cell));
-                    if through > best[v] {
-                        best[v] = through;
-                        changed = true;
-                    }
+    let mut changed = true;
+    while changed {
+        changed = false;
+        for (place, &cell) in table[..size * size].iter().enumerate() {
+            let (from, to) = match way {
+                Way::Along => (place / size, place % size),
+                Way::Against => (place % size, place / size),
+            };
+            if let (Some(at), true) = (best[from], cell != i32::MIN) {
+                let through = Some(at + i64::from(cell));
+                if through > best[to] {
+                    best[to] = through;
+                    changed = true;
                 }
             }
         }
+    }
+    best
+}
+
+fn slow_matrix(board: &Board, table: &[i32]) -> Vec<Option<i64>> {
+    let mut matrix = Vec::new();
+    for i in 0..board.inputs {
+        let mut start = vec![None; board.vertices];
+        start[i] = Some(0);
+        let best = relaxed(board, table, Way::Along, start);
         matrix.extend(&best[board.inputs..board.inputs + board.outputs]);
     }
     matrix
@@ -203,4 +257,50 @@ fn slow_arrivals(board: &Board, matrix: &[Option<i64>], inputs: &[i64]) -> Vec<i
         }
     }
     outputs
+}
+
+/// Arrival, required time and margin at every vertex. Required times with their signs turned are
+/// arrivals against the arcs.
+fn slow_margins(board: &Board, table: &[i32], arrivals: &[i64], required: &[i64]) -> [Vec<i64>; 3] {
+    let (mut starts, mut ends) = (vec![None; board.vertices], vec![None; board.vertices]);
+    for (i, &arrival) in arrivals.iter().enumerate() {
+        starts[i] = known(arrival);
+    }
+    for (j, &time) in required.iter().enumerate() {
+        ends[board.inputs + j] = known(time).map(|time| -time);
+    }
+    let starts = relaxed(board, table, Way::Along, starts);
+    let ends = relaxed(board, table, Way::Against, ends);
+    let mut answers = [(); 3].map(|()| vec![i64::MIN; board.vertices]);
+    for (v, (&start, &end)) in starts.iter().zip(&ends).enumerate() {
+        if let Some(arrival) = start {
+            answers[0][v] = arrival;
+        }
+        if let Some(time) = end {
+            answers[1][v] = -time;
+        }
+        if let (Some(arrival), Some(time)) = (start, end) {
+            answers[2][v] = -time - arrival;
+        }
+    }
+    answers
+}
+
+/// The least margin by the matrix alone: a joined pair's required time less arrival and delay.
+fn slow_least_margin(matrix: &[Option<i64>], arrivals: &[i64], required: &[i64]) -> Option<i64> {
+    let mut least = None;
+    for (i, &arrival) in arrivals.iter().enumerate() {
+        for (j, &time) in required.iter().enumerate() {
+            let delay = matrix[i * required.len() + j];
+            if let (Some(arrival), Some(time), Some(delay)) = (known(arrival), known(time), delay) {
+                let margin = time - arrival - delay;
+                least = Some(least.map_or(margin, |least: i64| least.min(margin)));
+            }
+        }
+    }
+    least
+}
+
+fn known(time: i64) -> Option<i64> {
+    (time != i64::MIN).then_some(time)
 }

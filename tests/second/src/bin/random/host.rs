@@ -192,7 +192,7 @@ fn check_one(
     if lent_table.run() != table_after {
         return fail("another table");
     }
-    if let Some(cells) = performed.destination {
+    if let [cells] = &performed.destinations[..] {
         let mut matrix_after: Vec<u8> = cells.iter().flat_map(|c| c.to_le_bytes()).collect();
         matrix_after.extend(&matrix_bytes[matrix_after.len()..]);
         if lent_matrix.run() != matrix_after {

@@ -9,7 +9,7 @@ use second::delays;
 
 /// The most numbers that `replay` holds.
 const MOST_CELLS: usize = 8_200;
-const MOST_ARRIVALS: usize = 100;
+const MOST_TIMES: usize = 100;
 
 pub struct Maker<'r> {
     pub rng: &'r mut Rng,
@@ -41,7 +41,7 @@ impl Maker<'_> {
                 }
             }
         }
-        let kind = match self.rng.below(100) {
+        let kind = match self.rng.below(108) {
             0..=11 => 1,
             12..=24 => 2,
             25..=36 => 3,
@@ -52,7 +52,8 @@ impl Maker<'_> {
             73..=79 => 8,
             80..=86 => 9,
             87..=91 => 10,
-            _ => 11,
+            92..=99 => 11,
+            _ => 12,
         };
         self.one(kind, table)
     }
@@ -85,7 +86,8 @@ impl Maker<'_> {
                 // a damaged table may have more arcs than any file
                 Call::Write { destination: self.length(right).min(32_900) }
             }
-            _ => self.read(board),
+            11 => self.read(board),
+            _ => self.margins(board),
         }
     }
 
@@ -237,18 +239,49 @@ impl Maker<'_> {
             4 => answers = self.rng.below(10),
             _ => {}
         }
-        let mut arrivals = arrivals(self.rng, count.min(MOST_ARRIVALS));
-        if self.rng.chance(12) && !arrivals.is_empty() {
-            let at = self.rng.below(arrivals.len());
-            arrivals[at] = self.rng.pick(&[
-                delays::MOST_ARRIVAL + 1,
-                -delays::MOST_ARRIVAL - 1,
-                i64::MAX,
-                i64::MIN + 1,
-                1 << 62,
-            ]);
+        let mut arrivals = times(self.rng, count.min(MOST_TIMES));
+        if self.rng.chance(12) {
+            self.spoil(&mut arrivals);
         }
         Call::Arrivals { arrivals, answers: answers.min(MOST_CELLS) }
+    }
+
+    fn margins(&mut self, board: Option<Board>) -> Call {
+        let (inputs, outputs, vertices) =
+            board.map_or((3, 3, 9), |board| (board.inputs, board.outputs, board.vertices));
+        let mut lengths = [inputs, outputs, vertices, vertices, vertices];
+        if self.rng.chance(20) {
+            let length = &mut lengths[self.rng.below(5)];
+            *length = match self.rng.below(4) {
+                0 => *length - 1,
+                1 => *length + 1,
+                2 => 0,
+                _ => self.rng.below(MOST_TIMES + 1),
+            };
+        }
+        let [inputs, outputs, answers @ ..] = lengths;
+        let mut arrivals = times(self.rng, inputs);
+        let mut required = times(self.rng, outputs);
+        match self.rng.below(16) {
+            0 => self.spoil(&mut arrivals),
+            1 => self.spoil(&mut required),
+            _ => {}
+        }
+        Call::Margins { arrivals, required, answers }
+    }
+
+    /// One of the times is out of range, if there is one.
+    fn spoil(&mut self, times: &mut [i64]) {
+        if times.is_empty() {
+            return;
+        }
+        times[self.rng.below(times.len())] = self.rng.pick(&[
+            delays::MOST_TIME + 1,
+            -delays::MOST_TIME - 1,
+            i64::MAX,
+            i64::MIN + 1,
+            1 << 62,
+        ]);
     }
 
     fn read(&mut self, board: Option<Board>) -> Call {
@@ -259,20 +292,20 @@ impl Maker<'_> {
     }
 }
 
-/// Arrivals within the limits, some absent.
-pub fn arrivals(rng: &mut Rng, count: usize) -> Vec<i64> {
+/// Arrivals or required times within the limits, some absent.
+pub fn times(rng: &mut Rng, count: usize) -> Vec<i64> {
     let absent = rng.pick(&[0, 10, 50, 100]);
-    let most = rng.pick(&[0, 5, 100, delays::MOST_ARRIVAL]);
-    let mut arrival = || {
+    let most = rng.pick(&[0, 5, 100, delays::MOST_TIME]);
+    let mut time = || {
         if rng.chance(absent) {
             delays::NONE
         } else if rng.chance(10) {
-            rng.pick(&[-delays::MOST_ARRIVAL, delays::MOST_ARRIVAL])
+            rng.pick(&[-delays::MOST_TIME, delays::MOST_TIME])
         } else {
             rng.within(-most, most)
         }
     };
-    (0..count).map(|_| arrival()).collect()
+    (0..count).map(|_| time()).collect()
 }
 
 /// How many calls a list has: fewer on large boards.

@@ -4,8 +4,8 @@
 //!
 //! Run it at the repository's root. Each list is one process of `replay`, whose whole output is
 //! compared; some lists also give a file to `thin`; with the feature `host` the C exports get each
-//! list's first and last table. Runs are held against the literal one. Demand 3 is checked on the
-//! second implementation's own side. `--only` repeats one list of a seed alone.
+//! list's first and last table. Runs are held against the literal one. Demand 3 and the margins are
+//! checked on the second implementation's own side. `--only` repeats one list of a seed alone.
 
 mod boards;
 mod calls;
@@ -167,6 +167,11 @@ fn one_list(
         if let Answer::Accepted(Accepted::Ran(ran)) = performed.answer {
             tally.count_run(ran.rounds);
             check_peer(sizes, before, lent.scratch, ran, &table)?;
+        }
+        if let (Answer::Accepted(Accepted::Done), [arrivals, required, _]) =
+            (performed.answer, &performed.destinations[..])
+        {
+            tally.count_margins(arrivals, required);
         }
         if show {
             println!("call {place}: {call:?}: {:?}", performed.answer);

@@ -1,5 +1,5 @@
-use Rattle.paths.proofs.queries.arrivals_fit.Statement.{statement}
-use Rattle.paths.proofs.queries.arrivals_fit.Tie as tie
+use Rattle.paths.proofs.queries.times_fit.Statement.{statement}
+use Rattle.paths.proofs.queries.times_fit.Tie as tie
 use mathlib.Core.Path.{_≡_, sym, ap, _∙_}
 use mathlib.Core.Bool.{true, false}
 use Prim.Native.Nat.{_≤_, _-_}
@@ -18,10 +18,10 @@ use Rattle.timing.specs.Table.{readCell}
 use Rattle.timing.specs.Delays.{arrivalIn, arrivalsFit}
 
 abbrev Inv-loop : tie.InvT-loop
-Inv-loop given m i₀ i = (i ≤ m) × (every i (λ k. fits arrivalLimit (arrivalIn given k)) ≡ true)
+Inv-loop given count i₀ i = (i ≤ count) × (every i (λ k. fits arrivalLimit (arrivalIn given k)) ≡ true)
 
 abbrev μ-loop : tie.MeasureT-loop
-μ-loop given m i₀ i = m - i
+μ-loop given count i₀ i = count - i
 
 returns : tie.Need-returns Inv-loop μ-loop
 unfolding arrivalsFit
@@ -40,14 +40,14 @@ module _ (c : tie.After-arrival-fits Inv-loop μ-loop) where
   said : fits arrivalLimit (arrivalIn (start .args .given .now) (inside .before .loop .i)) ≡ c .arrival-fits .result
   said = sym (c .arrival-fits .ensures ∙ ap (λ (z : ℤ). fits arrivalLimit (readCell absentWide z)) (back w64 _ (c .before .arrival-fits-arg .given)))
 
-  long : eqb (length (start .args .given .now)) (start .args .board .inputs) ≡ true
-  long = T-true {b = eqb (length (start .args .given .now)) (start .args .board .inputs)} (eq→eqb _ _ (inside .before .before .if1 .left))
+  long : eqb (length (start .args .given .now)) (start .args .count) ≡ true
+  long = T-true {b = eqb (length (start .args .given .now)) (start .args .count)} (eq→eqb _ _ (inside .before .before .if1 .left))
 
 returns-2 : tie.Need-returns-2 Inv-loop μ-loop
 unfolding arrivalsFit
 returns-2 c =
     let a = c .before in
-    let broken : every (start a .args .board .inputs) (λ k. fits arrivalLimit (arrivalIn (start a .args .given .now) k)) ≡ false =
+    let broken : every (start a .args .count) (λ k. fits arrivalLimit (arrivalIn (start a .args .given .now) k)) ≡ false =
     every-broken _ _ (inside a .before .loop .i) (inside a .loop-test .taken) (said a ∙ not-true _ (c .if2 .taken)) in
     simp (long a, broken)
 
@@ -59,13 +59,13 @@ unfolding arrivalsFit
 returns-3 c =
     let l = c .before in
     let s = l .before .before in
-    let e : l .loop .i ≡ s .args .board .inputs = omega (arith, l .loop .inv .0, c .loop-test .left) in
-    let all : every (s .args .board .inputs) (λ k. fits arrivalLimit (arrivalIn (s .args .given .now) k)) ≡ true = rw e at (l .loop .inv .1) in
-    let long : eqb (length (s .args .given .now)) (s .args .board .inputs) ≡ true = T-true {b = eqb (length (s .args .given .now)) (s .args .board .inputs)} (eq→eqb _ _ (l .before .if1 .left)) in
+    let e : l .loop .i ≡ s .args .count = omega (arith, l .loop .inv .0, c .loop-test .left) in
+    let all : every (s .args .count) (λ k. fits arrivalLimit (arrivalIn (s .args .given .now) k)) ≡ true = rw e at (l .loop .inv .1) in
+    let long : eqb (length (s .args .given .now)) (s .args .count) ≡ true = T-true {b = eqb (length (s .args .given .now)) (s .args .count)} (eq→eqb _ _ (l .before .if1 .left)) in
     simp (long, all)
 
-pub arrivals-fit-spec : {M : Type 1} → statement M
-arrivals-fit-spec =
+pub times-fit-spec : {M : Type 1} → statement M
+times-fit-spec =
     tie.close
     (tie.spec
     Inv-loop
