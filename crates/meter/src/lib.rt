@@ -15,8 +15,8 @@ ghost use Rattle.reduction.specs.Steps.{prune, stepCall};
 ghost use Rattle.reduction.specs.Run.{runCall};
 ghost use Rattle.format.specs.Reading.{readCall, tableRead};
 ghost use Rattle.paths.specs.Queries.{ScratchAfter};
-ghost use Rattle.paths.specs.Margins.{are, were, marginsLent};
-ghost use Rattle.meter.specs.Answers.{Measures, Meters, readNumber};
+ghost use Rattle.paths.specs.Margins.{margins};
+ghost use Rattle.meter.specs.Answers.{Measures, Tells, readNumber};
 
 #[no_mangle]
 pub extern "C" fn meter_matrix(
@@ -50,7 +50,7 @@ pub extern "C" fn meter_margins(
     required: &mut [i64],
     margin: &mut [i64],
 ) -> usize
-    ensures { λ r. ⌜ Meters (marginsLent inputs outputs vertices table scratch given due) (were arrival required margin) (are (arrival .exit) (required .exit) (margin .exit)) r ⌝ }
+    ensures { λ r. ⌜ Tells (margins inputs outputs vertices table scratch given due) arrival required margin (arrival .exit) (required .exit) (margin .exit) r ⌝ }
 {
     let answer = margins::margins(
         inputs,

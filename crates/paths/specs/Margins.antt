@@ -50,10 +50,7 @@ lists x y z = record { arrival = x; required = y; margin = z }
 abbrev pub listsFit : Board → List ℤ → List ℤ → Times → Bool
 listsFit b a r x = arrivalsFit (b .inputs) a && arrivalsFit (b .outputs) r && timesFit (b .vertices) x
 
--- as they are, and as they were when the function was called
-abbrev pub are : RefT (List ℤ) → RefT (List ℤ) → RefT (List ℤ) → Times
-are x y z = lists (now x) (now y) (now z)
-
+-- as they were when the function was called
 abbrev pub were : {A B C : Type 0} → Both (RefT (List ℤ)) A → Both (RefT (List ℤ)) B → Both (RefT (List ℤ)) C → Times
 were x y z = lists (was x) (was y) (was z)
 
@@ -62,9 +59,9 @@ abbrev pub marginsOn : Board → List ℤ → List ℤ → List ℤ → Times �
 marginsOn b t a r x = marginsInto (b .inputs) (b .outputs) (b .vertices) a r x (graphIn b t)
 
 -- the whole call, of lent slices
-abbrev pub marginsLent : {A B C D : Type 0} → ℕ → ℕ → ℕ → Both (RefT (List ℤ)) A → Both (RefT (List ℤ)) B → Both (RefT (List ℤ)) C → Both (RefT (List ℤ)) D → Times → Verdict Times
-marginsLent m n N table scratch given due x = marginsCall m n N (size scratch) (was table) (was given) (was due) x
+abbrev pub margins : {A B C D : Type 0} → ℕ → ℕ → ℕ → Both (RefT (List ℤ)) A → Both (RefT (List ℤ)) B → Both (RefT (List ℤ)) C → Both (RefT (List ℤ)) D → Times → Verdict Times
+margins m n N table scratch given due x = marginsCall m n N (size scratch) (was table) (was given) (was due) x
 
--- r and the three lists afterwards are what the call says of the lists as they were
-abbrev pub Timed : (Times → Verdict Times) → Times → Times → Answer → Type 0
-Timed call before after r = Fills (call before) before after r
+-- r and three lent lists afterwards, x′, y′ and z′, are what the call says of the lists as they were
+abbrev pub Timed : {A B C : Type 0} → (Times → Verdict Times) → Both (RefT (List ℤ)) A → Both (RefT (List ℤ)) B → Both (RefT (List ℤ)) C → RefT (List ℤ) → RefT (List ℤ) → RefT (List ℤ) → Answer → Type 0
+Timed call x y z x′ y′ z′ r = Fills (call (were x y z)) (were x y z) (lists (now x′) (now y′) (now z′)) r

@@ -24,7 +24,7 @@ ghost use Rattle.timing.specs.Margins.{cells};
 ghost use Rattle.paths.specs.Chain.{Chains};
 ghost use Rattle.paths.specs.Arrivals.{reachedLimit, stored, filled, Started, Given, Pushable};
 ghost use Rattle.paths.specs.Checked.{Passable};
-ghost use Rattle.paths.specs.Margins.{InReach, Pulled, latestBack, ownFrom, requiredFrom, listsFit, are, were, marginsOn, marginsLent, Timed};
+ghost use Rattle.paths.specs.Margins.{InReach, Pulled, latestBack, ownFrom, requiredFrom, listsFit, were, marginsOn, margins, Timed};
 
 // The later of what is there and, where a is present, what comes over an arc.
 fn later(best: i64, a: i64, cell: i32) -> i64
@@ -212,7 +212,7 @@ fn margins_answer(
     margin: &mut [i64],
 ) -> Answer
     requires { ⌜ Passable board (now table) (now order) ⌝ }
-    ensures { λ r. ⌜ Timed (marginsOn board (was table) (was given) (was due)) (were arrival required margin) (are (arrival .exit) (required .exit) (margin .exit)) r ⌝ }
+    ensures { λ r. ⌜ Timed (marginsOn board (was table) (was given) (was due)) arrival required margin (arrival .exit) (required .exit) (margin .exit) r ⌝ }
 {
     if !lists_fit(board, given, due, arrival, required, margin) {
         return Answer::Refused(Refusal::ArrivalLists);
@@ -239,7 +239,7 @@ pub fn margins(
     required: &mut [i64],
     margin: &mut [i64],
 ) -> Answer
-    ensures { λ r. ⌜ Timed (marginsLent inputs outputs vertices table scratch given due) (were arrival required margin) (are (arrival .exit) (required .exit) (margin .exit)) r ⌝ }
+    ensures { λ r. ⌜ Timed (margins inputs outputs vertices table scratch given due) arrival required margin (arrival .exit) (required .exit) (margin .exit) r ⌝ }
 {
     let mut order = room::vertex_bytes();
     let lent = checks::checked(inputs, outputs, vertices, table, scratch.len(), &mut order);
