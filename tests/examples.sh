@@ -14,10 +14,10 @@ expect() {
 }
 
 board='board 3 2 9
-arc 0 3 14
-arc 1 3 9
+arc 0 3 15
+arc 1 3 10
 arc 2 4 4
-arc 3 4 0
+arc 3 4 1
 accepted 5 arcs 4
 '
 bash examples/run > "$work/out" 2> "$work/err" || echo "examples/run: status $?"

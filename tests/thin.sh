@@ -49,8 +49,10 @@ expect 'BD\1\1\3CE\2\2\0EN\1\0' 'refused 6 at 0'
 # a delay of -5, and the least
 expect 'BD\1\1\2AR\0\1\373\377\377\377EN\1\0' $'board 1 1 2\narc 0 1 -5\naccepted 0 arcs 1'
 expect 'BD\1\1\2AR\0\1\0\66\145\304EN\1\0' $'board 1 1 2\narc 0 1 -1000000000\naccepted 0 arcs 1'
-# 0 -> 2 -> 1, of NAND2 and MUX: one shrink
-expect 'BD\1\1\3CE\0\2\1CE\2\1\4EN\2\0' $'board 1 1 3\narc 0 1 4\naccepted 1 arcs 1'
+# 0 -> 2 -> 1, of NAND2, which drives an arc and takes 3 ticks, and MUX, which drives none and takes 2: one shrink
+expect 'BD\1\1\3CE\0\2\1CE\2\1\4EN\2\0' $'board 1 1 3\narc 0 1 5\naccepted 1 arcs 1'
+# an INV into an output that drives three arcs (1 x 8 / 5), of both marks, takes 2 ticks; the arcs into outputs that drive none keep theirs
+expect 'BD\1\4\5CE\0\1\0AR\1\2\7\0\0\0CE\1\3\0CE\1\4\4EN\4\0' $'board 1 4 5\narc 0 1 2\narc 1 2 7\narc 1 3 1\narc 1 4 2\naccepted 0 arcs 4'
 
 # it reads 65,536 bytes and no more: of 9 and 70,000 the other 4,473 are left
 left=$({ printf 'BD\1\1\2EN\0\0'; head -c 70000 /dev/zero; } | { "$thin" > /dev/null; wc -c; })

@@ -3,11 +3,12 @@
 use second::board::Board;
 
 /// Boards of 90 vertices.
-pub const NAMES: [&str; 8] =
-    ["dense", "ones", "layered", "sparse", "ladder", "fans", "rounds", FULLEST];
+pub const NAMES: [&str; 9] =
+    ["dense", "ones", "layered", "sparse", "ladder", "fans", "rounds", FULLEST, CELLS];
 
-/// The one with the most arcs that a board can have.
+/// The one with the most arcs that a board can have, and the same with a cell for each arc.
 pub const FULLEST: &str = "full";
+pub const CELLS: &str = "cells";
 
 /// The board of a name, or a smaller one, as `dense30`.
 pub fn board(name: &str) -> Option<(Board, Vec<i32>)> {
@@ -25,9 +26,24 @@ pub fn board(name: &str) -> Option<(Board, Vec<i32>)> {
         "ladder" => Some(ladder(vertices)),
         "fans" => Some(fans(vertices)),
         "rounds" => Some(rounds(vertices)),
-        "full" => Some(full(&mut random, vertices)),
+        FULLEST | CELLS => Some(full(&mut random, vertices)),
         _ => None,
     }
+}
+
+/// The file of a board whose arcs are all cells, of each code in turn.
+pub fn file_of_cells(board: &Board, table: &[i32]) -> Vec<u8> {
+    let mut file = vec![b'B', b'D', board.inputs as u8, board.outputs as u8, board.vertices as u8];
+    let mut count = 0u16;
+    for u in 0..board.vertices {
+        for (v, _) in board.arcs_out(table, u) {
+            file.extend([b'C', b'E', u as u8, v as u8, (count % 5) as u8]);
+            count += 1;
+        }
+    }
+    file.extend(b"EN");
+    file.extend(count.to_le_bytes());
+    file
 }
 
 fn sized(inputs: usize, outputs: usize, vertices: usize) -> (Board, Vec<i32>) {

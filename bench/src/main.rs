@@ -47,6 +47,9 @@ fn lent(name: &str) -> Result<Lent, String> {
     let written = second::file::write(sizes, &table, table.len(), &mut file)
         .map_err(|number| format!("{name}: {number}"))?;
     file.truncate(written as usize);
+    if name == boards::CELLS {
+        file = boards::file_of_cells(&board, &table);
+    }
     Ok(Lent {
         sizes,
         scratch: vec![0; table.len()],
@@ -90,9 +93,9 @@ fn times() -> Result<(), String> {
     Ok(())
 }
 
-/// Reading is measured on the fullest file, the other calls on the other boards.
+/// Reading is measured on the fullest files, the other calls on the other boards.
 fn is_measured(board: &str, call: &str) -> bool {
-    (board == boards::FULLEST) == (call == "read")
+    [boards::FULLEST, boards::CELLS].contains(&board) == (call == "read")
 }
 
 /// Both sides answer the same and leave the same in the table and in the lists of answers.

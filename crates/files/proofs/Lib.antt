@@ -1,5 +1,8 @@
+pub mod Leading
 pub mod Turning
 pub mod Scanning
+pub mod Counting
+pub mod CellLoads
 pub mod TableGraphs
 pub mod NextArcs
 pub mod PlacingArcs

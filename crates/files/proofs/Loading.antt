@@ -16,7 +16,7 @@ use Rattle.timing.specs.Checks.{arcsChecked}
 use Rattle.timing.proofs.Checks.{arcs-accepted}
 use Rattle.timing.proofs.Verdict.{then-accepted}
 use Rattle.timing.proofs.Table.{graphOf-withGraph, length-withGraph, drop-withGraph}
-use Rattle.format.specs.Reading.{Reading, stopped, got, placed, BoardSizes, opened, recordsFrom, arcsFrom, noArcs, fileGraph, fileChecked, arcsRead, readCall, graphRead, tableRead}
+use Rattle.format.specs.Reading.{Reading, stopped, got, placed, BoardSizes, opened, recordsFrom, arcsFrom, fileLoads, withRecord, noArcs, fileGraph, fileChecked, arcsRead, readCall, graphRead, tableRead}
 use Rattle.paths.specs.declared.board.Board.{Board}
 use Rattle.paths.specs.declared.board.Made.{Made}
 use Rattle.paths.specs.declared.board.Made.the-variants as M
@@ -24,6 +24,8 @@ use Rattle.paths.specs.Board.{boardMeaning, Lent, graphIn}
 use Rattle.paths.specs.Checked.{ArcsChecking}
 use Rattle.files.specs.declared.scan.Scanned.{Scanned}
 use Rattle.files.specs.declared.scan.Scanned.the-variants as S
+use Rattle.files.specs.Loads.{loadsOf}
+use Rattle.files.specs.Place.{allPlaced}
 use Rattle.files.specs.Scan.{scanMeaning}
 use Rattle.files.specs.Read.{sizesOf, passed, Loads}
 use Rattle.files.proofs.Readings.{next-on, next-off}
@@ -46,8 +48,8 @@ blank-lent b t x h e = record { sized = h .sized; room = omega (arith, h .room, 
 
 -- ---- the arcs, in a table without arcs, then 5 and 6
 
-module _ (b : Board) (s : List ℕ) (t t₁ : List ℤ) (o : List ℕ) (empty : graphIn b t ≡ noArcs)
-    (graph : graphIn b t₁ ≡ arcsFrom (length s) (b .vertices) s 5 (graphIn b t)) (table : t₁ ≡ withGraph (b .vertices) (arcsFrom (length s) (b .vertices) s 5 (graphIn b t)) t)
+module _ (b : Board) (s l : List ℕ) (t t₁ : List ℤ) (o : List ℕ) (loads : loadsOf l ≡ fileLoads (b .vertices) s) (empty : graphIn b t ≡ noArcs)
+    (graph : graphIn b t₁ ≡ allPlaced (b .vertices) s (loadsOf l) t) (table : t₁ ≡ withGraph (b .vertices) (allPlaced (b .vertices) s (loadsOf l) t) t)
     (r : Made) (said : ArcsChecking b t₁ o r) where
   abbrev m : ℕ
   m = b .inputs
@@ -55,9 +57,9 @@ module _ (b : Board) (s : List ℕ) (t t₁ : List ℤ) (o : List ℕ) (empty : 
   abbrev n : ℕ
   n = b .vertices
 
-  file-graph : arcsFrom (length s) (b .vertices) s 5 (graphIn b t) ≡ fileGraph (b .vertices) s
+  file-graph : allPlaced (b .vertices) s (loadsOf l) t ≡ fileGraph (b .vertices) s
   unfolding fileGraph
-  file-graph = ap (arcsFrom (length s) n s 5) empty
+  file-graph i = arcsFrom (withRecord (loads i)) (length s) n s 5 (empty i)
 
   answer : (arcsChecked (b .inputs) (b .vertices) (fileGraph (b .vertices) s) then λ _. accepted b) ≡ boardMeaning r
   answer = sym (said .answer ∙ ap (λ (g : Graph). arcsChecked m n g then λ _. accepted b) (graph ∙ file-graph))
@@ -73,7 +75,7 @@ module _ (b : Board) (s : List ℕ) (t t₁ : List ℤ) (o : List ℕ) (empty : 
   pub emptied : (x : Refusal) → r ≡ M.Refused x → (t₂ : List ℤ) → t₂ ≡ withGraph (b .vertices) noArcs t₁ → Loads (b .vertices) (fileChecked (sizesOf b) s) t t₂ (S.Refused x 0)
   emptied x e t₂ q = record {
     answer = sym (ap passed found);
-    table = q ∙ ap (withGraph n noArcs) table ∙ written-over n noArcs (arcsFrom (length s) n s 5 (graphIn b t)) t ∙ ap (λ (y : Reading Graph). withGraph n (graphRead y) t) (sym found);
+    table = q ∙ ap (withGraph n noArcs) table ∙ written-over n noArcs (allPlaced n s (loadsOf l) t) t ∙ ap (λ (y : Reading Graph). withGraph n (graphRead y) t) (sym found);
   }
     where
       go : (v : Verdict Graph) → (v then λ _. accepted b) ≡ refused (number x) → placed 0 v ≡ stopped (number x) 0

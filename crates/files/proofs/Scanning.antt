@@ -5,12 +5,15 @@ use Prim.Native.Nat.{ℕ, zero, suc, _+_, _-_, _≤_}
 use native.Mathlib.Omega.{arith}
 use borrow.Author.Tests.{lt-leb}
 use lib.ListN.{length}
+use Rattle.timing.specs.declared.Refusal.{Refusal}
+use Rattle.timing.specs.Refusal.{number}
 use Rattle.format.specs.Records.{recordAt}
-use Rattle.format.specs.Reading.{recordsFrom}
+use Rattle.format.specs.Reading.{stopped, recordsFrom}
 use Rattle.files.specs.declared.scan.Cursor.{Cursor}
 use Rattle.files.specs.declared.scan.Turned.{Turned}
 use Rattle.files.specs.declared.scan.Turned.the-variants as T
-use Rattle.files.specs.Scan.{turnMeaning, foundSays, InFile, Turns}
+use Rattle.files.specs.declared.scan.Scanned.the-variants as S
+use Rattle.files.specs.Scan.{turnMeaning, foundSays, InFile, Turns, Scans}
 
 -- turns that are enough begin with the record at the cursor: where none is left, so is no byte
 one-turn : (turns N : ℕ) (s : List ℕ) (c : Cursor) → length s ≤ turns + c .at → recordsFrom turns N s (c .at) (c .low) (c .count) ≡ foundSays N s c (recordAt N s (c .at)) (recordsFrom (turns - 1) N s)
@@ -44,3 +47,7 @@ module _ {N : ℕ} {s : List ℕ} {c : Cursor} {r : Turned} (l : Left N s c) (t 
   still-left d e =
       let f = t .further d e in
       record { turns = l .turns - 1; enough = omega (arith, l .enough, f .0); whole = turn-says e; within = f .1 }
+
+-- a refusal says nothing of loads
+pub refused-scan : {N : ℕ} {s l : List ℕ} {x : Refusal} {p : ℕ} → stopped (number x) p ≡ recordsFrom (length s) N s 5 0 0 → Scans N s l (S.Refused x p)
+refused-scan e = record { answer = e; loads = λ q. absurd (let z : _≡_ {A = ℕ} 0 1 = cc in omega arith) }

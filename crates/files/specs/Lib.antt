@@ -1,3 +1,4 @@
+pub mod Loads
 pub mod Scan
 pub mod Place
 pub mod Read

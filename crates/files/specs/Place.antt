@@ -1,9 +1,12 @@
--- Pass 2: what the record at an offset does to the graph.
+-- Pass 2: what the record at an offset does to the graph, and what all records do.
+use mathlib.Core.List.{List}
 use Prim.Native.Nat.{ℕ, _≤_, _<_}
+use lib.IntN.{ℤ}
+use lib.ListN.{length}
 use Rattle.graph.specs.Graph.{Graph}
 use Rattle.timing.specs.Limits.{absentCell}
-use Rattle.timing.specs.Table.{readCell}
-use Rattle.format.specs.Reading.{withArc}
+use Rattle.timing.specs.Table.{readCell, graphOf}
+use Rattle.format.specs.Reading.{arcsFrom, withArc, withRecord}
 use Rattle.files.specs.declared.place.Next.{Next}
 use Rattle.files.specs.declared.place.Next.the-variants as X
 
@@ -16,3 +19,7 @@ nextGraph X.Stop g onward = g
 abbrev pub NextWithin : ℕ → ℕ → ℕ → Next → Type 0
 NextWithin N size p (X.Arc u v d q) = (u < N) × (v < N) × (p < q) × (q ≤ size)
 NextWithin N size p X.Stop = Unit {0}
+
+-- the graph of table t with the arcs of file s
+abbrev pub allPlaced : ℕ → List ℕ → (ℕ → ℕ) → List ℤ → Graph
+allPlaced N s load t = arcsFrom (withRecord load) (length s) N s 5 (graphOf N t)

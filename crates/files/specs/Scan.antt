@@ -3,15 +3,17 @@ use mathlib.Core.Path.{_≡_}
 use mathlib.Core.List.{List}
 use Prim.Native.Nat.{ℕ, suc, _+_, _*_, _≤_, _<_}
 use lib.Dec.{leb}
+use lib.ListN.{length}
 use Rattle.timing.specs.declared.Refusal.the-variants.{NotRising}
 use Rattle.timing.specs.Refusal.{number, Verdict}
 use Rattle.format.specs.declared.Record.{Record}
-use Rattle.format.specs.Reading.{Reading, stopped, got, ask, placed, _next_, rising}
+use Rattle.format.specs.Reading.{Reading, stopped, got, ask, placed, _next_, rising, recordsFrom, fileLoads}
 use Rattle.files.specs.declared.scan.Cursor.{Cursor}
 use Rattle.files.specs.declared.scan.Turned.{Turned}
 use Rattle.files.specs.declared.scan.Turned.the-variants as T
 use Rattle.files.specs.declared.scan.Scanned.{Scanned}
 use Rattle.files.specs.declared.scan.Scanned.the-variants as S
+use Rattle.files.specs.Loads.{loadsOf}
 
 -- what the records from an offset on say, with the first cell that may follow and the arcs so far
 abbrev pub Onward : Type 0
@@ -47,3 +49,8 @@ pub record InFile (bytes : ℕ) (c : Cursor) : Type 0 where
 pub record Turns (bytes : ℕ) (c : Cursor) (v : Onward → Reading (Unit {0})) (r : Turned) : Type 0 where
   pub meaning : (onward : Onward) → turnMeaning r onward ≡ v onward
   pub further : (d : Cursor) → r ≡ T.On d → (c .at < d .at) × InFile bytes d
+
+-- r is what the records of file s say; where all are good, l has their loads
+pub record Scans (N : ℕ) (s l : List ℕ) (r : Scanned) : Type 0 where
+  pub answer : scanMeaning r ≡ recordsFrom (length s) N s 5 0 0
+  pub loads : r ≡ S.Done → loadsOf l ≡ fileLoads N s

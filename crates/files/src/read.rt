@@ -1,5 +1,6 @@
 // Reading a board file into a lent table.
 use crate::answer::Read;
+use crate::loads;
 use crate::place;
 use crate::scan;
 use crate::scan::Scanned;
@@ -14,8 +15,9 @@ ghost use mathlib.Core.Path.{_≡_};
 ghost use Prim.Native.Nat.{_≤_};
 ghost use lib.ListN.{length};
 ghost use Rattle.laws.specs.Lent.{was};
-ghost use Rattle.format.specs.Reading.{header, opened, noArcs, fileChecked, arcsRead, readCall, tableRead};
+ghost use Rattle.format.specs.Reading.{header, opened, fileLoads, noArcs, fileChecked, arcsRead, readCall, tableRead};
 ghost use Rattle.paths.specs.Board.{Lent, graphIn};
+ghost use Rattle.files.specs.Loads.{loadsOf};
 ghost use Rattle.files.specs.Read.{sizesOf, readMeaning, headerMeaning, Opens, Loads};
 
 // What the first record says.
@@ -61,14 +63,16 @@ fn open(bytes: &[u8], table: &[i32], scratch: usize) -> Made
     }
 }
 
-// The arcs of records that have been checked, in a table without arcs.
-fn fill(board: Board, bytes: &[u8], table: &mut [i32]) -> Scanned
+// The arcs of records that have been checked and have these loads, in a table without arcs.
+fn fill(board: Board, bytes: &[u8], loads: &[u8], table: &mut [i32]) -> Scanned
     requires { ⌜ Lent board (now table) ⌝ }
     requires { ⌜ 5 ≤ length (now bytes) ⌝ }
+    requires { ⌜ board .vertices ≤ length (now loads) ⌝ }
+    requires { ⌜ loadsOf (now loads) ≡ fileLoads (board .vertices) (now bytes) ⌝ }
     requires { ⌜ graphIn board (now table) ≡ noArcs ⌝ }
     ensures { λ r. ⌜ Loads (board .vertices) (fileChecked (sizesOf board) (was bytes)) (was table) (now (table .exit)) r ⌝ }
 {
-    place::place(bytes, board.vertices, table);
+    place::place(bytes, board.vertices, loads, table);
     let mut order = room::vertex_bytes();
     let checked = checks::arcs_checked(board, table, &mut order);
     match checked {
@@ -88,9 +92,10 @@ fn load(board: Board, bytes: &[u8], table: &mut [i32]) -> Scanned
 {
     let n = board.vertices;
     place::blank(table, n);
-    let scanned = scan::scan(bytes, n);
+    let mut loads = loads::none();
+    let scanned = scan::scan(bytes, n, &mut loads);
     if let Scanned::Done = scanned {
-        return fill(board, bytes, table);
+        return fill(board, bytes, &loads, table);
     }
     scanned
 }

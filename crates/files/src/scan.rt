@@ -1,4 +1,4 @@
-// Pass 1: every record is checked, nothing is written.
+// Pass 1: every record is checked and counted by its source; the table stays.
 use format::Record;
 use records::parse;
 use records::parse::Found;
@@ -10,9 +10,10 @@ ghost use Rattle.laws.specs.Lent.{was};
 ghost use Rattle.timing.specs.Limits.{maxVertices};
 ghost use Rattle.format.specs.declared.Record.the-variants.{End};
 ghost use Rattle.format.specs.Records.{recordAt};
-ghost use Rattle.format.specs.Reading.{recordsFrom};
+ghost use Rattle.format.specs.Reading.{noLoads};
 ghost use Rattle.records.specs.Records.{LegalRecord};
-ghost use Rattle.files.specs.Scan.{InFile, Turns, arcSays, recordSays, foundSays, scanMeaning};
+ghost use Rattle.files.specs.Loads.{loadsOf};
+ghost use Rattle.files.specs.Scan.{InFile, Turns, Scans, arcSays, recordSays, foundSays};
 
 // Where the next record stands, the first cell that its arc may have, and the arcs so far.
 pub struct Cursor {
@@ -94,11 +95,13 @@ fn turn(bytes: &[u8], n: usize, cursor: Cursor) -> Turned
     }
 }
 
-// The records of a file of n vertices, from the one after the header on.
-pub fn scan(bytes: &[u8], n: usize) -> Scanned
+// The records of a file of n vertices, from the one after the header on; where all are good, `loads` then has the load of each vertex.
+pub fn scan(bytes: &[u8], n: usize, loads: &mut [u8]) -> Scanned
     requires { ⌜ 5 ≤ length (now bytes) ⌝ }
     requires { ⌜ n ≤ maxVertices ⌝ }
-    ensures { λ r. ⌜ scanMeaning r ≡ recordsFrom (length (was bytes)) n (was bytes) 5 0 0 ⌝ }
+    requires { ⌜ n ≤ length (now loads) ⌝ }
+    requires { ⌜ loadsOf (now loads) ≡ noLoads ⌝ }
+    ensures { λ r. ⌜ Scans n (was bytes) (now (loads .exit)) r ⌝ }
 {
     let mut cursor = Cursor {
         at: 5,
@@ -109,6 +112,8 @@ pub fn scan(bytes: &[u8], n: usize) -> Scanned
         let turned = turn(bytes, n, cursor);
         match turned {
             Turned::On(after) => {
+                let u = parse::byte(bytes, cursor.at + 2);
+                loads[u] += 1;
                 cursor = after;
             }
             Turned::Done => {

@@ -24,7 +24,7 @@ use Rattle.codec.proofs.Patterns.{pattern-below, twos-pattern}
 use Rattle.format.specs.declared.Record.the-variants as R
 use Rattle.format.specs.Records.{markAt, recordAt}
 use Rattle.format.specs.Arcs.{Arc}
-use Rattle.format.specs.Reading.{got, recordsFrom, withArc, arcsFrom}
+use Rattle.format.specs.Reading.{got, recordsFrom, arcsFrom, withArc, withRecord}
 use Rattle.format.specs.Writing.{arcRecord, endRecord, arcRecords}
 use Rattle.format.proofs.Rising.{Rising, placeAll}
 
@@ -144,12 +144,13 @@ module _ (N : ℕ) (s : List ℕ) (total : ℕ) (few : total < 256 ^ 2) where
       simp (r, le-leb low (N * a .from + a .to) (h .3))
       (ap (λ (q : ℕ). recordsFrom turns N s q (suc (N * a .from + a .to)) (suc count)) (sym (k .1)) ∙ records-read as′ (pre ++ arcRecord a) (suc (N * a .from + a .to)) (suc count) turns (k .0) (h .4) (omega (arith, c)) (omega (arith, l)))
 
-  pub arcs-read : (as′ : List Arc) (pre : List ℕ) (low turns : ℕ) (g : Graph) → Left pre as′ → Rising N low as′ → length as′ < turns → arcsFrom turns N s (length pre) g ≡ placeAll as′ g
+  -- an AR has its own delay, whatever the loads
+  pub arcs-read : (load : ℕ → ℕ) (as′ : List Arc) (pre : List ℕ) (low turns : ℕ) (g : Graph) → Left pre as′ → Rising N low as′ → length as′ < turns → arcsFrom (withRecord load) turns N s (length pre) g ≡ placeAll as′ g
   unfolding arcsFrom arcRecords
-  arcs-read as′ pre low zero g e h l = absurd (omega arith)
-  arcs-read [] pre low (suc turns) g e h l = simp (end-read N s pre total e few .0)
-  arcs-read (a ∷ as′) pre low (suc turns) g e h l =
+  arcs-read load as′ pre low zero g e h l = absurd (omega arith)
+  arcs-read load [] pre low (suc turns) g e h l = simp (end-read N s pre total e few .0)
+  arcs-read load (a ∷ as′) pre low (suc turns) g e h l =
       let r = arc-read N s pre a (arcRecords as′ ++ endRecord total) (here pre a as′ e) (h .0) (h .1) (h .2) in
       let k = onward pre a as′ e in
       simp r
-      (ap (λ (q : ℕ). arcsFrom turns N s q (withArc (a .from) (a .to) (at (a .delay)) g)) (sym (k .1)) ∙ arcs-read as′ (pre ++ arcRecord a) (suc (N * a .from + a .to)) turns (withArc (a .from) (a .to) (at (a .delay)) g) (k .0) (h .4) (omega (arith, l)))
+      (ap (λ (q : ℕ). arcsFrom (withRecord load) turns N s q (withArc (a .from) (a .to) (at (a .delay)) g)) (sym (k .1)) ∙ arcs-read load as′ (pre ++ arcRecord a) (suc (N * a .from + a .to)) turns (withArc (a .from) (a .to) (at (a .delay)) g) (k .0) (h .4) (omega (arith, l)))

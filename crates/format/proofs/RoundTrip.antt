@@ -28,7 +28,7 @@ use Rattle.laws.specs.Lists.{tabulate}
 use Rattle.codec.specs.Bytes.{byteOf, pattern}
 use Rattle.format.specs.Records.{markAt}
 use Rattle.format.specs.Arcs.{Arc, arcIn, rowArcs, arcsBetween, arcsOf}
-use Rattle.format.specs.Reading.{got, BoardSizes, sizes, header, opened, recordsFrom, noArcs, fileGraph, arcsRead, readCall, tableRead}
+use Rattle.format.specs.Reading.{got, BoardSizes, sizes, header, opened, recordsFrom, fileLoads, noArcs, fileGraph, arcsRead, readCall, tableRead}
 use Rattle.format.specs.Writing.{boardRecord, arcRecords, endRecord, fileOf, Written, writeCall}
 use Rattle.format.specs.RoundTrip.{RoundTrip}
 use Rattle.format.proofs.Rising.{rising-arcs, place-arcs}
@@ -83,7 +83,7 @@ module _ (m n N : ℕ) (t : List ℤ) (ok : T (passes m n N t)) where
 
   graph-good : fileGraph N (fileOf m n N (graphOf N t)) ≡ graphOf N t
   unfolding fileGraph fileOf
-  graph-good = arcs-read N s (length (arcsOf N g)) few (arcsOf N g) (boardRecord m n N) 0 (length s) noArcs refl (rising-arcs N g (sound-fits (good .sound))) long ∙ place-arcs N g (sound-within (good .sound))
+  graph-good = arcs-read N s (length (arcsOf N g)) few (fileLoads N s) (arcsOf N g) (boardRecord m n N) 0 (length s) noArcs refl (rising-arcs N g (sound-fits (good .sound))) long ∙ place-arcs N g (sound-within (good .sound))
 
   header-good : header (fileOf m n N (graphOf N t)) ≡ got size
   unfolding header fileOf markAt

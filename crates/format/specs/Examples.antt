@@ -3,7 +3,9 @@ use mathlib.Core.List.{List, [], _∷_, _++_}
 use Prim.Native.Nat.{ℕ}
 use lib.IntN.{pos}
 use Rattle.laws.specs.Lists.{tabulate}
-use Rattle.format.specs.Reading.{Reading, stopped, got, BoardSizes, sizes, readCall}
+use Rattle.graph.specs.Delay.{Delay, absent, at}
+use Rattle.format.specs.Records.{cellDelay, valueOf}
+use Rattle.format.specs.Reading.{Reading, stopped, got, BoardSizes, sizes, fileGraph, readCall}
 
 -- read into 25 cells, with as many of scratch
 abbrev pub reads : List ℕ → Reading BoardSizes
@@ -55,4 +57,27 @@ files =
     ∷ (reads (BD 1 1 3 ++ CE 2 2 0 ++ EN 1 0 ++ (0 ∷ [])), stopped 20 14)
     ∷ (reads (BD 1 1 3 ++ CE 0 0 0 ++ CE 2 2 0 ++ EN 2 0), stopped 5 0)
     ∷ (reads (BD 1 1 3 ++ CE 2 2 4 ++ EN 1 0), stopped 6 0)
+    ∷ []
+
+-- ---- cells under load (ticket 2 of document 02)
+
+-- cells before and after the records that they count, of both marks: 0→3 before 3→2 and 3→4, 3→4 before 4→1 and 4→2, 4→2 after 2→1
+abbrev loaded : List ℕ
+loaded = BD 1 1 5 ++ CE 0 3 0 ++ AR 2 1 7 0 0 0 ++ AR 3 2 9 0 0 0 ++ CE 3 4 1 ++ CE 4 1 4 ++ CE 4 2 1 ++ EN 6 0
+
+unfoldable pub delays : List (Delay × Delay)
+delays =
+    -- INV with f = 2, 0 and 5; NAND2 with f = 1; a code that has no ticks
+    (valueOf (cellDelay 0 2), at (pos 2))
+    ∷ (valueOf (cellDelay 0 0), at (pos 1))
+    ∷ (valueOf (cellDelay 0 5), at (pos 2))
+    ∷ (valueOf (cellDelay 1 1), at (pos 3))
+    ∷ (valueOf (cellDelay 5 1), absent)
+    -- INV before an AR and a CE; NAND2 before two CE; NAND2 after an AR
+    ∷ (fileGraph 5 loaded 0 3, at (pos 2))
+    ∷ (fileGraph 5 loaded 3 4, at (pos 3))
+    ∷ (fileGraph 5 loaded 4 2, at (pos 3))
+    -- MUX into a vertex that drives nothing; an AR into one that drives an arc
+    ∷ (fileGraph 5 loaded 4 1, at (pos 2))
+    ∷ (fileGraph 5 loaded 3 2, at (pos 9))
     ∷ []

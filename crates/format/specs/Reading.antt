@@ -78,26 +78,50 @@ unfoldable pub recordsFrom : ℕ → ℕ → List ℕ → ℕ → ℕ → ℕ �
 recordsFrom zero N s p low count = stopped (number FileEnds) p
 recordsFrom (suc turns) N s p low count = placed p (recordAt N s p) next rising N s p low count (recordsFrom turns N s)
 
--- the arcs of the records, placed one after another
+-- the arcs' records from p on, worked into x one after another by f; the first by a verdict on what stands at p
+module _ {A : Type 0} (f : Record → A → A) where
+  abbrev pub arcOf : ℕ → A → (ℕ → A → A) → Verdict Record → A
+  arcOf p x onward (refused r) = x
+  arcOf p x onward (accepted (R.Arc u v d)) = onward (p + 8) (f (R.Arc u v d) x)
+  arcOf p x onward (accepted (R.Cell u v c)) = onward (p + 5) (f (R.Cell u v c) x)
+  arcOf p x onward (accepted (R.End n)) = x
+
+  unfoldable pub arcsFrom : ℕ → ℕ → List ℕ → ℕ → A → A
+  arcsFrom zero N s p x = x
+  arcsFrom (suc turns) N s p x = arcOf p x (arcsFrom turns N s) (recordAt N s p)
+
+-- ---- loads: how many of the file's records leave each vertex, AR and CE alike
+
+abbrev pub leaves : Record → ℕ → Bool
+leaves (R.Arc u v d) w = eqb u w
+leaves (R.Cell u v c) w = eqb u w
+leaves (R.End n) w = false
+
+abbrev pub counted : Record → (ℕ → ℕ) → ℕ → ℕ
+counted r load w = cond (leaves r w) (suc (load w)) (load w)
+
+abbrev pub noLoads : ℕ → ℕ
+noLoads w = 0
+
+unfoldable pub fileLoads : ℕ → List ℕ → ℕ → ℕ
+fileLoads N s = arcsFrom counted (length s) N s 5 noLoads
+
+-- ---- the arcs, placed one after another
+
 abbrev pub withArc : ℕ → ℕ → Delay → Graph → Graph
 withArc u v d g x y = cond (eqb x u && eqb y v) d (g x y)
 
-abbrev pub arcOf : ℕ → Graph → (ℕ → Graph → Graph) → Verdict Record → Graph
-arcOf p g onward (refused r) = g
-arcOf p g onward (accepted (R.Arc u v d)) = onward (p + 8) (withArc u v (delayOf (R.Arc u v d)) g)
-arcOf p g onward (accepted (R.Cell u v c)) = onward (p + 5) (withArc u v (delayOf (R.Cell u v c)) g)
-arcOf p g onward (accepted (R.End n)) = g
-
-unfoldable pub arcsFrom : ℕ → ℕ → List ℕ → ℕ → Graph → Graph
-arcsFrom zero N s p g = g
-arcsFrom (suc turns) N s p g = arcOf p g (arcsFrom turns N s) (recordAt N s p)
+abbrev pub withRecord : (ℕ → ℕ) → Record → Graph → Graph
+withRecord load (R.Arc u v d) g = withArc u v (delayOf load (R.Arc u v d)) g
+withRecord load (R.Cell u v c) g = withArc u v (delayOf load (R.Cell u v c)) g
+withRecord load (R.End n) g = g
 
 -- no arcs: cells that no record names are absent
 abbrev pub noArcs : Graph
 noArcs u v = absent
 
 unfoldable pub fileGraph : ℕ → List ℕ → Graph
-fileGraph N s = arcsFrom (length s) N s 5 noArcs
+fileGraph N s = arcsFrom (withRecord (fileLoads N s)) (length s) N s 5 noArcs
 
 -- 5 and 6 of its arcs, at offset 0
 abbrev pub fileChecked : BoardSizes → List ℕ → Reading Graph

@@ -1,9 +1,9 @@
 -- The records of a board file.
 use mathlib.Core.Bool.{Bool, cond, _&&_}
 use mathlib.Core.List.{List, [], _∷_}
-use Prim.Native.Nat.{ℕ, _+_}
+use Prim.Native.Nat.{ℕ, suc, _+_, _*_, _/_}
 use lib.Dec.{leb, ltb, eqb}
-use lib.IntN.{ℤ, pos}
+use lib.IntN.{ℤ, pos, negsuc, negℤ}
 use lib.ListN.{length, getD}
 use Rattle.graph.specs.Delay.{Delay, absent, at}
 use Rattle.timing.specs.declared.Refusal.the-variants.{FileEnds, WrongMark, WrongField}
@@ -50,15 +50,25 @@ cellTicks =
 unfoldable pub ticksOf : ℕ → Verdict ℤ
 ticksOf c = require (ltb c (length cellTicks)) WrongField (accepted (pos (getD cellTicks c 0)))
 
+-- d × (5 + f) / 5, rounded up (ticket 2 of document 02)
+abbrev pub underLoad : ℤ → ℕ → ℤ
+underLoad (pos d) f = pos ((d * (5 + f) + 4) / 5)
+underLoad (negsuc d) f = negℤ (pos (suc d * (5 + f) / 5))
+
+-- a cell's delay, from its code and from f, its load
+unfoldable pub cellDelay : ℕ → ℕ → Verdict ℤ
+cellDelay c f = ticksOf c then λ d. accepted (underLoad d f)
+
 -- an arc's delay: what later requests change
 abbrev pub valueOf : Verdict ℤ → Delay
 valueOf (refused r) = absent
 valueOf (accepted d) = at d
 
-abbrev pub delayOf : Record → Delay
-delayOf (R.Arc u v d) = at d
-delayOf (R.Cell u v c) = valueOf (ticksOf c)
-delayOf (R.End n) = absent
+-- `load` has a cell's load by its target
+abbrev pub delayOf : (ℕ → ℕ) → Record → Delay
+delayOf load (R.Arc u v d) = at d
+delayOf load (R.Cell u v c) = valueOf (cellDelay c (load v))
+delayOf load (R.End n) = absent
 
 -- the record at p in a file of N vertices: the mark first, then the body's length, then its fields
 module _ (N : ℕ) (s : List ℕ) (p : ℕ) where

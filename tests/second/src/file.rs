@@ -41,20 +41,37 @@ fn read_sizes(
 fn read_arcs(board: &Board, records: &mut Records, table: &mut [i32]) -> Result<(), RefusedRead> {
     let mut last = None;
     let mut count = 0;
+    let mut leaving = [0; Board::MOST_VERTICES];
+    let mut cells = Vec::new();
     loop {
         let start = records.at;
         let record =
             read_arc(board, records, last, count).map_err(|number| refused(number, start))?;
         let Some((from, to, delay)) = record else { break };
-        table[board.vertices * from + to] = delay;
+        match delay {
+            Delay::Stated(delay) => table[board.vertices * from + to] = delay,
+            Delay::Cell(ticks) => cells.push((from, to, ticks)),
+        }
+        leaving[from] += 1;
         last = Some((from, to));
         count += 1;
     }
     if records.at < records.bytes.len() {
         return Err(refused(refusal::BYTES_AFTER_END, records.at));
     }
+    // the loads are known only now
+    for (from, to, ticks) in cells {
+        table[board.vertices * from + to] = under_load(ticks, leaving[to]);
+    }
     board.check_arcs(table).map_err(|number| refused(number, 0))?;
     Ok(())
+}
+
+/// The delay of an arc, as its record gives it.
+enum Delay {
+    Stated(i32),
+    /// A cell's ticks, its load still to come.
+    Cell(u32),
 }
 
 /// One `AR` or `CE` record as an arc; none for `EN`.
@@ -63,16 +80,16 @@ fn read_arc(
     records: &mut Records,
     last: Option<(usize, usize)>,
     count: usize,
-) -> Result<Option<(usize, usize, i32)>, Refusal> {
+) -> Result<Option<(usize, usize, Delay)>, Refusal> {
     let (from, to, delay) = match &records.mark()? {
         b"AR" => {
             let [from, to, delay @ ..] = records.body::<6>()?;
             let delay = i32::from_le_bytes(delay);
-            (from, to, Board::in_range(delay.into()).then_some(delay))
+            (from, to, Board::in_range(delay.into()).then_some(Delay::Stated(delay)))
         }
         b"CE" => {
             let [from, to, code] = records.body()?;
-            (from, to, cell_delay(code))
+            (from, to, cell_ticks(code).map(Delay::Cell))
         }
         b"EN" => {
             let stated = u16::from_le_bytes(records.body()?);
@@ -91,13 +108,18 @@ fn read_arc(
     Ok(Some((from, to, delay)))
 }
 
-/// The delay of a cell, by its code.
-fn cell_delay(code: u8) -> Option<i32> {
+/// The ticks of a cell without load, by its code.
+fn cell_ticks(code: u8) -> Option<u32> {
     match code {
         0 => Some(1),     // INV
         1..=4 => Some(2), // NAND2, AND, OR, MUX
         5..=255 => None,
     }
+}
+
+/// A cell's delay: a fifth more for each record that leaves its target, rounded up.
+fn under_load(ticks: u32, load: u32) -> i32 {
+    (ticks * (5 + load)).div_ceil(5) as i32
 }
 
 /// The bytes of a file, taken record by record.

@@ -1,5 +1,5 @@
-//! Document 01's boards for checking, one for the run, and 003's example for the margins, on the second
-//! implementation.
+//! Document 01's boards for checking, one for the run, 003's example for the margins, and ticket 2's
+//! cells under load, on the second implementation.
 
 use second::board::{Board, Sizes};
 use second::delays::{MOST_TIME, NONE};
@@ -33,6 +33,27 @@ fn margins(
     let lent = Answers { arrival, required, margin };
     let answer = margins::margins(sizes, table, SCRATCH, at_inputs, at_outputs, lent);
     (answer, answers)
+}
+
+fn arc(u: u8, v: u8, delay: i32) -> Vec<u8> {
+    [b"AR", &[u, v][..], &delay.to_le_bytes()].concat()
+}
+
+fn cell(u: u8, v: u8, code: u8) -> Vec<u8> {
+    vec![b'C', b'E', u, v, code]
+}
+
+/// A file with a right end.
+fn file(inputs: u8, outputs: u8, vertices: u8, records: &[Vec<u8>]) -> Vec<u8> {
+    let count = (records.len() as u16).to_le_bytes();
+    [b"BD", &[inputs, outputs, vertices][..], &records.concat(), b"EN", &count].concat()
+}
+
+/// The table that a file of so many vertices is read to.
+fn table_of(file: &[u8], vertices: usize) -> Vec<i32> {
+    let mut cells = vec![9; vertices * vertices];
+    assert_eq!(read(file, &mut cells, SCRATCH).map(|sizes| sizes.vertices), Ok(vertices as u64));
+    cells
 }
 
 fn p2() -> Vec<i32> {
@@ -233,12 +254,95 @@ fn an_empty_file_ends_before_its_first_record() {
     assert_eq!(cells, [5; 4]);
 }
 
+/// Of a cell whose target has so many arcs to outputs.
+fn delay_under_load(code: u8, load: u8) -> i32 {
+    let arcs = (1..=load).map(|output| arc(7, output, 0));
+    let records: Vec<_> = [cell(0, 7, code)].into_iter().chain(arcs).collect();
+    table_of(&file(1, 6, 8, &records), 8)[7]
+}
+
+#[test]
+fn each_record_leaving_its_target_slows_a_cell_by_a_fifth() {
+    let inv = |load| delay_under_load(0, load);
+    assert_eq!([0, 1, 2, 5, 6].map(inv), [1, 2, 2, 2, 3]);
+    // NAND2, AND, OR, MUX
+    for code in 1..=4 {
+        let slower = |load| delay_under_load(code, load);
+        assert_eq!([0, 1, 2, 3, 4, 5, 6].map(slower), [2, 3, 3, 4, 4, 4, 5]);
+    }
+}
+
+/// On the fullest board vertex v leads to all higher ones.
+#[test]
+fn every_load_up_to_88_is_rounded_up() {
+    for (code, ticks) in [(0, 1), (1, 2), (2, 2), (3, 2), (4, 2)] {
+        let arcs_out = |u| (u + 1..90).map(move |v| cell(u, v, code));
+        let records: Vec<_> = (0..90).flat_map(arcs_out).collect();
+        let cells = table_of(&file(1, 1, 90, &records), 90);
+        for (u, v) in (0..90).flat_map(|u| (u + 1..90).map(move |v| (u, v))) {
+            let (delay, load) = (cells[90 * u + v], 89 - v as i32);
+            let fifths = ticks * (5 + load);
+            assert!(5 * (delay - 1) < fifths && fifths <= 5 * delay, "{delay} under load {load}");
+        }
+    }
+}
+
+/// 0→3 stands before the three records out of 3, 4→3 after them; 1→3 is an arc and keeps its delay.
+#[test]
+fn cells_and_arcs_count_before_and_after_a_cell() {
+    let records =
+        [cell(0, 3, 1), arc(1, 3, 2), arc(3, 2, -7), cell(3, 5, 4), arc(3, 6, 1), cell(4, 3, 1)];
+    let expected = table(7, &[(0, 3, 4), (1, 3, 2), (3, 2, -7), (3, 5, 2), (3, 6, 1), (4, 3, 4)]);
+    assert_eq!(table_of(&file(2, 1, 7, &records), 7), expected);
+}
+
+#[test]
+fn a_refused_cell_keeps_its_number_and_offset() {
+    let refused = |file: &[u8], number, offset| {
+        let mut cells = [5; 17];
+        assert_eq!(read(file, &mut cells, 16), Err(RefusedRead { number, offset }));
+        assert_eq!(cells[..16], [Board::ABSENT; 16]);
+        assert_eq!(cells[16], 5);
+    };
+    let (into, out) = (cell(0, 3, 1), [arc(3, 1, 7), cell(3, 2, 0)].concat());
+    let one = |odd: Vec<u8>| file(1, 2, 4, &[into.clone(), odd, out.clone()]);
+    refused(&one(cell(1, 3, 5)), 17, 10);
+    refused(&one(cell(1, 3, 255)), 17, 10);
+    refused(&one(cell(1, 4, 0)), 17, 10);
+    refused(&one(cell(4, 3, 0)), 17, 10);
+    refused(&one(cell(255, 255, 0)), 17, 10);
+    refused(&one(into.clone()), 18, 10);
+    refused(&one(cell(0, 2, 0)), 18, 10);
+    // after the cells
+    refused(&[&b"BD\x01\x02\x04"[..], &into, &out, b"EN\x02\x00"].concat(), 19, 23);
+    refused(&[&b"BD\x01\x02\x04"[..], &into, &out, b"EN\x03\x00x"].concat(), 20, 27);
+    refused(&[&b"BD\x01\x02\x04"[..], &into, &out, b"CE\x03\x03"].concat(), 15, 23);
+    refused(&file(1, 2, 4, &[into.clone(), cell(3, 0, 0)]), 5, 0);
+    refused(&file(1, 2, 4, &[into, cell(3, 3, 0)]), 6, 0);
+}
+
+/// A row of ninety records, the loop and the arc into the input among them, in which a cell has load 90.
+#[test]
+fn a_full_row_of_cells_is_refused() {
+    let full: Vec<_> = (0..90).map(|v| cell(89, v, 4)).collect();
+    for (records, number) in [(&full[..], 5), (&full[1..], 6)] {
+        let mut cells = vec![5; 90 * 90];
+        let refused = RefusedRead { number, offset: 0 };
+        assert_eq!(read(&file(1, 1, 90, records), &mut cells, SCRATCH), Err(refused));
+        assert!(cells.iter().all(|&cell| cell == Board::ABSENT));
+    }
+}
+
 #[test]
 fn thin_prints_the_example() {
-    let mut file = b"BD\x02\x01\x05".to_vec();
-    for (u, v, delay) in [(0, 3, 2), (1, 3, 1), (3, 2, 1), (3, 4, 1), (4, 2, 2)] {
-        file.extend([b'A', b'R', u, v, delay, 0, 0, 0]);
-    }
-    file.extend(b"EN\x05\x00");
+    let arcs = [(0, 3, 2), (1, 3, 1), (3, 2, 1), (3, 4, 1), (4, 2, 2)];
+    let file = file(2, 1, 5, &arcs.map(|(u, v, delay)| arc(u, v, delay)));
     assert_eq!(thin::thin(&file), "board 2 1 5\narc 0 2 5\narc 1 2 4\naccepted 3 arcs 2\n");
+}
+
+/// NAND2 drives MUX: 3 and 2.
+#[test]
+fn thin_adds_delays_under_load() {
+    let file = file(1, 1, 3, &[cell(0, 2, 1), cell(2, 1, 4)]);
+    assert_eq!(thin::thin(&file), "board 1 1 3\narc 0 1 5\naccepted 1 arcs 1\n");
 }

@@ -8,18 +8,18 @@ module _ (k : tie.After-arcs-checked) where
   p = k .before .before .before .before .before
 
   abbrev s : tie.Start
-  s = p .before .before .before
+  s = p .before .before .before .before
 
 returns : tie.Need-returns
 returns c =
     let k = c .before .before in
-    filled (s k .args .board) _ _ _ _ (s k .pre .1 .1) (p k .place .ensures .0) (p k .place .ensures .1) _ (k .arcs-checked .ensures) _ (c .enum-told .given .1)
+    filled (s k .args .board) _ (s k .args .loads .now) _ _ _ (s k .pre .1 .1 .1 .0) (s k .pre .1 .1 .1 .1) (p k .place .ensures .0) (p k .place .ensures .1) _ (k .arcs-checked .ensures) _ (c .enum-told .given .1)
 
 returns-2 : tie.Need-returns-2
 returns-2 c =
     let r = c .before .before .before .before in
     let k = r .before .before in
-    emptied (s k .args .board) _ _ _ _ (s k .pre .1 .1) (p k .place .ensures .0) (p k .place .ensures .1) _ (k .arcs-checked .ensures) _ (r .checked .given .1) _ (c .before .blank .ensures)
+    emptied (s k .args .board) _ (s k .args .loads .now) _ _ _ (s k .pre .1 .1 .1 .0) (s k .pre .1 .1 .1 .1) (p k .place .ensures .0) (p k .place .ensures .1) _ (k .arcs-checked .ensures) _ (r .checked .given .1) _ (c .before .blank .ensures)
 
 pub fill-spec : {M : Type 1} → statement M
 fill-spec =

@@ -82,6 +82,19 @@ impl Draft {
         (cell != Board::ABSENT).then_some(cell.into())
     }
 
+    /// Arcs that neither end in an input nor run against the order, so many in a hundred of all.
+    fn join(&mut self, rng: &mut Rng, density: usize) {
+        for first in 0..self.order.len() {
+            for second in first + 1..self.order.len() {
+                let (u, v) = (self.order[first], self.order[second]);
+                if v >= self.board.inputs && rng.chance(density) {
+                    let delay = self.delays.one(rng);
+                    self.put(u, v, delay);
+                }
+            }
+        }
+    }
+
     fn place(&self, v: usize) -> usize {
         self.order.iter().position(|&w| w == v).unwrap_or(0)
     }
@@ -278,15 +291,7 @@ pub fn table(rng: &mut Rng, board: Board) -> (Vec<i32>, Vec<Star>) {
     let delays = Delays::any(rng);
     let mut draft = Draft { board, order, table: vec![Board::ABSENT; board.cells()], delays };
     let density = rng.pick(&[0, 10, 25, 50, 50, 75, 100]);
-    for first in 0..used {
-        for second in first + 1..used {
-            let (u, v) = (draft.order[first], draft.order[second]);
-            if v >= board.inputs && rng.chance(density) {
-                let delay = draft.delays.one(rng);
-                draft.put(u, v, delay);
-            }
-        }
-    }
+    draft.join(rng, density);
     let mut stars = Vec::new();
     for _ in 0..rng.below(4) {
         match rng.below(9) {
@@ -299,6 +304,29 @@ pub fn table(rng: &mut Rng, board: Board) -> (Vec<i32>, Vec<Star>) {
         }
     }
     (draft.table, stars)
+}
+
+/// A board of up to `most` vertices, mostly so many and few of them inputs, whose table passes the
+/// checks and has many arcs, at times all that it can have.
+pub fn dense(rng: &mut Rng, most: usize) -> (Board, Vec<i32>) {
+    let vertices = if rng.chance(70) { most } else { most - rng.below(most / 3) };
+    let inputs = rng.pick(&[1, 1, 2, 1 + vertices / 4]);
+    // few, since a run tries all pairs of them
+    let outputs = 1 + rng.below(10);
+    let board = Board { inputs, outputs, vertices };
+    // arcs that all lead to higher numbers, to lower ones, or to any
+    let mut order: Vec<usize> = (0..vertices).collect();
+    match rng.below(4) {
+        0 => {}
+        1 => order.reverse(),
+        _ => rng.shuffle(&mut order),
+    }
+    order.sort_by_key(|&v| v >= inputs);
+    let delays = Delays::any(rng);
+    let mut draft = Draft { board, order, table: vec![Board::ABSENT; board.cells()], delays };
+    let density = rng.pick(&[40, 80, 100, 100]);
+    draft.join(rng, density);
+    (board, draft.table)
 }
 
 /// One cell that a table may not have, or an arc that may not be there.
@@ -353,12 +381,14 @@ pub fn lent(rng: &mut Rng) -> Lent {
     if rng.chance(4) {
         nonsense_sizes(rng, &mut sizes);
     }
-    let table_length = length(rng, board.cells());
+    // at times there is room for a file of any size
+    let room = if rng.chance(3) { Board::MOST_VERTICES.pow(2) } else { board.cells() };
+    let table_length = length(rng, room);
     // what stands after the board's cells doesn't matter
     cells.resize_with(table_length, || {
         rng.pick(&[0, 1, 5, i32::MAX, i32::MIN, i32::MIN + 1, 1_000_000_001])
     });
-    let scratch = length(rng, board.cells());
+    let scratch = length(rng, room);
     Lent { sizes, table: cells, scratch, stars }
 }
 

@@ -13,32 +13,58 @@ pub fn file(rng: &mut Rng, like: Option<Board>) -> Vec<u8> {
             (board, table)
         }
     };
+    let cells = rng.pick(&[0, 0, 30, 70, 100]);
+    let records = records(rng, board, &table, cells);
+    at_times_damaged(rng, board, records)
+}
+
+/// The bytes of a file with many cells, most of them under load, on a board of up to `most` vertices.
+pub fn loaded(rng: &mut Rng, most: usize) -> Vec<u8> {
+    let (board, mut table) = boards::dense(rng, most);
+    if rng.chance(30) {
+        fill_row(rng, board, &mut table);
+    }
+    let cells = rng.pick(&[50, 95, 100, 100]);
+    let records = records(rng, board, &table, cells);
+    if rng.chance(30) {
+        at_times_damaged(rng, board, records)
+    } else {
+        records.concat()
+    }
+}
+
+/// Arcs from one vertex to all, itself and the inputs included, or to all but one.
+fn fill_row(rng: &mut Rng, board: Board, table: &mut [i32]) {
+    let (u, other) = (rng.below(board.vertices), rng.below(board.vertices));
+    let row = board.row_mut(table, u);
+    row.fill(1);
+    if rng.chance(70) {
+        row[rng.pick(&[0, 0, u, other])] = Board::ABSENT;
+    }
+}
+
+/// The records of a table, so many in a hundred of its arcs as cells, of whatever delay.
+fn records(rng: &mut Rng, board: Board, table: &[i32], cells: usize) -> Vec<Vec<u8>> {
     let mut records =
         vec![vec![b'B', b'D', board.inputs as u8, board.outputs as u8, board.vertices as u8]];
-    // cell records where the delay is a cell's
-    let cells = rng.chance(60);
     for u in 0..board.vertices {
-        for (v, delay) in board.arcs_out(&table, u) {
-            let code = match delay {
-                1 => Some(0),
-                2 => Some(1 + rng.below(4) as u8),
-                _ => None,
-            };
-            match code {
-                Some(code) if cells && rng.chance(70) => {
-                    records.push(vec![b'C', b'E', u as u8, v as u8, code]);
-                }
-                _ => {
-                    let mut record = vec![b'A', b'R', u as u8, v as u8];
-                    record.extend(delay.to_le_bytes());
-                    records.push(record);
-                }
+        for (v, delay) in board.arcs_out(table, u) {
+            if rng.chance(cells) {
+                records.push(vec![b'C', b'E', u as u8, v as u8, rng.below(5) as u8]);
+            } else {
+                let mut record = vec![b'A', b'R', u as u8, v as u8];
+                record.extend(delay.to_le_bytes());
+                records.push(record);
             }
         }
     }
     let count = records.len() as u16 - 1;
     let [low, high] = count.to_le_bytes();
     records.push(vec![b'E', b'N', low, high]);
+    records
+}
+
+fn at_times_damaged(rng: &mut Rng, board: Board, mut records: Vec<Vec<u8>>) -> Vec<u8> {
     if rng.chance(55) {
         for _ in 0..1 + rng.below(2) {
             damage_records(rng, &mut records, board);

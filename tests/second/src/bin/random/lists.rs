@@ -7,6 +7,9 @@ use crate::rng::Rng;
 use second::board::{Board, Sizes};
 use second::delays;
 
+/// Boards of so many vertices have cells under a load of fifty and more.
+const LARGE: usize = 60;
+
 /// The most numbers that `replay` holds.
 const MOST_CELLS: usize = 8_200;
 const MOST_TIMES: usize = 100;
@@ -40,6 +43,10 @@ impl Maker<'_> {
                     return call;
                 }
             }
+        }
+        // where a large file fits, one is read often
+        if self.largest(table) >= LARGE && self.rng.chance(30) {
+            return self.one(11, table);
         }
         let kind = match self.rng.below(108) {
             0..=11 => 1,
@@ -86,7 +93,7 @@ impl Maker<'_> {
                 // a damaged table may have more arcs than any file
                 Call::Write { destination: self.length(right).min(32_900) }
             }
-            11 => self.read(board),
+            11 => self.read(board, self.largest(table)),
             _ => self.margins(board),
         }
     }
@@ -94,6 +101,11 @@ impl Maker<'_> {
     /// The sizes as a board, where the table has its cells.
     fn board(&self, table: &[i32]) -> Option<Board> {
         Board::new(self.sizes).ok().filter(|board| table.len() >= board.cells())
+    }
+
+    /// The most vertices of a file that fits what is lent.
+    fn largest(&self, table: &[i32]) -> usize {
+        table.len().min(self.scratch).isqrt().min(Board::MOST_VERTICES)
     }
 
     fn length(&mut self, right: usize) -> usize {
@@ -284,9 +296,13 @@ impl Maker<'_> {
         ]);
     }
 
-    fn read(&mut self, board: Option<Board>) -> Call {
-        let like = board.filter(|_| self.rng.chance(60));
-        let mut bytes = files::file(self.rng, like);
+    fn read(&mut self, board: Option<Board>, largest: usize) -> Call {
+        let mut bytes = if largest >= LARGE && self.rng.chance(70) {
+            files::loaded(self.rng, largest)
+        } else {
+            let like = board.filter(|_| self.rng.chance(60));
+            files::file(self.rng, like)
+        };
         bytes.truncate(usize::from(u16::MAX));
         Call::Read { bytes }
     }
@@ -319,7 +335,11 @@ pub fn calls(rng: &mut Rng, table: usize) -> usize {
 
 /// The bytes that `thin` gets: a file, at times with more than it reads.
 pub fn thin_input(rng: &mut Rng) -> Vec<u8> {
-    let mut bytes = files::file(rng, None);
+    let mut bytes = if rng.chance(3) {
+        files::loaded(rng, Board::MOST_VERTICES)
+    } else {
+        files::file(rng, None)
+    };
     if rng.chance(1) {
         let long = boards::length(rng, 65_536);
         bytes.resize_with(long.max(bytes.len()), || rng.next() as u8);

@@ -15,6 +15,7 @@ mod files;
 mod host;
 mod ladders;
 mod lists;
+mod loads;
 mod programs;
 mod rng;
 mod tally;
@@ -176,7 +177,8 @@ fn one_list(
         if show {
             println!("call {place}: {call:?}: {:?}", performed.answer);
         }
-        if let Call::Read { .. } = call {
+        if let Call::Read { bytes } = &call {
+            tally.count_file(tally::READ, bytes, performed.answer.number());
             // another table, another claim
             claim = Claim::new(&mut rng, sizes, &table);
         } else if let Some(claim) = &mut claim {
@@ -236,7 +238,9 @@ fn check_thin(
         Ok(ran.outcome)
     };
     let expected = thin::thin_by(run, bytes);
-    tally.count(tally::THIN, refusal_in(&expected));
+    let number = refusal_in(&expected);
+    tally.count(tally::THIN, number);
+    tally.count_file(tally::THIN, bytes, number);
     let output = programs.thin.output(bytes, spool)?;
     if output != expected.as_bytes() {
         let got = String::from_utf8_lossy(&output);

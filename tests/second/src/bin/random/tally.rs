@@ -1,6 +1,7 @@
 //! How often each call was accepted, and refused by which number; how many rounds the runs took; how
-//! many margins were present and absent.
+//! many margins were present and absent; which loads the cells of files had.
 
+use crate::loads::{self, Cell};
 use second::delays::NONE;
 
 /// A call, and the numbers by which it can be refused.
@@ -34,6 +35,7 @@ pub const KINDS: [Kind; 17] = [
     kind("C prune", &[1, 2, 3, 4, 5, 6, 13]),
 ];
 
+pub const READ: usize = 11;
 pub const THIN: usize = 13;
 pub const C_MATRIX: usize = 14;
 #[cfg(feature = "host")]
@@ -53,11 +55,37 @@ const LEAST_RUNS: [(usize, u64); 2] = [(2, 200), (3, 20)];
 /// The margins of accepted calls: one is absent without arrival, without required time, without both.
 const MARGINS: [&str; 4] = ["present", "without arrival", "without required time", "without both"];
 
+/// The calls that read files.
+const READERS: [usize; 2] = [READ, THIN];
+
+/// The cells of accepted files: by their load, and whether they come before or after records of it.
+const CELLS: [&str; 8] = [
+    "load 0",
+    "load 1",
+    "load 2 to 4",
+    "load 5 to 49",
+    "load 50 to 87",
+    "load 88",
+    "before its load",
+    "after its load",
+];
+const BEFORE: usize = 6;
+const AFTER: usize = 7;
+
+/// A cell of an accepted file has no greater load: its target leads neither to itself nor to an input.
+const MOST_LOAD: usize = 88;
+
+/// The answers to a file that has a cell of a greater load; the first, accepted, can't be.
+const OVERLOADED: [u64; 3] = [0, 5, 6];
+
 #[derive(Default)]
 pub struct Tally {
     counts: [[u64; NUMBERS]; KINDS.len()],
     runs: [u64; ROUNDS],
     margins: [u64; MARGINS.len()],
+    cells: [[u64; CELLS.len()]; READERS.len()],
+    /// The files with a cell of a load above the most.
+    overloaded: [[u64; OVERLOADED.len()]; READERS.len()],
 }
 
 impl Tally {
@@ -78,13 +106,39 @@ impl Tally {
         }
     }
 
+    /// A file and the number by which the call that read it was refused, 0 if accepted.
+    pub fn count_file(&mut self, kind: usize, file: &[u8], number: u64) {
+        let Some(reader) = READERS.iter().position(|&reader| reader == kind) else { return };
+        // by another number a file may be refused before its end
+        let Some(answer) = OVERLOADED.iter().position(|&answer| answer == number) else { return };
+        let cells = loads::cells(file);
+        let above = cells.iter().any(|cell| cell.load > MOST_LOAD);
+        self.overloaded[reader][answer] += u64::from(above);
+        if number == 0 {
+            let counts = &mut self.cells[reader];
+            for Cell { load, comes_before, comes_after } in cells {
+                counts[load_class(load)] += 1;
+                counts[BEFORE] += u64::from(comes_before);
+                counts[AFTER] += u64::from(comes_after);
+            }
+        }
+    }
+
     pub fn add(&mut self, other: &Tally) {
-        let counts = self.counts.as_flattened_mut().iter_mut();
-        let others = other.counts.as_flattened().iter();
-        let ours = counts.chain(&mut self.runs).chain(&mut self.margins);
-        for (count, other) in ours.zip(others.chain(&other.runs).chain(&other.margins)) {
+        for (count, other) in self.all_mut().zip(other.all()) {
             *count += other;
         }
+    }
+
+    fn all(&self) -> impl Iterator<Item = &u64> {
+        let counts = self.counts.as_flattened().iter().chain(&self.runs).chain(&self.margins);
+        counts.chain(self.cells.as_flattened()).chain(self.overloaded.as_flattened())
+    }
+
+    fn all_mut(&mut self) -> impl Iterator<Item = &mut u64> {
+        let counts = self.counts.as_flattened_mut().iter_mut();
+        let counts = counts.chain(&mut self.runs).chain(&mut self.margins);
+        counts.chain(self.cells.as_flattened_mut()).chain(self.overloaded.as_flattened_mut())
     }
 
     pub fn print(&self, kinds: usize) {
@@ -112,6 +166,17 @@ impl Tally {
             print!("  {which}:{count}");
         }
         println!();
+        for (reader, &kind) in READERS.iter().enumerate() {
+            print!("cells by {}", KINDS[kind].name);
+            for (which, count) in CELLS.iter().zip(&self.cells[reader]) {
+                print!("  {which}:{count}");
+            }
+            print!("  files with more load");
+            for (number, count) in OVERLOADED.iter().zip(&self.overloaded[reader]) {
+                print!("  {number}:{count}");
+            }
+            println!();
+        }
     }
 
     fn total(&self, number: usize) -> u64 {
@@ -146,6 +211,34 @@ impl Tally {
                 faults.push(format!("no margin {which} was answered"));
             }
         }
+        for (reader, &kind) in READERS.iter().enumerate() {
+            let name = KINDS[kind].name;
+            for (which, &count) in CELLS.iter().zip(&self.cells[reader]) {
+                if count == 0 {
+                    faults.push(format!("{name} accepted no cell {which}"));
+                }
+            }
+            for (&number, &count) in OVERLOADED.iter().zip(&self.overloaded[reader]) {
+                if number == 0 && count > 0 {
+                    faults.push(format!("{name} accepted a load above {MOST_LOAD}"));
+                }
+                if number > 0 && count == 0 {
+                    faults.push(format!("{name} refused no load above {MOST_LOAD} by {number}"));
+                }
+            }
+        }
         faults
+    }
+}
+
+/// A load's place among `CELLS`.
+fn load_class(load: usize) -> usize {
+    match load {
+        0 => 0,
+        1 => 1,
+        2..=4 => 2,
+        5..=49 => 3,
+        50..=87 => 4,
+        _ => 5,
     }
 }
