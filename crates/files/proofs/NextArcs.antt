@@ -17,13 +17,13 @@ use Rattle.format.specs.Records.{cellDelay, valueOf, recordAt}
 use Rattle.format.specs.Reading.{arcOf, withArc, withRecord}
 use Rattle.files.specs.declared.place.Next.{Next}
 use Rattle.files.specs.declared.place.Next.the-variants as X
-use Rattle.files.specs.Place.{nextGraph, NextWithin}
+use Rattle.files.specs.Place.{Places, NextWithin}
 use Rattle.records.proofs.AcceptedRecords.{legal}
 use Rattle.files.proofs.CellLoads.{delay-held}
 
 module _ (N : ℕ) (s : List ℕ) (load : ℕ → ℕ) (p : ℕ) where
   abbrev pub Steps : Next → Type 0
-  Steps x = ((g : Graph) (onward : ℕ → Graph → Graph) → nextGraph x g onward ≡ arcOf (withRecord load) p g onward (recordAt N s p)) × NextWithin N (length s) p x
+  Steps x = Places N s load p x × NextWithin N (length s) p x
 
   -- the graph with the arc as the code stores it
   stored : (u v q : ℕ) (z : ℤ) (d : Delay) → readCell absentCell z ≡ d → (g : Graph) (onward : ℕ → Graph → Graph) → onward q (withArc u v (readCell absentCell z) g) ≡ onward q (withArc u v d g)

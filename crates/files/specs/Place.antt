@@ -1,4 +1,5 @@
 -- Pass 2: what the record at an offset does to the graph, and what all records do.
+use mathlib.Core.Path.{_≡_}
 use mathlib.Core.List.{List}
 use Prim.Native.Nat.{ℕ, _≤_, _<_}
 use lib.IntN.{ℤ}
@@ -6,7 +7,8 @@ use lib.ListN.{length}
 use Rattle.graph.specs.Graph.{Graph}
 use Rattle.timing.specs.Limits.{absentCell}
 use Rattle.timing.specs.Table.{readCell, graphOf}
-use Rattle.format.specs.Reading.{arcsFrom, withArc, withRecord}
+use Rattle.format.specs.Records.{recordAt}
+use Rattle.format.specs.Reading.{arcOf, arcsFrom, withArc, withRecord}
 use Rattle.files.specs.declared.place.Next.{Next}
 use Rattle.files.specs.declared.place.Next.the-variants as X
 
@@ -14,6 +16,10 @@ use Rattle.files.specs.declared.place.Next.the-variants as X
 abbrev pub nextGraph : Next → Graph → (ℕ → Graph → Graph) → Graph
 nextGraph (X.Arc u v d p) g onward = onward p (withArc u v (readCell absentCell d) g)
 nextGraph X.Stop g onward = g
+
+-- r is what the record at p of file s does, whatever the graph and whatever follows
+abbrev pub Places : ℕ → List ℕ → (ℕ → ℕ) → ℕ → Next → Type 0
+Places N s load p r = (g : Graph) (onward : ℕ → Graph → Graph) → nextGraph r g onward ≡ arcOf (withRecord load) p g onward (recordAt N s p)
 
 -- the arc's ends are below N, and the next record begins after p and within the file
 abbrev pub NextWithin : ℕ → ℕ → ℕ → Next → Type 0

@@ -5,16 +5,14 @@ use paths::cells;
 use records::parse;
 use records::parse::Found;
 ghost use mathlib.Core.Path.{_≡_};
-ghost use Prim.Native.Nat.{ℕ, _*_, _≤_};
+ghost use Prim.Native.Nat.{_*_, _≤_};
 ghost use lib.ListN.{length};
 ghost use Rattle.laws.specs.Lent.{was};
-ghost use Rattle.graph.specs.Graph.{Graph};
 ghost use Rattle.timing.specs.Limits.{maxVertices};
 ghost use Rattle.timing.specs.Table.{graphOf, withGraph};
-ghost use Rattle.format.specs.Records.{recordAt};
-ghost use Rattle.format.specs.Reading.{noArcs, arcOf, withRecord};
+ghost use Rattle.format.specs.Reading.{noArcs};
 ghost use Rattle.files.specs.Loads.{loadsOf};
-ghost use Rattle.files.specs.Place.{nextGraph, NextWithin, allPlaced};
+ghost use Rattle.files.specs.Place.{Places, NextWithin, allPlaced};
 
 // What the record at an offset places, and the offset of the next one.
 pub enum Next {
@@ -37,7 +35,7 @@ pub fn blank(table: &mut [i32], n: usize)
 fn next_arc(bytes: &[u8], n: usize, loads: &[u8], at: usize) -> Next
     requires { ⌜ at ≤ length (now bytes) ⌝ }
     requires { ⌜ n ≤ length (now loads) ⌝ }
-    ensures { λ r. ⌜ ((g : Graph) (onward : ℕ → Graph → Graph) → nextGraph r g onward ≡ arcOf (withRecord (loadsOf (was loads))) at g onward (recordAt n (was bytes) at)) ⌝ }
+    ensures { λ r. ⌜ Places n (was bytes) (loadsOf (was loads)) at r ⌝ }
     ensures { λ r. ⌜ NextWithin n (length (was bytes)) at r ⌝ }
 {
     let found = parse::record_at(bytes, n, at);
