@@ -26,8 +26,9 @@ use Rattle.files.specs.declared.scan.Cursor.{Cursor}
 use Rattle.files.specs.declared.scan.Turned.{Turned}
 use Rattle.files.specs.declared.scan.Turned.the-variants as T
 use Rattle.files.specs.Loads.{loadsOf}
-use Rattle.files.specs.Scan.{Onward, turnMeaning, foundSays, Turns}
+use Rattle.files.specs.Scan.{Onward, foundSays, Turns}
 use Rattle.files.proofs.Readings.{ask-got}
+use Rattle.files.proofs.Turning.{turn-means}
 use Rattle.files.proofs.Leading.{Leading, leading-start, leading-turn, leading-end}
 
 -- ---- the source of a record stands after its mark
@@ -133,14 +134,11 @@ module _ (N : ℕ) (s : List ℕ) (c : Cursor) where
   done-found (accepted (R.End n)) e m load onward = ap (arcOf counted p load onward) e
 
 module _ (N : ℕ) (s : List ℕ) (c : Cursor) {r : Turned} (t : Turns (length s) c (foundSays N s c (recordAt N s (c .at))) r) where
-  means : {x : Turned} → r ≡ x → (onward : Onward) → turnMeaning x onward ≡ foundSays N s c (recordAt N s (c .at)) onward
-  means e onward = ap (λ (y : Turned). turnMeaning y onward) (sym e) ∙ t .meaning onward
-
   pub goes-on : (d : Cursor) → r ≡ T.On d → GoesOn N s c d
-  goes-on d e = on-found N s c d (recordAt N s (c .at)) refl (means e)
+  goes-on d e = on-found N s c d (recordAt N s (c .at)) refl (turn-means t e)
 
   pub is-done : r ≡ T.Done → (load : ℕ → ℕ) (onward : ℕ → (ℕ → ℕ) → ℕ → ℕ) → arcOf counted (c .at) load onward (recordAt N s (c .at)) ≡ load
-  is-done e = done-found N s c (recordAt N s (c .at)) refl (means e)
+  is-done e = done-found N s c (recordAt N s (c .at)) refl (turn-means t e)
 
 -- ---- the bytes
 

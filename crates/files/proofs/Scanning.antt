@@ -14,6 +14,7 @@ use Rattle.files.specs.declared.scan.Turned.{Turned}
 use Rattle.files.specs.declared.scan.Turned.the-variants as T
 use Rattle.files.specs.declared.scan.Scanned.the-variants as S
 use Rattle.files.specs.Scan.{turnMeaning, foundSays, InFile, Turns, Scans}
+use Rattle.files.proofs.Turning.{turn-means}
 
 -- turns that are enough begin with the record at the cursor: where none is left, so is no byte
 one-turn : (turns N : ℕ) (s : List ℕ) (c : Cursor) → length s ≤ turns + c .at → recordsFrom turns N s (c .at) (c .low) (c .count) ≡ foundSays N s c (recordAt N s (c .at)) (recordsFrom (turns - 1) N s)
@@ -37,11 +38,7 @@ all-left N s h = record { turns = length s; enough = omega arith; whole = refl; 
 module _ {N : ℕ} {s : List ℕ} {c : Cursor} {r : Turned} (l : Left N s c) (t : Turns (length s) c (foundSays N s c (recordAt N s (c .at))) r) where
   -- the answer of a turn that does not go on is that of the file
   pub turn-says : {x : Turned} → r ≡ x → turnMeaning x (recordsFrom (l .turns - 1) N s) ≡ recordsFrom (length s) N s 5 0 0
-  turn-says e =
-      ap (λ (y : Turned). turnMeaning y (recordsFrom (l .turns - 1) N s)) (sym e)
-      ∙ t .meaning (recordsFrom (l .turns - 1) N s)
-      ∙ sym (one-turn (l .turns) N s c (l .enough))
-      ∙ l .whole
+  turn-says e = turn-means t e (recordsFrom (l .turns - 1) N s) ∙ sym (one-turn (l .turns) N s c (l .enough)) ∙ l .whole
 
   pub still-left : (d : Cursor) → r ≡ T.On d → Left N s d
   still-left d e =

@@ -1,5 +1,5 @@
 -- What a turn of the pass over the records says.
-use mathlib.Core.Path.{_≡_, sym, subst}
+use mathlib.Core.Path.{_≡_, sym, ap, _∙_, subst}
 use mathlib.Core.List.{List}
 use Prim.Native.Nat.{ℕ, _≤_, _<_}
 use native.Mathlib.Omega.{arith}
@@ -11,7 +11,7 @@ use Rattle.format.specs.Reading.{Reading, stopped, got}
 use Rattle.files.specs.declared.scan.Cursor.{Cursor}
 use Rattle.files.specs.declared.scan.Turned.{Turned}
 use Rattle.files.specs.declared.scan.Turned.the-variants as T
-use Rattle.files.specs.Scan.{Onward, recordSays, foundSays, InFile, Turns}
+use Rattle.files.specs.Scan.{Onward, turnMeaning, recordSays, foundSays, InFile, Turns}
 
 module _ {bytes : ℕ} {c : Cursor} {v : Onward → Reading (Unit {0})} where
   pub refuses : (x : Refusal) (p : ℕ) → ((onward : Onward) → stopped (number x) p ≡ v onward) → Turns bytes c v (T.Refused x p)
@@ -25,6 +25,10 @@ module _ {bytes : ℕ} {c : Cursor} {v : Onward → Reading (Unit {0})} where
     where
       same : (x y : Cursor) → T.On x ≡ T.On y → x ≡ y
       same x y e = cc
+
+-- what is meant by a turn, once it is known to be x
+pub turn-means : {bytes : ℕ} {c : Cursor} {v : Onward → Reading (Unit {0})} {r x : Turned} → Turns bytes c v r → r ≡ x → (onward : Onward) → turnMeaning x onward ≡ v onward
+turn-means t e onward = ap (λ (y : Turned). turnMeaning y onward) (sym e) ∙ t .meaning onward
 
 -- a file that is longer
 in-longer : (short long : ℕ) {c : Cursor} {v : Onward → Reading (Unit {0})} {r : Turned} → short ≤ long → Turns short c v r → Turns long c v r
