@@ -9,6 +9,7 @@ mod boards;
 mod sides;
 
 use second::board::Sizes;
+use second::library::BUILT_IN;
 use sides::{Lent, Side, CALLS};
 use std::hint::black_box;
 use std::process::ExitCode;
@@ -61,6 +62,7 @@ fn lent(name: &str) -> Result<Lent, String> {
         margin: vec![0; board.vertices],
         table,
         file,
+        library: BUILT_IN.to_vec(),
     })
 }
 

@@ -53,6 +53,8 @@ extern "C" {
         table_length: u64,
         scratch: *const i64,
         scratch_length: u64,
+        library: *const i32,
+        library_length: u64,
     ) -> u64;
     fn meter_run(
         inputs: u64,
@@ -78,6 +80,7 @@ pub struct Lent {
     pub required: Vec<i64>,
     pub margin: Vec<i64>,
     pub file: Vec<u8>,
+    pub library: Vec<i32>,
 }
 
 pub type Side = extern "C" fn(&mut Lent) -> u64;
@@ -186,6 +189,8 @@ pub extern "C" fn ours_read(lent: &mut Lent) -> u64 {
             lent.table.len() as u64,
             lent.scratch.as_ptr(),
             lent.scratch.len() as u64,
+            lent.library.as_ptr(),
+            lent.library.len() as u64,
         )
     }
 }
@@ -228,7 +233,7 @@ pub extern "C" fn rust_run(lent: &mut Lent) -> u64 {
 #[no_mangle]
 #[inline(never)]
 pub extern "C" fn rust_read(lent: &mut Lent) -> u64 {
-    let read = file::read(&lent.file, &mut lent.table, lent.scratch.len());
+    let read = file::read(&lent.file, &mut lent.table, lent.scratch.len(), &lent.library);
     number(read.map_err(|refused| refused.number))
 }
 

@@ -1,64 +1,39 @@
 -- Pass 1: what a turn says of the record at the cursor, and the bytes that count the records by their source.
 use mathlib.Core.Path.{_≡_, refl, sym, ap, _∙_, subst, fun-ext}
-use mathlib.Core.Bool.{Bool, true, false, cond, _&&_}
+use mathlib.Core.Bool.{Bool, true, false, cond}
 use mathlib.Core.List.{List}
 use Prim.Native.Nat.{ℕ, suc, _+_, _-_, _*_, _≤_, _<_}
 use native.Mathlib.Decide.{ℕ-discrete}
 use native.Mathlib.Omega.{arith}
-use lib.Dec.{T, leb, ltb, eqb, leb→le}
+use borrow.Author.Tests.{lt-leb}
+use lib.Dec.{T, leb, eqb, leb→le}
+use lib.IntN.{ℤ}
 use lib.ListN.{length, getD, set}
 use lib.Seq.{getD-set-same, getD-set-other}
 use Rattle.laws.proofs.Booleans.{eqb-same, eqb-other}
 use Rattle.graph.specs.Delay.{at}
-use Rattle.timing.specs.declared.Refusal.the-variants.{FileEnds, WrongField, NotRising, WrongCount, FileGoesOn}
-use Rattle.timing.specs.Limits.{delayLimit, fits}
-use Rattle.timing.specs.Refusal.{Verdict, refused, accepted, _then_}
-use Rattle.timing.proofs.Verdict.{require-accepted, then-accepted, same-accepted}
-use Rattle.format.specs.declared.Mark.{Mark}
-use Rattle.format.specs.declared.Mark.the-variants as M
+use Rattle.timing.specs.declared.Refusal.{Refusal}
+use Rattle.timing.specs.declared.Refusal.the-variants.{FileEnds, NotRising, WrongCount, FileGoesOn}
+use Rattle.timing.specs.Refusal.{number, Verdict, refused, accepted}
 use Rattle.format.specs.declared.Record.{Record}
 use Rattle.format.specs.declared.Record.the-variants as R
-use Rattle.codec.specs.Bytes.{signedAt}
-use Rattle.format.specs.Records.{byteAt, markAt, ticksOf, from, to, body, recordAt}
-use Rattle.format.specs.Reading.{Reading, stopped, got, ask, arcOf, counted, noLoads, fileLoads}
-use Rattle.records.proofs.AcceptedRecords.{legal}
+use Rattle.format.specs.Records.{byteAt, recordAt}
+use Rattle.format.specs.Reading.{Reading, stopped, got, ask, Onward, workedOf, boardShape, knownAt, boardRecords, counted, noLoads, fileLoads}
+use Rattle.format.proofs.AcceptedRecords.{legal, stands}
 use Rattle.files.specs.declared.scan.Cursor.{Cursor}
 use Rattle.files.specs.declared.scan.Turned.{Turned}
 use Rattle.files.specs.declared.scan.Turned.the-variants as T
+use Rattle.files.specs.declared.scan.Scanned.the-variants as S
 use Rattle.files.specs.Loads.{loadsOf}
-use Rattle.files.specs.Scan.{Onward, foundSays, Turns}
-use Rattle.files.proofs.Readings.{ask-got}
+use Rattle.files.specs.Scan.{foundSays, Turns, Scans}
+use Rattle.format.proofs.Readings.{ask-got}
 use Rattle.files.proofs.Turning.{turn-means}
 use Rattle.files.proofs.Leading.{Leading, leading-start, leading-turn, leading-end}
 
--- ---- the source of a record stands after its mark
-
-module _ (N : ℕ) (s : List ℕ) (p : ℕ) where
-  abbrev Source : Record → Type 0
-  Source (R.Arc u v d) = byteAt s (p + 2) ≡ u
-  Source (R.Cell u v c) = byteAt s (p + 2) ≡ u
-  Source (R.End n) = Unit {0}
-
-  source-body : (k : Mark) (r : Record) → body N s p k ≡ accepted r → Source r
-  source-body M.Board r e = absurd (let z : _≡_ {A = ℕ} 0 1 = cc in omega arith)
-  source-body M.Arc r e =
-      let d = signedAt 4 s (p + 4) in
-      let x : Record = R.Arc (from N s p) (to N s p) d in
-      let whole = require-accepted (leb (p + 8) (length s)) FileEnds _ r e in
-      let fields = require-accepted (ltb (from N s p) N && ltb (to N s p) N && fits delayLimit (at d)) WrongField (accepted x) r (whole .1) in
-      subst Source {x = x} (same-accepted (fields .1)) refl
-  source-body M.Cell r e =
-      let code = byteAt s (p + 4) in
-      let x : Record = R.Cell (from N s p) (to N s p) code in
-      let whole = require-accepted (leb (p + 5) (length s)) FileEnds _ r e in
-      let fields = require-accepted (ltb (from N s p) N && ltb (to N s p) N) WrongField (ticksOf code then λ _. accepted x) r (whole .1) in
-      subst Source {x = x} (same-accepted (then-accepted (ticksOf code) (λ _. accepted x) r (fields .1) .2)) refl
-  source-body M.End r e = subst Source (same-accepted (require-accepted (leb (p + 4) (length s)) FileEnds _ r e .1)) tt
-  source-body M.Other r e = absurd (let z : _≡_ {A = ℕ} 0 1 = cc in omega arith)
-
-  source : (r : Record) → recordAt N s p ≡ accepted r → Source r
-  unfolding recordAt
-  source r e = source-body (markAt s p) r (require-accepted (leb (p + 2) (length s)) FileEnds (body N s p (markAt s p)) r e .1)
+-- 15 where no mark fits any more
+pub known-short : (l : List ℤ) (N : ℕ) (s : List ℕ) (p : ℕ) → length s < p + 2 → knownAt l N s p ≡ refused (number FileEnds)
+unfolding recordAt
+known-short l N s p h = simp (lt-leb (p + 2) (length s) h)
 
 -- ---- what a turn says
 
@@ -80,7 +55,7 @@ module _ (N : ℕ) (s : List ℕ) (c : Cursor) where
     pub to-in : v < N
     pub risen : c .low ≤ N * u + v
     pub low-is : d .low ≡ suc (N * u + v)
-    pub counts : (load : ℕ → ℕ) (onward : ℕ → (ℕ → ℕ) → ℕ → ℕ) → arcOf counted (c .at) load onward (recordAt N s (c .at)) ≡ onward (d .at) (oneMore u load)
+    pub counts : (load : ℕ → ℕ) (onward : ℕ → (ℕ → ℕ) → ℕ → ℕ) → workedOf (boardShape N) counted (c .at) load onward (recordAt N s (c .at)) ≡ onward (d .at) (oneMore u load)
 
   -- where a test is followed by anything at all, it holds, and this follows
   asked : (d : Cursor) (b : Bool) (q low count : ℕ) → ((onward : Onward) → onward (d .at) (d .low) (d .count) ≡ ask b NotRising p (onward q low count)) → T b × (d .at ≡ q) × (d .low ≡ low)
@@ -92,7 +67,7 @@ module _ (N : ℕ) (s : List ℕ) (c : Cursor) where
 
   -- so that a record of an arc from a to b, before one at q, is followed
   on-arc : (d : Cursor) (a b q : ℕ) → byteAt s (p + 2) ≡ a → p + 2 < length s → a < N → b < N
-      → ((load : ℕ → ℕ) (onward : ℕ → (ℕ → ℕ) → ℕ → ℕ) → arcOf counted p load onward (recordAt N s p) ≡ onward q (oneMore a load))
+      → ((load : ℕ → ℕ) (onward : ℕ → (ℕ → ℕ) → ℕ → ℕ) → workedOf (boardShape N) counted p load onward (recordAt N s p) ≡ onward q (oneMore a load))
       → ((onward : Onward) → onward (d .at) (d .low) (d .count) ≡ ask (leb (c .low) (N * a + b)) NotRising p (onward q (suc (N * a + b)) (suc (c .count)))) → GoesOn d
   on-arc d a b q e l hu hv f m =
       let h = asked d (leb (c .low) (N * a + b)) q (suc (N * a + b)) (suc (c .count)) m in
@@ -108,15 +83,17 @@ module _ (N : ℕ) (s : List ℕ) (c : Cursor) where
         counts = λ load onward. f load onward ∙ ap (λ (x : ℕ). onward x (oneMore a load)) (sym (h .1));
       }
 
-  on-found : (d : Cursor) (x : Verdict Record) → recordAt N s p ≡ x → ((onward : Onward) → onward (d .at) (d .low) (d .count) ≡ foundSays N s c x onward) → GoesOn d
-  on-found d (refused r) e m = absurd (let q : _≡_ {A = Reading (Unit {0})} (got tt) (stopped r p) = m (λ x y z. got tt) in let z : _≡_ {A = ℕ} 0 1 = cc in omega arith)
-  on-found d (accepted (R.Arc a b z)) e m =
-      let k = legal N s p (R.Arc a b z) e in
-      on-arc d a b (p + 8) (source N s p (R.Arc a b z) e) (omega (arith, k .0)) (k .1) (k .2) (λ load onward. ap (arcOf counted p load onward) e) m
-  on-found d (accepted (R.Cell a b z)) e m =
-      let k = legal N s p (R.Cell a b z) e in
-      on-arc d a b (p + 5) (source N s p (R.Cell a b z) e) (omega (arith, k .0)) (k .1) (k .2) (λ load onward. ap (arcOf counted p load onward) e) m
-  on-found d (accepted (R.End n)) e m = absurd (never (eqb n (c .count)) (eqb (p + 4) (length s)) (m (λ x y z. stopped 0 0)))
+  on-found : (l : List ℤ) (d : Cursor) (x : Verdict Record) → knownAt l N s p ≡ x → ((onward : Onward) → onward (d .at) (d .low) (d .count) ≡ foundSays s c (boardShape N) x onward) → GoesOn d
+  on-found l d (refused r) e m = absurd (let q : _≡_ {A = Reading (Unit {0})} (got tt) (stopped r p) = m (λ x y z. got tt) in let z : _≡_ {A = ℕ} 0 1 = cc in omega arith)
+  on-found l d (accepted (R.Arc a b z)) e m =
+      let q = stands l N s p (R.Arc a b z) e in
+      let k = legal N s p (R.Arc a b z) q in
+      on-arc d a b (p + 8) (k .4) (omega (arith, k .0)) (k .1) (k .2) (λ load onward. ap (workedOf (boardShape N) counted p load onward) q) m
+  on-found l d (accepted (R.Cell a b z)) e m =
+      let q = stands l N s p (R.Cell a b z) e in
+      let k = legal N s p (R.Cell a b z) q in
+      on-arc d a b (p + 5) (k .3) (omega (arith, k .0)) (k .1) (k .2) (λ load onward. ap (workedOf (boardShape N) counted p load onward) q) m
+  on-found l d (accepted (R.End n)) e m = absurd (never (eqb n (c .count)) (eqb (p + 4) (length s)) (m (λ x y z. stopped 0 0)))
     where
       never : (a b : Bool) → _≡_ {A = Reading (Unit {0})} (stopped 0 0) (ask a WrongCount p (ask b FileGoesOn (p + 4) (got tt))) → ⊥
       never false b h = let z : _≡_ {A = ℕ} 0 19 = cc in omega arith
@@ -127,18 +104,18 @@ module _ (N : ℕ) (s : List ℕ) (c : Cursor) where
   not-done t h = let q = ask-got t NotRising p (stopped 0 0) tt (sym h) .1 in let z : _≡_ {A = ℕ} 0 1 = cc in omega arith
 
   -- the record at the cursor is the last
-  done-found : (x : Verdict Record) → recordAt N s p ≡ x → ((onward : Onward) → got tt ≡ foundSays N s c x onward) → (load : ℕ → ℕ) (onward : ℕ → (ℕ → ℕ) → ℕ → ℕ) → arcOf counted p load onward (recordAt N s p) ≡ load
-  done-found (refused r) e m load onward = ap (arcOf counted p load onward) e
-  done-found (accepted (R.Arc a b z)) e m load onward = absurd (not-done (leb (c .low) (N * a + b)) (m (λ x y z. stopped 0 0)))
-  done-found (accepted (R.Cell a b z)) e m load onward = absurd (not-done (leb (c .low) (N * a + b)) (m (λ x y z. stopped 0 0)))
-  done-found (accepted (R.End n)) e m load onward = ap (arcOf counted p load onward) e
+  done-found : (l : List ℤ) (x : Verdict Record) → knownAt l N s p ≡ x → ((onward : Onward) → got tt ≡ foundSays s c (boardShape N) x onward) → (load : ℕ → ℕ) (onward : ℕ → (ℕ → ℕ) → ℕ → ℕ) → workedOf (boardShape N) counted p load onward (recordAt N s p) ≡ load
+  done-found l (refused r) e m load onward = absurd (let q : _≡_ {A = Reading (Unit {0})} (got tt) (stopped r p) = m (λ x y z. stopped 0 0) in let z : _≡_ {A = ℕ} 0 1 = cc in omega arith)
+  done-found l (accepted (R.Arc a b z)) e m load onward = absurd (not-done (leb (c .low) (N * a + b)) (m (λ x y z. stopped 0 0)))
+  done-found l (accepted (R.Cell a b z)) e m load onward = absurd (not-done (leb (c .low) (N * a + b)) (m (λ x y z. stopped 0 0)))
+  done-found l (accepted (R.End n)) e m load onward = ap (workedOf (boardShape N) counted p load onward) (stands l N s p (R.End n) e)
 
-module _ (N : ℕ) (s : List ℕ) (c : Cursor) {r : Turned} (t : Turns (length s) c (foundSays N s c (recordAt N s (c .at))) r) where
+module _ (l : List ℤ) (N : ℕ) (s : List ℕ) (c : Cursor) {r : Turned} (t : Turns (length s) c (foundSays s c (boardShape N) (knownAt l N s (c .at))) r) where
   pub goes-on : (d : Cursor) → r ≡ T.On d → GoesOn N s c d
-  goes-on d e = on-found N s c d (recordAt N s (c .at)) refl (turn-means t e)
+  goes-on d e = on-found N s c l d (knownAt l N s (c .at)) refl (turn-means t e)
 
-  pub is-done : r ≡ T.Done → (load : ℕ → ℕ) (onward : ℕ → (ℕ → ℕ) → ℕ → ℕ) → arcOf counted (c .at) load onward (recordAt N s (c .at)) ≡ load
-  is-done e = done-found N s c (recordAt N s (c .at)) refl (turn-means t e)
+  pub is-done : r ≡ T.Done → (load : ℕ → ℕ) (onward : ℕ → (ℕ → ℕ) → ℕ → ℕ) → workedOf (boardShape N) counted (c .at) load onward (recordAt N s (c .at)) ≡ load
+  is-done e = done-found N s c l (knownAt l N s (c .at)) refl (turn-means t e)
 
 -- ---- the bytes
 
@@ -146,13 +123,13 @@ module _ (N : ℕ) (s : List ℕ) where
   -- each has at most the cells of its row that have been passed; with the records that are left it leads to the file's loads
   pub record Counting (l : List ℕ) (c : Cursor) : Type 0 where
     pub few : (w : ℕ) → getD l w 0 ≤ c .low - N * w
-    pub left : Leading counted N s (fileLoads N s) (c .at) (loadsOf l)
+    pub left : Leading (boardShape N) counted (length s) (recordAt N s) (fileLoads N s) (c .at) (loadsOf l)
 
   pub counting-start : (l : List ℕ) → loadsOf l ≡ noLoads → Counting l (record { at = 5; low = 0; count = 0 })
   unfolding fileLoads
   counting-start l e = record {
     few = λ w. omega (arith, ap (λ (f : ℕ → ℕ). f w) e);
-    left = subst (λ (f : ℕ → ℕ). Leading counted N s (fileLoads N s) 5 f) (sym e) (leading-start counted N s noLoads);
+    left = subst (λ (f : ℕ → ℕ). Leading (boardShape N) counted (length s) (recordAt N s) (fileLoads N s) 5 f) (sym e) (leading-start (boardShape N) counted (length s) (recordAt N s) 5 noLoads);
   }
 
   module _ (l : List ℕ) (c : Cursor) (w : Counting l c) where
@@ -164,7 +141,7 @@ module _ (N : ℕ) (s : List ℕ) where
       pub counting-turn : N ≤ length l → c .at < d .at → d .at ≤ length s → Counting (set l (g .u) (getD l (g .u) 0 + 1)) d
       counting-turn room f k = record {
         few = λ x. go x (ℕ-discrete x (g .u));
-        left = leading-turn counted N s _ (c .at) (loadsOf l) (w .left) (d .at) (loadsOf l′) f k (λ onward. g .counts (loadsOf l) onward ∙ ap (onward (d .at)) (sym (fun-ext (λ x. more x (ℕ-discrete x (g .u))))));
+        left = leading-turn (boardShape N) counted (length s) (recordAt N s) _ (c .at) (loadsOf l) (w .left) (d .at) (loadsOf l′) f k (λ onward. g .counts (loadsOf l) onward ∙ ap (onward (d .at)) (sym (fun-ext (λ x. more x (ℕ-discrete x (g .u))))));
       }
         where
           l′ : List ℕ
@@ -184,5 +161,9 @@ module _ (N : ℕ) (s : List ℕ) where
           more x (yes e) = rw e (simp (eqb-same (g .u)) (omega (arith, own)))
           more x (no n) = simp (eqb-other (g .u) x (λ q. n (sym q))) (other x n)
 
-    pub counting-done : ((load : ℕ → ℕ) (onward : ℕ → (ℕ → ℕ) → ℕ → ℕ) → arcOf counted (c .at) load onward (recordAt N s (c .at)) ≡ load) → loadsOf l ≡ fileLoads N s
-    counting-done h = leading-end counted N s _ (c .at) (loadsOf l) (w .left) (h (loadsOf l))
+    pub counting-done : ((load : ℕ → ℕ) (onward : ℕ → (ℕ → ℕ) → ℕ → ℕ) → workedOf (boardShape N) counted (c .at) load onward (recordAt N s (c .at)) ≡ load) → loadsOf l ≡ fileLoads N s
+    counting-done h = leading-end (boardShape N) counted (length s) (recordAt N s) _ (c .at) (loadsOf l) (w .left) (h (loadsOf l))
+
+-- a refusal says nothing of loads
+pub refused-scan : {l : List ℤ} {N : ℕ} {s loads : List ℕ} {x : Refusal} {p : ℕ} → stopped (number x) p ≡ boardRecords l N s → Scans l N s loads (S.Refused x p)
+refused-scan e = record { answer = e; counted = λ q. absurd (let z : _≡_ {A = ℕ} 0 1 = cc in omega arith) }

@@ -12,15 +12,17 @@ use Rattle.format.specs.declared.Mark.{Mark}
 use Rattle.format.specs.declared.Mark.the-variants as M
 use Rattle.format.specs.Reading.{isBoard}
 
-pub other-mark : (x : Mark) → OneOf (1 ∷ 2 ∷ 3 ∷ 4 ∷ []) (tagOf the-type x) → isBoard x ≡ false
+pub other-mark : (x : Mark) → OneOf (1 ∷ 2 ∷ 3 ∷ 4 ∷ 5 ∷ []) (tagOf the-type x) → isBoard x ≡ false
 other-mark M.Board h = absurd (never h)
   where
-    never : (_≡_ {A = ℕ} 0 1) ⊎ ((_≡_ {A = ℕ} 0 2) ⊎ ((_≡_ {A = ℕ} 0 3) ⊎ (_≡_ {A = ℕ} 0 4))) → ⊥
+    never : (_≡_ {A = ℕ} 0 1) ⊎ ((_≡_ {A = ℕ} 0 2) ⊎ ((_≡_ {A = ℕ} 0 3) ⊎ ((_≡_ {A = ℕ} 0 4) ⊎ (_≡_ {A = ℕ} 0 5)))) → ⊥
     never (inl e) = omega arith
     never (inr (inl e)) = omega arith
     never (inr (inr (inl e))) = omega arith
-    never (inr (inr (inr e))) = omega arith
+    never (inr (inr (inr (inl e)))) = omega arith
+    never (inr (inr (inr (inr e)))) = omega arith
 other-mark M.Arc h = refl
 other-mark M.Cell h = refl
 other-mark M.End h = refl
+other-mark M.Library h = refl
 other-mark M.Other h = refl

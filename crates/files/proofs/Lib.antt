@@ -2,11 +2,11 @@ pub mod Leading
 pub mod Turning
 pub mod Scanning
 pub mod Counting
+pub mod Entries
 pub mod CellLoads
 pub mod TableGraphs
 pub mod NextArcs
 pub mod PlacingArcs
-pub mod Readings
 pub mod Opening
 pub mod Loading
 pub mod FirstMark

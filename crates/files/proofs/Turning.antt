@@ -6,12 +6,11 @@ use native.Mathlib.Omega.{arith}
 use lib.ListN.{length}
 use Rattle.timing.specs.declared.Refusal.{Refusal}
 use Rattle.timing.specs.Refusal.{number, Verdict}
-use Rattle.format.specs.declared.Record.{Record}
-use Rattle.format.specs.Reading.{Reading, stopped, got}
+use Rattle.format.specs.Reading.{Reading, stopped, got, Shape, Onward}
 use Rattle.files.specs.declared.scan.Cursor.{Cursor}
 use Rattle.files.specs.declared.scan.Turned.{Turned}
 use Rattle.files.specs.declared.scan.Turned.the-variants as T
-use Rattle.files.specs.Scan.{Onward, turnMeaning, recordSays, foundSays, InFile, Turns}
+use Rattle.files.specs.Scan.{turnMeaning, shapeSays, foundSays, InFile, Turns}
 
 module _ {bytes : ℕ} {c : Cursor} {v : Onward → Reading (Unit {0})} where
   pub refuses : (x : Refusal) (p : ℕ) → ((onward : Onward) → stopped (number x) p ≡ v onward) → Turns bytes c v (T.Refused x p)
@@ -38,9 +37,9 @@ in-longer short long l t = record {
 }
 
 -- what a record or a verdict says, once it is known to be y
-module _ {c : Cursor} {r : Turned} (N : ℕ) (s : List ℕ) where
-  pub record-is : {x y : Record} {short : ℕ} → x ≡ y → short ≤ length s → Turns short c (recordSays N s c y) r → Turns (length s) c (recordSays N s c x) r
-  record-is {short = short} e l t = in-longer short (length s) l (subst (λ (z : Record). Turns short c (recordSays N s c z) r) (sym e) t)
+module _ {R : Type 0} (shape : R → Shape) {c : Cursor} {r : Turned} (s : List ℕ) where
+  pub record-is : {x y : R} {short : ℕ} → x ≡ y → short ≤ length s → Turns short c (shapeSays s c (shape y)) r → Turns (length s) c (shapeSays s c (shape x)) r
+  record-is {short = short} e l t = in-longer short (length s) l (subst (λ (z : R). Turns short c (shapeSays s c (shape z)) r) (sym e) t)
 
-  pub found-is : {x y : Verdict Record} → x ≡ y → Turns (length s) c (foundSays N s c y) r → Turns (length s) c (foundSays N s c x) r
-  found-is e t = subst (λ (z : Verdict Record). Turns (length s) c (foundSays N s c z) r) (sym e) t
+  pub found-is : {x y : Verdict R} → x ≡ y → Turns (length s) c (foundSays s c shape y) r → Turns (length s) c (foundSays s c shape x) r
+  found-is e t = subst (λ (z : Verdict R). Turns (length s) c (foundSays s c shape z) r) (sym e) t

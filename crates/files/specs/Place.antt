@@ -3,12 +3,11 @@ use mathlib.Core.Path.{_≡_}
 use mathlib.Core.List.{List}
 use Prim.Native.Nat.{ℕ, _≤_, _<_}
 use lib.IntN.{ℤ}
-use lib.ListN.{length}
 use Rattle.graph.specs.Graph.{Graph}
 use Rattle.timing.specs.Limits.{absentCell}
 use Rattle.timing.specs.Table.{readCell, graphOf}
 use Rattle.format.specs.Records.{recordAt}
-use Rattle.format.specs.Reading.{arcOf, arcsFrom, withArc, withRecord}
+use Rattle.format.specs.Reading.{workedOf, boardShape, arcsWorked, withArc, withRecord}
 use Rattle.files.specs.declared.place.Next.{Next}
 use Rattle.files.specs.declared.place.Next.the-variants as X
 
@@ -17,9 +16,9 @@ abbrev pub nextGraph : Next → Graph → (ℕ → Graph → Graph) → Graph
 nextGraph (X.Arc u v d p) g onward = onward p (withArc u v (readCell absentCell d) g)
 nextGraph X.Stop g onward = g
 
--- r is what the record at p of file s does, whatever the graph and whatever follows
-abbrev pub Places : ℕ → List ℕ → (ℕ → ℕ) → ℕ → Next → Type 0
-Places N s load p r = (g : Graph) (onward : ℕ → Graph → Graph) → nextGraph r g onward ≡ arcOf (withRecord load) p g onward (recordAt N s p)
+-- r is what the record at p of file s does under library l, whatever the graph and whatever follows
+abbrev pub Places : List ℤ → ℕ → List ℕ → (ℕ → ℕ) → ℕ → Next → Type 0
+Places l N s load p r = (g : Graph) (onward : ℕ → Graph → Graph) → nextGraph r g onward ≡ workedOf (boardShape N) (withRecord l load) p g onward (recordAt N s p)
 
 -- the arc's ends are below N, and the next record begins after p and within the file
 abbrev pub NextWithin : ℕ → ℕ → ℕ → Next → Type 0
@@ -27,5 +26,5 @@ NextWithin N size p (X.Arc u v d q) = (u < N) × (v < N) × (p < q) × (q ≤ si
 NextWithin N size p X.Stop = Unit {0}
 
 -- the graph of table t with the arcs of file s
-abbrev pub allPlaced : ℕ → List ℕ → (ℕ → ℕ) → List ℤ → Graph
-allPlaced N s load t = arcsFrom (withRecord load) (length s) N s 5 (graphOf N t)
+abbrev pub allPlaced : List ℤ → ℕ → List ℕ → (ℕ → ℕ) → List ℤ → Graph
+allPlaced l N s load t = arcsWorked (withRecord l load) N s (graphOf N t)

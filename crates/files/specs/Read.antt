@@ -6,6 +6,7 @@ use lib.IntN.{ℤ}
 use Rattle.graph.specs.Graph.{Graph}
 use Rattle.timing.specs.Refusal.{number}
 use Rattle.timing.specs.Table.{withGraph}
+use Rattle.format.specs.Library.{InForce}
 use Rattle.format.specs.Reading.{Reading, stopped, got, placed, _next_, BoardSizes, sizes, graphRead}
 use Rattle.paths.specs.declared.board.Board.{Board}
 use Rattle.paths.specs.declared.board.Made.{Made}
@@ -33,10 +34,10 @@ headerMeaning (H.Refused r) = stopped (number r) 0
 abbrev pub openMeaning : Made → Reading BoardSizes
 openMeaning r = placed 0 (boardMeaning r) next λ b. got (sizesOf b)
 
--- r says x, and its board is one that the table has room for
-pub record Opens (x : Reading BoardSizes) (t : List ℤ) (r : Made) : Type 0 where
+-- r says x, and where that is a board, the table has room for it and library l passes
+pub record Opens (l : List ℤ) (x : Reading BoardSizes) (t : List ℤ) (r : Made) : Type 0 where
   pub answer : openMeaning r ≡ x
-  pub lent : (b : Board) → r ≡ M.Board b → Lent b t
+  pub lent : (b : Board) → r ≡ M.Board b → Lent b t × InForce l
 
 abbrev pub passed : Reading Graph → Reading (Unit {0})
 passed x = x next λ _. got tt

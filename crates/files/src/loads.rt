@@ -1,12 +1,14 @@
 // Loads, a byte for each vertex, and a cell's delay under its load.
+use crate::library;
 use paths::Board;
-use records::parse;
 use records::parse::Ticks;
 ghost use mathlib.Core.Path.{_≡_};
 ghost use lib.ListN.{length};
+ghost use Rattle.laws.specs.Lent.{was};
 ghost use Rattle.timing.specs.Limits.{maxVertices, absentCell};
 ghost use Rattle.timing.specs.Table.{writeCell};
-ghost use Rattle.format.specs.Records.{underLoad, cellDelay, valueOf};
+ghost use Rattle.format.specs.Library.{valueOf, InForce};
+ghost use Rattle.format.specs.Records.{underLoad, cellDelay};
 ghost use Rattle.format.specs.Reading.{noLoads};
 ghost use Rattle.files.specs.Loads.{loadsOf, Loadable};
 
@@ -27,11 +29,12 @@ fn under_load(ticks: i32, load: u8) -> i32
     ((fifths + 4) / 5) as i32
 }
 
-// A cell's delay, as the table has it; absent for a code that has no ticks.
-pub fn cell_delay(code: u8, load: u8) -> i32
-    ensures { λ r. ⌜ r ≡ writeCell absentCell (valueOf (cellDelay code load)) ⌝ }
+// A cell's delay, as the table has it; absent for a code that the library lacks.
+pub fn cell_delay(library: &[i32], code: u8, load: u8) -> i32
+    requires { ⌜ InForce (now library) ⌝ }
+    ensures { λ r. ⌜ r ≡ writeCell absentCell (valueOf (cellDelay (was library) code load)) ⌝ }
 {
-    let ticks = parse::cell_ticks(code);
+    let ticks = library::ticks_in(library, code);
     match ticks {
         Ticks::Of(d) => under_load(d, load),
         Ticks::Refused(_) => Board::ABSENT,

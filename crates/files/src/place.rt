@@ -10,6 +10,7 @@ ghost use lib.ListN.{length};
 ghost use Rattle.laws.specs.Lent.{was};
 ghost use Rattle.timing.specs.Limits.{maxVertices};
 ghost use Rattle.timing.specs.Table.{graphOf, withGraph};
+ghost use Rattle.format.specs.Library.{InForce};
 ghost use Rattle.format.specs.Reading.{noArcs};
 ghost use Rattle.files.specs.Loads.{loadsOf};
 ghost use Rattle.files.specs.Place.{Places, NextWithin, allPlaced};
@@ -32,10 +33,11 @@ pub fn blank(table: &mut [i32], n: usize)
 }
 
 // `loads` has the load of each vertex.
-fn next_arc(bytes: &[u8], n: usize, loads: &[u8], at: usize) -> Next
+fn next_arc(bytes: &[u8], n: usize, library: &[i32], loads: &[u8], at: usize) -> Next
     requires { ⌜ at ≤ length (now bytes) ⌝ }
+    requires { ⌜ InForce (now library) ⌝ }
     requires { ⌜ n ≤ length (now loads) ⌝ }
-    ensures { λ r. ⌜ Places n (was bytes) (loadsOf (was loads)) at r ⌝ }
+    ensures { λ r. ⌜ Places (was library) n (was bytes) (loadsOf (was loads)) at r ⌝ }
     ensures { λ r. ⌜ NextWithin n (length (was bytes)) at r ⌝ }
 {
     let found = parse::record_at(bytes, n, at);
@@ -43,7 +45,7 @@ fn next_arc(bytes: &[u8], n: usize, loads: &[u8], at: usize) -> Next
         return match item {
             Record::Arc(u, v, d) => Next::Arc(u, v, d, at + 8),
             Record::Cell(u, v, code) => {
-                Next::Arc(u, v, loads::cell_delay(code, loads[v]), at + 5)
+                Next::Arc(u, v, loads::cell_delay(library, code, loads[v]), at + 5)
             }
             Record::End(_) => Next::Stop,
         };
@@ -52,17 +54,18 @@ fn next_arc(bytes: &[u8], n: usize, loads: &[u8], at: usize) -> Next
 }
 
 // The arcs of the records, one after another.
-pub fn place(bytes: &[u8], n: usize, loads: &[u8], table: &mut [i32])
+pub fn place(bytes: &[u8], n: usize, library: &[i32], loads: &[u8], table: &mut [i32])
     requires { ⌜ 5 ≤ length (now bytes) ⌝ }
     requires { ⌜ n ≤ maxVertices ⌝ }
+    requires { ⌜ InForce (now library) ⌝ }
     requires { ⌜ n ≤ length (now loads) ⌝ }
     requires { ⌜ n * n ≤ length (now table) ⌝ }
-    ensures { λ _. ⌜ graphOf n (now (table .exit)) ≡ allPlaced n (was bytes) (loadsOf (was loads)) (was table) ⌝ }
-    ensures { λ _. ⌜ now (table .exit) ≡ withGraph n (allPlaced n (was bytes) (loadsOf (was loads)) (was table)) (was table) ⌝ }
+    ensures { λ _. ⌜ graphOf n (now (table .exit)) ≡ allPlaced (was library) n (was bytes) (loadsOf (was loads)) (was table) ⌝ }
+    ensures { λ _. ⌜ now (table .exit) ≡ withGraph n (allPlaced (was library) n (was bytes) (loadsOf (was loads)) (was table)) (was table) ⌝ }
 {
     let mut at = 5;
     loop {
-        let found = next_arc(bytes, n, loads, at);
+        let found = next_arc(bytes, n, library, loads, at);
         let Next::Arc(u, v, d, after) = found else {
             return;
         };

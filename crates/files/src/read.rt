@@ -1,5 +1,6 @@
 // Reading a board file into a lent table.
 use crate::answer::Read;
+use crate::library;
 use crate::loads;
 use crate::place;
 use crate::scan;
@@ -15,6 +16,7 @@ ghost use mathlib.Core.Path.{_≡_};
 ghost use Prim.Native.Nat.{_≤_};
 ghost use lib.ListN.{length};
 ghost use Rattle.laws.specs.Lent.{was};
+ghost use Rattle.format.specs.Library.{InForce};
 ghost use Rattle.format.specs.Reading.{header, opened, fileLoads, noArcs, fileChecked, arcsRead, readCall, tableRead};
 ghost use Rattle.paths.specs.Board.{Lent, graphIn};
 ghost use Rattle.files.specs.Loads.{loadsOf};
@@ -46,10 +48,13 @@ fn first_record(bytes: &[u8]) -> Header
     Header::Sizes(inputs, outputs, vertices)
 }
 
-// The first record's board, where it fits the lent memory. `scratch` is the length of the lent scratch.
-fn open(bytes: &[u8], table: &[i32], scratch: usize) -> Made
-    ensures { λ r. ⌜ Opens (opened (was bytes) (was table) scratch) (was table) r ⌝ }
+// The first record's board, where the library passes and the lent memory has room. `scratch` is the length of the lent scratch.
+fn open(bytes: &[u8], library: &[i32], table: &[i32], scratch: usize) -> Made
+    ensures { λ r. ⌜ Opens (was library) (opened (was library) (was bytes) (was table) scratch) (was table) r ⌝ }
 {
+    if !library::fits(library) {
+        return Made::Refused(Refusal::WrongLibrary);
+    }
     let header = first_record(bytes);
     match header {
         Header::Sizes(inputs, outputs, vertices) => checks::memory_checked(
@@ -64,15 +69,16 @@ fn open(bytes: &[u8], table: &[i32], scratch: usize) -> Made
 }
 
 // The arcs of records that have been checked and have these loads, in a table without arcs.
-fn fill(board: Board, bytes: &[u8], loads: &[u8], table: &mut [i32]) -> Scanned
+fn fill(board: Board, bytes: &[u8], library: &[i32], loads: &[u8], table: &mut [i32]) -> Scanned
     requires { ⌜ Lent board (now table) ⌝ }
     requires { ⌜ 5 ≤ length (now bytes) ⌝ }
+    requires { ⌜ InForce (now library) ⌝ }
     requires { ⌜ board .vertices ≤ length (now loads) ⌝ }
     requires { ⌜ loadsOf (now loads) ≡ fileLoads (board .vertices) (now bytes) ⌝ }
     requires { ⌜ graphIn board (now table) ≡ noArcs ⌝ }
-    ensures { λ r. ⌜ Loads (board .vertices) (fileChecked (sizesOf board) (was bytes)) (was table) (now (table .exit)) r ⌝ }
+    ensures { λ r. ⌜ Loads (board .vertices) (fileChecked (was library) (sizesOf board) (was bytes)) (was table) (now (table .exit)) r ⌝ }
 {
-    place::place(bytes, board.vertices, loads, table);
+    place::place(bytes, board.vertices, library, loads, table);
     let mut order = room::vertex_bytes();
     let checked = checks::arcs_checked(board, table, &mut order);
     match checked {
@@ -85,30 +91,31 @@ fn fill(board: Board, bytes: &[u8], loads: &[u8], table: &mut [i32]) -> Scanned
 }
 
 // The records after the first: checked all, then placed.
-fn load(board: Board, bytes: &[u8], table: &mut [i32]) -> Scanned
+fn load(board: Board, bytes: &[u8], library: &[i32], table: &mut [i32]) -> Scanned
     requires { ⌜ Lent board (now table) ⌝ }
     requires { ⌜ 5 ≤ length (now bytes) ⌝ }
-    ensures { λ r. ⌜ Loads (board .vertices) (arcsRead (sizesOf board) (was bytes)) (was table) (now (table .exit)) r ⌝ }
+    requires { ⌜ InForce (now library) ⌝ }
+    ensures { λ r. ⌜ Loads (board .vertices) (arcsRead (was library) (sizesOf board) (was bytes)) (was table) (now (table .exit)) r ⌝ }
 {
     let n = board.vertices;
     place::blank(table, n);
     let mut loads = loads::none();
-    let scanned = scan::scan(bytes, n, &mut loads);
+    let scanned = scan::scan(bytes, n, library, &mut loads);
     if let Scanned::Done = scanned {
-        return fill(board, bytes, &loads, table);
+        return fill(board, bytes, library, &loads, table);
     }
     scanned
 }
 
-// The board in the file, with its arcs in the table. Refused before the sizes are good, it leaves the table; refused later, N × N absent cells.
-pub fn read(bytes: &[u8], table: &mut [i32], scratch: &[i64]) -> Read
-    ensures { λ r. ⌜ readMeaning r ≡ readCall (was bytes) (was table) (length (was scratch)) ⌝ }
-    ensures { λ _. ⌜ now (table .exit) ≡ tableRead (was bytes) (was table) (length (was scratch)) ⌝ }
+// The board in the file, with its arcs in the table, its cells' ticks from the library. Refused before the sizes are good, it leaves the table; refused later, N × N absent cells.
+pub fn read(bytes: &[u8], table: &mut [i32], scratch: &[i64], library: &[i32]) -> Read
+    ensures { λ r. ⌜ readMeaning r ≡ readCall (was library) (was bytes) (was table) (length (was scratch)) ⌝ }
+    ensures { λ _. ⌜ now (table .exit) ≡ tableRead (was library) (was bytes) (was table) (length (was scratch)) ⌝ }
 {
-    let opened = open(bytes, table, scratch.len());
+    let opened = open(bytes, library, table, scratch.len());
     match opened {
         Made::Board(board) => {
-            let loaded = load(board, bytes, table);
+            let loaded = load(board, bytes, library, table);
             match loaded {
                 Scanned::Done => Read::Board(board),
                 Scanned::Refused(r, at) => Read::Refused(r, at),

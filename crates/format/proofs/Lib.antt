@@ -2,4 +2,8 @@ pub mod Examples
 pub mod Rising
 pub mod Parsing
 pub mod RoundTrip
+pub mod AcceptedRecords
+pub mod Readings
+pub mod Carrying
+pub mod InRange
 pub mod TextExamples

@@ -24,7 +24,7 @@ use Rattle.codec.proofs.Patterns.{pattern-below, twos-pattern}
 use Rattle.format.specs.declared.Record.the-variants as R
 use Rattle.format.specs.Records.{markAt, recordAt}
 use Rattle.format.specs.Arcs.{Arc}
-use Rattle.format.specs.Reading.{got, recordsFrom, arcsFrom, withArc, withRecord}
+use Rattle.format.specs.Reading.{got, recordsFrom, workedFrom, boardShape, knownAt, withArc, withRecord}
 use Rattle.format.specs.Writing.{arcRecord, endRecord, arcRecords}
 use Rattle.format.proofs.Rising.{Rising, placeAll}
 
@@ -132,25 +132,26 @@ module _ (N : ℕ) (s : List ℕ) (total : ℕ) (few : total < 256 ^ 2) where
   unfolding arcRecords
   here pre a as′ e = e ∙ ap (λ (l : List ℕ). pre ++ l) (sym (append-assoc (arcRecord a) (arcRecords as′) (endRecord total)))
 
-  pub records-read : (as′ : List Arc) (pre : List ℕ) (low count turns : ℕ) → Left pre as′ → Rising N low as′ → count + length as′ ≡ total → length as′ < turns → recordsFrom turns N s (length pre) low count ≡ got tt
+  -- an AR needs no library
+  pub records-read : (l : List ℤ) (as′ : List Arc) (pre : List ℕ) (low count turns : ℕ) → Left pre as′ → Rising N low as′ → count + length as′ ≡ total → length as′ < turns → recordsFrom (boardShape N) turns (knownAt l N s) s (length pre) low count ≡ got tt
   unfolding recordsFrom arcRecords
-  records-read as′ pre low count zero e h c l = absurd (omega arith)
-  records-read [] pre low count (suc turns) e h c l =
+  records-read lib as′ pre low count zero e h c l = absurd (omega arith)
+  records-read lib [] pre low count (suc turns) e h c l =
       let r = end-read N s pre total e few in
       simp (r .0, eq-eqb total count (omega (arith, c)), eq-eqb (length pre + 4) (length s) (sym (r .1)))
-  records-read (a ∷ as′) pre low count (suc turns) e h c l =
+  records-read lib (a ∷ as′) pre low count (suc turns) e h c l =
       let r = arc-read N s pre a (arcRecords as′ ++ endRecord total) (here pre a as′ e) (h .0) (h .1) (h .2) in
       let k = onward pre a as′ e in
       simp (r, le-leb low (N * a .from + a .to) (h .3))
-      (ap (λ (q : ℕ). recordsFrom turns N s q (suc (N * a .from + a .to)) (suc count)) (sym (k .1)) ∙ records-read as′ (pre ++ arcRecord a) (suc (N * a .from + a .to)) (suc count) turns (k .0) (h .4) (omega (arith, c)) (omega (arith, l)))
+      (ap (λ (q : ℕ). recordsFrom (boardShape N) turns (knownAt lib N s) s q (suc (N * a .from + a .to)) (suc count)) (sym (k .1)) ∙ records-read lib as′ (pre ++ arcRecord a) (suc (N * a .from + a .to)) (suc count) turns (k .0) (h .4) (omega (arith, c)) (omega (arith, l)))
 
-  -- an AR has its own delay, whatever the loads
-  pub arcs-read : (load : ℕ → ℕ) (as′ : List Arc) (pre : List ℕ) (low turns : ℕ) (g : Graph) → Left pre as′ → Rising N low as′ → length as′ < turns → arcsFrom (withRecord load) turns N s (length pre) g ≡ placeAll as′ g
-  unfolding arcsFrom arcRecords
-  arcs-read load as′ pre low zero g e h l = absurd (omega arith)
-  arcs-read load [] pre low (suc turns) g e h l = simp (end-read N s pre total e few .0)
-  arcs-read load (a ∷ as′) pre low (suc turns) g e h l =
+  -- and has its own delay, whatever the library and the loads
+  pub arcs-read : (l : List ℤ) (load : ℕ → ℕ) (as′ : List Arc) (pre : List ℕ) (low turns : ℕ) (g : Graph) → Left pre as′ → Rising N low as′ → length as′ < turns → workedFrom (boardShape N) (withRecord l load) turns (recordAt N s) (length pre) g ≡ placeAll as′ g
+  unfolding workedFrom arcRecords
+  arcs-read lib load as′ pre low zero g e h l = absurd (omega arith)
+  arcs-read lib load [] pre low (suc turns) g e h l = simp (end-read N s pre total e few .0)
+  arcs-read lib load (a ∷ as′) pre low (suc turns) g e h l =
       let r = arc-read N s pre a (arcRecords as′ ++ endRecord total) (here pre a as′ e) (h .0) (h .1) (h .2) in
       let k = onward pre a as′ e in
       simp r
-      (ap (λ (q : ℕ). arcsFrom (withRecord load) turns N s q (withArc (a .from) (a .to) (at (a .delay)) g)) (sym (k .1)) ∙ arcs-read load as′ (pre ++ arcRecord a) (suc (N * a .from + a .to)) turns (withArc (a .from) (a .to) (at (a .delay)) g) (k .0) (h .4) (omega (arith, l)))
+      (ap (λ (q : ℕ). workedFrom (boardShape N) (withRecord lib load) turns (recordAt N s) q (withArc (a .from) (a .to) (at (a .delay)) g)) (sym (k .1)) ∙ arcs-read lib load as′ (pre ++ arcRecord a) (suc (N * a .from + a .to)) turns (withArc (a .from) (a .to) (at (a .delay)) g) (k .0) (h .4) (omega (arith, l)))

@@ -26,9 +26,10 @@ use Rattle.timing.proofs.Verdict.{require-accepted, then-accepted, same-accepte
 use Rattle.laws.proofs.Lists.{cell-rows}
 use Rattle.laws.specs.Lists.{tabulate}
 use Rattle.codec.specs.Bytes.{byteOf, pattern}
+use Rattle.format.specs.Library.{libraryFits, InForce}
 use Rattle.format.specs.Records.{markAt}
 use Rattle.format.specs.Arcs.{Arc, arcIn, rowArcs, arcsBetween, arcsOf}
-use Rattle.format.specs.Reading.{got, BoardSizes, sizes, header, opened, recordsFrom, fileLoads, noArcs, fileGraph, arcsRead, readCall, tableRead}
+use Rattle.format.specs.Reading.{got, BoardSizes, sizes, header, opened, boardRecords, fileLoads, noArcs, fileGraph, arcsRead, readCall, tableRead}
 use Rattle.format.specs.Writing.{boardRecord, arcRecords, endRecord, fileOf, Written, writeCall}
 use Rattle.format.specs.RoundTrip.{RoundTrip}
 use Rattle.format.proofs.Rising.{rising-arcs, place-arcs}
@@ -56,7 +57,7 @@ unfolding arcRecords
 records-long [] = omega arith
 records-long (a ∷ as′) = omega (arith, records-long as′, length-append (tabulate 4 (byteOf (pattern 4 (a .delay)))) (arcRecords as′))
 
-module _ (m n N : ℕ) (t : List ℤ) (ok : T (passes m n N t)) where
+module _ (m n N : ℕ) (t : List ℤ) (ok : T (passes m n N t)) (l : List ℤ) (lib : InForce l) where
   abbrev g : Graph
   g = graphOf N t
 
@@ -77,19 +78,19 @@ module _ (m n N : ℕ) (t : List ℤ) (ok : T (passes m n N t)) where
   unfolding fileOf
   long = omega (arith, records-long (arcsOf N g), length-append (arcRecords (arcsOf N g)) (endRecord (length (arcsOf N g))))
 
-  records-good : recordsFrom (length (fileOf m n N (graphOf N t))) N (fileOf m n N (graphOf N t)) 5 0 0 ≡ got tt
-  unfolding fileOf
-  records-good = records-read N s (length (arcsOf N g)) few (arcsOf N g) (boardRecord m n N) 0 0 (length s) refl (rising-arcs N g (sound-fits (good .sound))) (omega arith) long
+  records-good : boardRecords l N (fileOf m n N (graphOf N t)) ≡ got tt
+  unfolding boardRecords fileOf
+  records-good = records-read N s (length (arcsOf N g)) few l (arcsOf N g) (boardRecord m n N) 0 0 (length s) refl (rising-arcs N g (sound-fits (good .sound))) (omega arith) long
 
-  graph-good : fileGraph N (fileOf m n N (graphOf N t)) ≡ graphOf N t
+  graph-good : fileGraph l N (fileOf m n N (graphOf N t)) ≡ graphOf N t
   unfolding fileGraph fileOf
-  graph-good = arcs-read N s (length (arcsOf N g)) few (fileLoads N s) (arcsOf N g) (boardRecord m n N) 0 (length s) noArcs refl (rising-arcs N g (sound-fits (good .sound))) long ∙ place-arcs N g (sound-within (good .sound))
+  graph-good = arcs-read N s (length (arcsOf N g)) few l (fileLoads N s) (arcsOf N g) (boardRecord m n N) 0 (length s) noArcs refl (rising-arcs N g (sound-fits (good .sound))) long ∙ place-arcs N g (sound-within (good .sound))
 
   header-good : header (fileOf m n N (graphOf N t)) ≡ got size
   unfolding header fileOf markAt
   header-good = simp (le-leb 2 (length s) (omega arith), le-leb 5 (length s) (omega arith))
 
-  arcs-good : arcsRead size (fileOf m n N (graphOf N t)) ≡ got (graphOf N t)
+  arcs-good : arcsRead l size (fileOf m n N (graphOf N t)) ≡ got (graphOf N t)
   unfolding arcsRead passes
   arcs-good =
       let q = and-e (sizesFit m n N && tableFits N t && cellsFit N g && noArcIntoInput m N g) (noCycle N g) ok in
@@ -97,15 +98,15 @@ module _ (m n N : ℕ) (t : List ℤ) (ok : T (passes m n N t)) where
       simp (records-good, graph-good, T-true {b = noArcIntoInput m N g} (r .1), T-true {b = noCycle N g} (q .1))
 
   module _ (t′ : List ℤ) (k : ℕ) (room : T (tableFits N t′)) (scratch : T (scratchFits N k)) where
-    opened-good : opened (fileOf m n N (graphOf N t)) t′ k ≡ got size
+    opened-good : opened l (fileOf m n N (graphOf N t)) t′ k ≡ got size
     unfolding opened
-    opened-good = simp (header-good, T-true {b = sizesFit m n N} (good .sizes), T-true {b = tableFits N t′} room, T-true {b = scratchFits N k} scratch)
+    opened-good = simp (T-true {b = libraryFits l} lib, header-good, T-true {b = sizesFit m n N} (good .sizes), T-true {b = tableFits N t′} room, T-true {b = scratchFits N k} scratch)
 
-    read-good : readCall (fileOf m n N (graphOf N t)) t′ k ≡ got size
+    read-good : readCall l (fileOf m n N (graphOf N t)) t′ k ≡ got size
     unfolding readCall
     read-good = simp (opened-good, arcs-good)
 
-    table-good : tableRead (fileOf m n N (graphOf N t)) t′ k ≡ withGraph N (graphOf N t) t′
+    table-good : tableRead l (fileOf m n N (graphOf N t)) t′ k ≡ withGraph N (graphOf N t) t′
     unfolding tableRead
     table-good = simp (opened-good, arcs-good)
 
@@ -156,8 +157,8 @@ left-file m n N s t destination w e =
     }
 
 pub round-trip : RoundTrip
-round-trip m n N s t destination w e t′ k room scratch = rw (l .file) record {
-  answer = read-good m n N t (l .ok) t′ k fits space;
+round-trip m n N s t destination w e lib ok t′ k room scratch = rw (l .file) record {
+  answer = read-good m n N t (l .ok) lib ok t′ k fits space;
   length-kept = ap length table ∙ length-withGraph N (graphOf N t) t′ room;
   same = λ x h. ap (λ (y : List ℤ). getD y x (pos 0)) table ∙ cell-same N t t′ x h;
   kept = λ x h. ap (λ (y : List ℤ). getD y x (pos 0)) table ∙ cell-kept N t t′ x h;
@@ -172,5 +173,5 @@ round-trip m n N s t destination w e t′ k room scratch = rw (l .file) record {
     space : T (scratchFits N k)
     space = le→leb (scratchCells N) k scratch
 
-    table : tableRead (fileOf m n N (graphOf N t)) t′ k ≡ withGraph N (graphOf N t) t′
-    table = table-good m n N t (l .ok) t′ k fits space
+    table : tableRead lib (fileOf m n N (graphOf N t)) t′ k ≡ withGraph N (graphOf N t) t′
+    table = table-good m n N t (l .ok) lib ok t′ k fits space

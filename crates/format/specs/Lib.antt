@@ -1,7 +1,10 @@
+pub mod Library
 pub mod Records
 pub mod Reading
+pub mod LibraryFile
 pub mod Arcs
 pub mod Writing
 pub mod RoundTrip
+pub mod InRange
 pub mod Text
 pub mod Examples

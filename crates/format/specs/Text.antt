@@ -10,6 +10,7 @@ use Rattle.timing.specs.Refusal.{Verdict, refused, accepted}
 use Rattle.timing.specs.Table.{graphOf}
 use Rattle.reduction.specs.Outcome.{Reduced}
 use Rattle.reduction.specs.Run.{runCall}
+use Rattle.format.specs.Library.{builtIn}
 use Rattle.format.specs.Arcs.{Arc, arcsOf}
 use Rattle.format.specs.Reading.{Reading, stopped, got, BoardSizes, readCall, tableRead}
 
@@ -97,5 +98,6 @@ textOf t (got b) = runText b (runCall (b .inputs) (b .outputs) (b .vertices) mos
 abbrev pub blank : List ℤ
 blank = tabulate mostCells (λ _. absentCell)
 
+-- the file is read under the built-in library
 unfoldable pub thinText : List ℕ → List ℕ
-thinText s = textOf (tableRead s blank mostCells) (readCall s blank mostCells)
+thinText s = textOf (tableRead builtIn s blank mostCells) (readCall builtIn s blank mostCells)

@@ -107,11 +107,16 @@ pub extern "C" fn meter_run(
 }
 
 #[no_mangle]
-pub extern "C" fn meter_read(bytes: &[u8], table: &mut [i32], scratch: &[i64]) -> usize
-    ensures { λ r. ⌜ r ≡ readNumber (readCall (was bytes) (was table) (length (was scratch))) ⌝ }
-    ensures { λ _. ⌜ now (table .exit) ≡ tableRead (was bytes) (was table) (length (was scratch)) ⌝ }
+pub extern "C" fn meter_read(
+    bytes: &[u8],
+    table: &mut [i32],
+    scratch: &[i64],
+    library: &[i32],
+) -> usize
+    ensures { λ r. ⌜ r ≡ readNumber (readCall (was library) (was bytes) (was table) (length (was scratch))) ⌝ }
+    ensures { λ _. ⌜ now (table .exit) ≡ tableRead (was library) (was bytes) (was table) (length (was scratch)) ⌝ }
 {
-    let answer = read::read(bytes, table, scratch);
+    let answer = read::read(bytes, table, scratch, library);
     match answer {
         Read::Board(_) => 0,
         Read::Refused(r, _) => numbers::number(r),

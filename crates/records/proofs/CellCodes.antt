@@ -4,7 +4,7 @@ use Prim.Native.Nat.{ℕ, _≤_}
 use borrow.Author.Tests.{le-ltb}
 use Rattle.timing.specs.declared.Refusal.the-variants.{WrongField}
 use Rattle.timing.specs.Refusal.{number, refused}
-use Rattle.format.specs.Records.{cellTicks, ticksOf}
+use Rattle.format.specs.Library.{cellTicks, ticksOf}
 
 pub no-ticks : (c : ℕ) → 5 ≤ c → refused (number WrongField) ≡ ticksOf c
 unfolding cellTicks ticksOf

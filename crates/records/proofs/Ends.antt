@@ -15,7 +15,7 @@ use Rattle.codec.specs.Bytes.{signedAt}
 use Rattle.format.specs.declared.Mark.the-variants as M
 use Rattle.format.specs.declared.Record.{Record}
 use Rattle.format.specs.declared.Record.the-variants as R
-use Rattle.format.specs.Records.{byteAt, ticksOf, from, to, body}
+use Rattle.format.specs.Records.{byteAt, from, to, body}
 use Rattle.records.specs.Records.{endsOf}
 
 then-more : {A B : Type 0} (b c : Bool) (a : A) (f : A → Verdict B) {v : Verdict A} → require b FileEnds (require c WrongField (accepted a)) ≡ v → require b FileEnds (require c WrongField (f a)) ≡ (v then f)
@@ -51,7 +51,7 @@ module _ (N : ℕ) (s : List ℕ) (p : ℕ) where
       ∙ then-more (leb (p + 8) (length s)) both (from N s p, to N s p) arcAfter e
 
   abbrev pub cellAfter : ℕ × ℕ → Verdict Record
-  cellAfter e = let c = byteAt s (p + 4) in ticksOf c then λ _. accepted (R.Cell (e .0) (e .1) c)
+  cellAfter e = accepted (R.Cell (e .0) (e .1) (byteAt s (p + 4)))
 
   pub cell-is : {v : Verdict (ℕ × ℕ)} → endsOf N s p 5 ≡ v → body N s p M.Cell ≡ (v then cellAfter)
   unfolding endsOf

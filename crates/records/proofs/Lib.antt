@@ -1,6 +1,5 @@
 pub mod CellCodes
 pub mod Ends
-pub mod AcceptedRecords
 pub mod Appending
 pub mod Remaining
 pub mod Decimal

@@ -1,22 +1,23 @@
 -- What is found at an offset: document 01's number, or what stands there.
 use mathlib.Core.Bool.{_&&_}
 use mathlib.Core.List.{List}
-use Prim.Native.Nat.{ℕ, _+_, _≤_, _<_}
-use lib.Dec.{T, leb, ltb}
+use Prim.Native.Nat.{ℕ, _+_}
+use lib.Dec.{leb, ltb}
 use lib.IntN.{ℤ}
 use lib.ListN.{length}
 use Rattle.timing.specs.declared.Refusal.the-variants.{FileEnds, WrongField}
-use Rattle.timing.specs.Refusal.{number, Verdict, refused, accepted, isAccepted, require}
+use Rattle.timing.specs.Refusal.{number, Verdict, refused, accepted, require}
 use Rattle.format.specs.declared.Record.{Record}
-use Rattle.format.specs.declared.Record.the-variants as R
-use Rattle.format.specs.Records.{ticksOf, from, to}
-use Rattle.records.specs.Lines.{DelayInRange}
+use Rattle.format.specs.declared.Entry.{Entry}
+use Rattle.format.specs.Records.{from, to}
 use Rattle.records.specs.declared.parse.Ticks.{Ticks}
 use Rattle.records.specs.declared.parse.Ticks.the-variants as K
 use Rattle.records.specs.declared.parse.Ends.{Ends}
 use Rattle.records.specs.declared.parse.Ends.the-variants as E
 use Rattle.records.specs.declared.parse.Found.{Found}
 use Rattle.records.specs.declared.parse.Found.the-variants as F
+use Rattle.records.specs.declared.library.FoundEntry.{FoundEntry}
+use Rattle.records.specs.declared.library.FoundEntry.the-variants as N
 
 abbrev pub ticksMeaning : Ticks → Verdict ℤ
 ticksMeaning (K.Of d) = accepted d
@@ -37,8 +38,6 @@ abbrev pub foundMeaning : Found → Verdict Record
 foundMeaning (F.Record r) = accepted r
 foundMeaning (F.Refused r) = refused (number r)
 
--- a record found at p: its bytes are all there, an arc's ends are vertices, and it has a delay
-abbrev pub LegalRecord : ℕ → List ℕ → ℕ → Record → Type 0
-LegalRecord N s p (R.Arc u v d) = (p + 8 ≤ length s) × (u < N) × (v < N) × DelayInRange d
-LegalRecord N s p (R.Cell u v c) = (p + 5 ≤ length s) × (u < N) × (v < N) × T (isAccepted (ticksOf c))
-LegalRecord N s p (R.End n) = p + 4 ≤ length s
+abbrev pub entryMeaning : FoundEntry → Verdict Entry
+entryMeaning (N.Entry e) = accepted e
+entryMeaning (N.Refused r) = refused (number r)

@@ -13,7 +13,8 @@ ghost use lib.ListN.{length};
 ghost use Rattle.laws.specs.Lent.{was};
 ghost use Rattle.timing.specs.Limits.{maxVertices};
 ghost use Rattle.format.specs.declared.Mark.the-variants.{Arc, Cell, End};
-ghost use Rattle.format.specs.Records.{byteAt, letters, markAt, ticksOf, body, recordAt};
+ghost use Rattle.format.specs.Library.{ticksOf};
+ghost use Rattle.format.specs.Records.{byteAt, letters, markAt, body, recordAt};
 ghost use Rattle.records.specs.Records.{ticksMeaning, endsMeaning, foundMeaning, endsOf};
 
 // The ticks of a cell code.
@@ -73,9 +74,13 @@ pub fn mark_at(bytes: &[u8], at: usize) -> Mark
     if letters(bytes, at, b'E', b'N') {
         return Mark::End;
     }
+    if letters(bytes, at, b'C', b'L') {
+        return Mark::Library;
+    }
     Mark::Other
 }
 
+// The built-in ticks.
 pub fn cell_ticks(code: u8) -> Ticks
     ensures { λ r. ⌜ ticksMeaning r ≡ ticksOf code ⌝ }
 {
@@ -144,14 +149,7 @@ fn cell_at(bytes: &[u8], n: usize, at: usize) -> Found
 {
     let ends = ends_at(bytes, n, at, 5);
     match ends {
-        Ends::Of(u, v) => {
-            let code = bytes[at + 4];
-            let ticks = cell_ticks(code);
-            match ticks {
-                Ticks::Of(_) => Found::Record(Record::Cell(u, v, code)),
-                Ticks::Refused(r) => Found::Refused(r),
-            }
-        }
+        Ends::Of(u, v) => Found::Record(Record::Cell(u, v, bytes[at + 4])),
         Ends::Refused(r) => Found::Refused(r),
     }
 }
@@ -180,6 +178,7 @@ pub fn record_at(bytes: &[u8], n: usize, at: usize) -> Found
         Mark::Arc => arc_at(bytes, n, at),
         Mark::Cell => cell_at(bytes, n, at),
         Mark::End => end_at(bytes, at),
+        Mark::Library => Found::Refused(Refusal::WrongMark),
         Mark::Other => Found::Refused(Refusal::WrongMark),
     }
 }

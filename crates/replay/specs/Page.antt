@@ -8,7 +8,8 @@ use Rattle.replay.specs.declared.calls.Played.the-variants as P
 abbrev pub OnPage : List ℕ → ℕ → Type 0
 OnPage page at = (1 ≤ length page) × (at ≤ length page)
 
--- so does a call's text
+-- so does a call's text; a library that was put is within its memory
 abbrev pub EndsOn : List ℕ → Played → Type 0
 EndsOn page (P.Printed at) = OnPage page at
+EndsOn page (P.Put held) = held ≤ 64
 EndsOn page P.Ended = Unit {0}

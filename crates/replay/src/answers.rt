@@ -1,6 +1,7 @@
 // The line about a call's answer.
 use crate::print;
 use files::answer::Read;
+use files::scan::Scanned;
 use files::write::Written;
 use paths::queries;
 use run::answer::Ran;
@@ -34,6 +35,20 @@ fn pair(page: &mut [u8], at: usize, first: &[u8], x: usize, second: &[u8], y: us
     let next = print::word(page, at, first);
     let next = print::number(page, next, x);
     line(page, next, second, y)
+}
+
+fn refused_at(page: &mut [u8], at: usize, refusal: Refusal, offset: usize) -> usize
+    requires { ⌜ OnPage (now page) at ⌝ }
+    ensures { λ r. ⌜ OnPage (now (page .exit)) r ⌝ }
+{
+    pair(
+        page,
+        at,
+        b"refused",
+        numbers::number(refusal),
+        b" at",
+        offset,
+    )
 }
 
 pub fn step(page: &mut [u8], at: usize, answer: Answer) -> usize
@@ -87,6 +102,16 @@ pub fn read(page: &mut [u8], at: usize, answer: Read) -> usize
             let next = print::number(page, next, board.outputs);
             line(page, next, b"", board.vertices)
         }
-        Read::Refused(r, offset) => pair(page, at, b"refused", numbers::number(r), b" at", offset),
+        Read::Refused(r, offset) => refused_at(page, at, r, offset),
+    }
+}
+
+pub fn scanned(page: &mut [u8], at: usize, answer: Scanned) -> usize
+    requires { ⌜ OnPage (now page) at ⌝ }
+    ensures { λ r. ⌜ OnPage (now (page .exit)) r ⌝ }
+{
+    match answer {
+        Scanned::Done => print::word(page, at, b"ok\n"),
+        Scanned::Refused(r, offset) => refused_at(page, at, r, offset),
     }
 }

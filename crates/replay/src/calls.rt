@@ -19,6 +19,8 @@ pub struct Call {
 pub enum Played {
     // The place after the call's text.
     Printed(usize),
+    // The length of the library that was put.
+    Put(usize),
     // The input ends inside the call, or a list is longer than the program's memory.
     Ended,
 }

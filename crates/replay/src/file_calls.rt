@@ -44,7 +44,13 @@ pub fn write(call: Call, table: &[i32], scratch: &[i64], page: &mut [u8]) -> Pla
     write_into(call, table, scratch, &mut bytes[0..length], page)
 }
 
-pub fn read(call: Call, table: &mut [i32], scratch: &[i64], page: &mut [u8]) -> Played
+pub fn read(
+    call: Call,
+    table: &mut [i32],
+    scratch: &[i64],
+    library: &[i32],
+    page: &mut [u8],
+) -> Played
     requires { ⌜ OnPage (now page) (call .at) ⌝ }
     ensures { λ r. ⌜ EndsOn (now (page .exit)) r ⌝ }
 {
@@ -56,7 +62,7 @@ pub fn read(call: Call, table: &mut [i32], scratch: &[i64], page: &mut [u8]) -> 
     if came != count {
         return Played::Ended;
     }
-    let answer = read::read(&file[0..count], table, scratch);
+    let answer = read::read(&file[0..count], table, scratch, library);
     let next = answers::read(page, call.at, answer);
     Played::Printed(calls::left(page, next, table, scratch))
 }

@@ -67,6 +67,13 @@ pub fn table(page: &mut [u8], at: usize, table: &[i32]) -> usize
     line(page, at, b"table", table.len(), table, &[], &[])
 }
 
+pub fn library(page: &mut [u8], at: usize, library: &[i32]) -> usize
+    requires { ⌜ OnPage (now page) at ⌝ }
+    ensures { λ r. ⌜ OnPage (now (page .exit)) r ⌝ }
+{
+    line(page, at, b"library", library.len(), library, &[], &[])
+}
+
 pub fn delays(page: &mut [u8], at: usize, delays: &[i64]) -> usize
     requires { ⌜ OnPage (now page) at ⌝ }
     ensures { λ r. ⌜ OnPage (now (page .exit)) r ⌝ }

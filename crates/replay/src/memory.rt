@@ -11,6 +11,8 @@ pub const VERTICES: usize = 200;
 
 pub const ARRIVALS: usize = 100;
 
+pub const LIBRARY: usize = 64;
+
 pub const PAGE: usize = 65_536;
 
 // What a scratch cell holds before a call.
@@ -55,6 +57,13 @@ pub fn arrivals() -> [i64; ARRIVALS]
     ensures { λ r. ⌜ length r ≡ 100 ⌝ }
 {
     [0i64; ARRIVALS]
+}
+
+// Cells for a library, and for one that is too long.
+pub fn library() -> [i32; LIBRARY]
+    ensures { λ r. ⌜ length r ≡ 64 ⌝ }
+{
+    [0i32; LIBRARY]
 }
 
 // Bytes of a file, or of text that waits to be written.

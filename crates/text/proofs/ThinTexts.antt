@@ -9,6 +9,7 @@ use Rattle.laws.specs.Lists.{tabulate, rows}
 use Rattle.timing.specs.declared.Refusal.{Refusal}
 use Rattle.timing.specs.Limits.{maxVertices, absentCell}
 use Rattle.timing.specs.Table.{withGraph}
+use Rattle.format.specs.Library.{builtIn}
 use Rattle.format.specs.Reading.{Reading, BoardSizes, noArcs, readCall, tableRead}
 use Rattle.format.specs.Text.{textOf, mostCells, blank, thinText}
 use Rattle.files.specs.declared.answer.Read.{Read}
@@ -44,13 +45,13 @@ blank-table t e =
 
 -- ---- the call's answer
 
-module _ (s : List ℕ) {t : List ℤ} {k : ℕ} {r : Read} (e : t ≡ blank) (f : k ≡ mostCells) (answer : readMeaning r ≡ readCall s t k) where
-  pub text-is : {after : List ℤ} → after ≡ tableRead s t k → (x : Read) → r ≡ x → textOf after (readMeaning x) ≡ thinText s
+module _ (s : List ℕ) {l : List ℤ} {t : List ℤ} {k : ℕ} {r : Read} (b : l ≡ builtIn) (e : t ≡ blank) (f : k ≡ mostCells) (answer : readMeaning r ≡ readCall l s t k) where
+  pub text-is : {after : List ℤ} → after ≡ tableRead l s t k → (x : Read) → r ≡ x → textOf after (readMeaning x) ≡ thinText s
   unfolding thinText
   text-is left x q =
       ap₂ (λ (a : List ℤ) (b : Reading BoardSizes). textOf a b)
-      (left ∙ ap₂ (λ (b : List ℤ) (j : ℕ). tableRead s b j) e f)
-      (ap readMeaning (sym q) ∙ answer ∙ ap₂ (λ (b : List ℤ) (j : ℕ). readCall s b j) e f)
+      (left ∙ (λ i. tableRead (b i) s (e i) (f i)))
+      (ap readMeaning (sym q) ∙ answer ∙ (λ i. readCall (b i) s (e i) (f i)))
 
   pub stops-inside : (x : Refusal) (p : ℕ) → r ≡ R.Refused x p → p ≤ length s
-  stops-inside x p q = subst (StopsBy (length s)) (sym answer ∙ ap readMeaning q) (read-stops s t k)
+  stops-inside x p q = subst (StopsBy (length s)) (sym answer ∙ ap readMeaning q) (read-stops l s t k)

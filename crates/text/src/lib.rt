@@ -1,5 +1,6 @@
 // The whole text of `thin`: the size, the arcs and the counts of a board file that was read and reduced, or its refusal.
 use files::answer::Read;
+use files::library;
 use files::place;
 use files::read;
 use files::write;
@@ -16,6 +17,7 @@ ghost use Prim.Native.Nat.{_≤_, _<_, _^_};
 ghost use lib.ListN.{length};
 ghost use Rattle.laws.specs.Lent.{was};
 ghost use Rattle.timing.specs.Refusal.{number};
+ghost use Rattle.format.specs.Library.{builtIn};
 ghost use Rattle.format.specs.Reading.{got};
 ghost use Rattle.format.specs.Text.{refusedLine, reducedText, mostCells, textOf, thinText};
 ghost use Rattle.paths.specs.Checked.{Checked};
@@ -70,8 +72,15 @@ fn run_text(board: Board, table: &mut [i32], scratch: &mut [i64], out: &mut [u8]
 }
 
 // The text, with a lent table and scratch; what they held does not matter.
-fn text_into(input: &[u8], table: &mut [i32], scratch: &mut [i64], out: &mut [u8]) -> usize
+fn text_into(
+    input: &[u8],
+    library: &[i32],
+    table: &mut [i32],
+    scratch: &mut [i64],
+    out: &mut [u8],
+) -> usize
     requires { ⌜ length (now input) ≤ 65536 ⌝ }
+    requires { ⌜ now library ≡ builtIn ⌝ }
     requires { ⌜ length (now table) ≡ mostCells ⌝ }
     requires { ⌜ length (now scratch) ≡ mostCells ⌝ }
     requires { ⌜ textBytes ≤ length (now out) ⌝ }
@@ -79,7 +88,7 @@ fn text_into(input: &[u8], table: &mut [i32], scratch: &mut [i64], out: &mut [u8
     ensures { λ r. ⌜ r ≤ textBytes ⌝ }
 {
     place::blank(table, Board::MAX_VERTICES);
-    let found = read::read(input, table, scratch);
+    let found = read::read(input, table, scratch, library);
     match found {
         Read::Board(board) => run_text(board, table, scratch, out),
         Read::Refused(r, at) => refused_text(r, at, out),
@@ -93,7 +102,9 @@ pub fn thin_text(input: &[u8], out: &mut [u8]) -> usize
     ensures { λ r. ⌜ Appends (thinText (was input)) (was out) 0 (now (out .exit)) r ⌝ }
     ensures { λ r. ⌜ r ≤ textBytes ⌝ }
 {
+    let mut library = library::none();
+    library::built_in(&mut library);
     let mut table = room::cells();
     let mut scratch = room::wide_cells();
-    text_into(input, &mut table, &mut scratch, out)
+    text_into(input, &library, &mut table, &mut scratch, out)
 }

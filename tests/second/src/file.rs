@@ -1,22 +1,23 @@
 //! Board files: reading and writing.
 
 use crate::board::{Board, Sizes};
+use crate::library::Library;
+use crate::records::{refused, Records, RefusedRead};
 use crate::refusal::{self, Refusal};
 
-/// A refused read: its number, and the offset in the file.
-#[derive(Clone, Copy, Debug, PartialEq, Eq)]
-pub struct RefusedRead {
-    pub number: Refusal,
-    pub offset: u64,
-}
-
-/// Reads a file into the lent table and answers the sizes it states.
-pub fn read(bytes: &[u8], table: &mut [i32], scratch: usize) -> Result<Sizes, RefusedRead> {
-    let mut records = Records { bytes, at: 0 };
-    let (sizes, board) =
-        read_sizes(&mut records, table.len(), scratch).map_err(|number| refused(number, 0))?;
+/// Reads a file into the lent table, its cells by the lent library, and answers the sizes it states.
+pub fn read(
+    bytes: &[u8],
+    table: &mut [i32],
+    scratch: usize,
+    library: &[i32],
+) -> Result<Sizes, RefusedRead> {
+    let at_start = |number| refused(number, 0);
+    let library = Library::lent(library).map_err(at_start)?;
+    let mut records = Records::new(bytes);
+    let (sizes, board) = read_sizes(&mut records, table.len(), scratch).map_err(at_start)?;
     table[..board.cells()].fill(Board::ABSENT);
-    let outcome = read_arcs(&board, &mut records, table);
+    let outcome = read_arcs(&board, &library, &mut records, table);
     if outcome.is_err() {
         table[..board.cells()].fill(Board::ABSENT);
     }
@@ -38,15 +39,20 @@ fn read_sizes(
 }
 
 /// All records after `BD`, what follows the last, and checks 5 and 6.
-fn read_arcs(board: &Board, records: &mut Records, table: &mut [i32]) -> Result<(), RefusedRead> {
+fn read_arcs(
+    board: &Board,
+    library: &Library,
+    records: &mut Records,
+    table: &mut [i32],
+) -> Result<(), RefusedRead> {
     let mut last = None;
     let mut count = 0;
     let mut leaving = [0; Board::MOST_VERTICES];
     let mut cells = Vec::new();
     loop {
-        let start = records.at;
-        let record =
-            read_arc(board, records, last, count).map_err(|number| refused(number, start))?;
+        let start = records.at();
+        let record = read_arc(board, library, records, last, count)
+            .map_err(|number| refused(number, start))?;
         let Some((from, to, delay)) = record else { break };
         match delay {
             Delay::Stated(delay) => table[board.vertices * from + to] = delay,
@@ -56,9 +62,7 @@ fn read_arcs(board: &Board, records: &mut Records, table: &mut [i32]) -> Result<
         last = Some((from, to));
         count += 1;
     }
-    if records.at < records.bytes.len() {
-        return Err(refused(refusal::BYTES_AFTER_END, records.at));
-    }
+    records.finish()?;
     // the loads are known only now
     for (from, to, ticks) in cells {
         table[board.vertices * from + to] = under_load(ticks, leaving[to]);
@@ -77,6 +81,7 @@ enum Delay {
 /// One `AR` or `CE` record as an arc; none for `EN`.
 fn read_arc(
     board: &Board,
+    library: &Library,
     records: &mut Records,
     last: Option<(usize, usize)>,
     count: usize,
@@ -89,12 +94,9 @@ fn read_arc(
         }
         b"CE" => {
             let [from, to, code] = records.body()?;
-            (from, to, cell_ticks(code).map(Delay::Cell))
+            (from, to, library.ticks(code).map(Delay::Cell))
         }
-        b"EN" => {
-            let stated = u16::from_le_bytes(records.body()?);
-            return if usize::from(stated) == count { Ok(None) } else { Err(refusal::END_COUNT) };
-        }
+        b"EN" => return records.end(count).map(|()| None),
         _ => return Err(refusal::MARK),
     };
     let (from, to) = (usize::from(from), usize::from(to));
@@ -108,40 +110,9 @@ fn read_arc(
     Ok(Some((from, to, delay)))
 }
 
-/// The ticks of a cell without load, by its code.
-fn cell_ticks(code: u8) -> Option<u32> {
-    match code {
-        0 => Some(1),     // INV
-        1..=4 => Some(2), // NAND2, AND, OR, MUX
-        5..=255 => None,
-    }
-}
-
 /// A cell's delay: a fifth more for each record that leaves its target, rounded up.
 fn under_load(ticks: u32, load: u32) -> i32 {
     (ticks * (5 + load)).div_ceil(5) as i32
-}
-
-/// The bytes of a file, taken record by record.
-struct Records<'f> {
-    bytes: &'f [u8],
-    at: usize,
-}
-
-impl Records<'_> {
-    fn mark(&mut self) -> Result<[u8; 2], Refusal> {
-        self.body()
-    }
-
-    fn body<const LENGTH: usize>(&mut self) -> Result<[u8; LENGTH], Refusal> {
-        let body = self.bytes[self.at..].first_chunk().ok_or(refusal::BYTES_END)?;
-        self.at += LENGTH;
-        Ok(*body)
-    }
-}
-
-fn refused(number: Refusal, offset: usize) -> RefusedRead {
-    RefusedRead { number, offset: offset as u64 }
 }
 
 /// Writes the board as a file and answers its bytes.

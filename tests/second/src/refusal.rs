@@ -24,3 +24,4 @@ pub const END_COUNT: Refusal = 19;
 pub const BYTES_AFTER_END: Refusal = 20;
 pub const SHORT_DESTINATION: Refusal = 21;
 pub const TIMES: Refusal = 22;
+pub const LIBRARY: Refusal = 23;

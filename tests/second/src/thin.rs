@@ -1,7 +1,9 @@
 //! The text that the program `thin` prints.
 
 use crate::board::{Board, Sizes};
-use crate::file::{self, RefusedRead};
+use crate::file;
+use crate::library::BUILT_IN;
+use crate::records::RefusedRead;
 use crate::refusal::Refusal;
 use crate::run::{self, Outcome};
 use std::fmt::Write;
@@ -31,7 +33,7 @@ fn reduced(
     const CELLS: usize = Board::MOST_VERTICES * Board::MOST_VERTICES;
     let at_start = |number| RefusedRead { number, offset: 0 };
     let mut table = vec![Board::ABSENT; CELLS];
-    let sizes = file::read(bytes, &mut table, CELLS)?;
+    let sizes = file::read(bytes, &mut table, CELLS, &BUILT_IN)?;
     let outcome = run(sizes, &mut table, CELLS).map_err(at_start)?;
     let board = Board::new(sizes).map_err(at_start)?;
 

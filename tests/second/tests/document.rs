@@ -1,10 +1,12 @@
-//! Document 01's boards for checking, one for the run, 003's example for the margins, and ticket 2's
-//! cells under load, on the second implementation.
+//! Document 01's boards for checking, one for the run, 003's example for the margins, ticket 2's cells
+//! under load, and ticket 3's libraries, on the second implementation.
 
 use second::board::{Board, Sizes};
 use second::delays::{MOST_TIME, NONE};
-use second::file::{read, RefusedRead};
+use second::file::read;
+use second::library::{read_library, BUILT_IN, CODES};
 use second::margins::{self, Answers};
+use second::records::RefusedRead;
 use second::{delays, literal, run, steps, thin};
 
 const SCRATCH: usize = 8_100;
@@ -51,9 +53,29 @@ fn file(inputs: u8, outputs: u8, vertices: u8, records: &[Vec<u8>]) -> Vec<u8> {
 
 /// The table that a file of so many vertices is read to.
 fn table_of(file: &[u8], vertices: usize) -> Vec<i32> {
+    table_under(&BUILT_IN, file, vertices)
+}
+
+fn table_under(library: &[i32], file: &[u8], vertices: usize) -> Vec<i32> {
     let mut cells = vec![9; vertices * vertices];
-    assert_eq!(read(file, &mut cells, SCRATCH).map(|sizes| sizes.vertices), Ok(vertices as u64));
+    let answer = read(file, &mut cells, SCRATCH, library);
+    assert_eq!(answer.map(|sizes| sizes.vertices), Ok(vertices as u64));
     cells
+}
+
+/// A library with these codes.
+fn library(chips: &[(u8, i32)]) -> [i32; CODES] {
+    let mut cells = [Board::ABSENT; CODES];
+    for &(code, ticks) in chips {
+        cells[usize::from(code)] = ticks;
+    }
+    cells
+}
+
+/// `CL` records.
+fn chips(chips: &[(u8, i32)]) -> Vec<u8> {
+    let record = |&(code, ticks): &(u8, i32)| [b"CL", &[code][..], &ticks.to_le_bytes()].concat();
+    chips.iter().flat_map(record).collect()
 }
 
 fn p2() -> Vec<i32> {
@@ -250,7 +272,7 @@ fn margins_are_refused_for_lists_of_another_length_or_times_out_of_range() {
 #[test]
 fn an_empty_file_ends_before_its_first_record() {
     let mut cells = [5; 4];
-    assert_eq!(read(&[], &mut cells, 4), Err(RefusedRead { number: 15, offset: 0 }));
+    assert_eq!(read(&[], &mut cells, 4, &BUILT_IN), Err(RefusedRead { number: 15, offset: 0 }));
     assert_eq!(cells, [5; 4]);
 }
 
@@ -300,7 +322,7 @@ fn cells_and_arcs_count_before_and_after_a_cell() {
 fn a_refused_cell_keeps_its_number_and_offset() {
     let refused = |file: &[u8], number, offset| {
         let mut cells = [5; 17];
-        assert_eq!(read(file, &mut cells, 16), Err(RefusedRead { number, offset }));
+        assert_eq!(read(file, &mut cells, 16, &BUILT_IN), Err(RefusedRead { number, offset }));
         assert_eq!(cells[..16], [Board::ABSENT; 16]);
         assert_eq!(cells[16], 5);
     };
@@ -328,8 +350,90 @@ fn a_full_row_of_cells_is_refused() {
     for (records, number) in [(&full[..], 5), (&full[1..], 6)] {
         let mut cells = vec![5; 90 * 90];
         let refused = RefusedRead { number, offset: 0 };
-        assert_eq!(read(&file(1, 1, 90, records), &mut cells, SCRATCH), Err(refused));
+        assert_eq!(read(&file(1, 1, 90, records), &mut cells, SCRATCH, &BUILT_IN), Err(refused));
         assert!(cells.iter().all(|&cell| cell == Board::ABSENT));
+    }
+}
+
+#[test]
+fn a_library_takes_the_place_of_the_built_in_cells() {
+    let own = [(0, 3), (7, 0), (31, 1_000_000)];
+    let mut cells = BUILT_IN;
+    assert_eq!(read_library(&[&chips(&own)[..], b"EN\x03\x00"].concat(), &mut cells), Ok(()));
+    assert_eq!(cells, library(&own));
+
+    // 31 drives 88 arcs, 0 one, 7 none
+    let arcs = (2..90).map(|v| arc(1, v, 0));
+    let records = [cell(0, 1, 31)].into_iter().chain(arcs).chain([cell(2, 3, 0), cell(3, 4, 7)]);
+    let table = table_under(&cells, &file(1, 1, 90, &records.collect::<Vec<_>>()), 90);
+    assert_eq!([table[1], table[2 * 90 + 3], table[3 * 90 + 4]], [18_600_000, 4, 0]);
+
+    // it may be empty
+    assert_eq!(read_library(b"EN\x00\x00", &mut cells), Ok(()));
+    assert_eq!(cells, library(&[]));
+}
+
+#[test]
+fn a_refused_library_leaves_the_old_one() {
+    let refused = |file: &[&[u8]], number, offset| {
+        // what the cells held is not tested
+        let mut cells = [-5; CODES];
+        let answer = read_library(&file.concat(), &mut cells);
+        assert_eq!(answer, Err(RefusedRead { number, offset }));
+        assert_eq!(cells, [-5; CODES]);
+    };
+    let first = chips(&[(3, 9)]);
+    let second = |chip| [&first[..], &chips(&[chip]), b"EN\x02\x00"].concat();
+    refused(&[], 15, 0);
+    refused(&[&first], 15, 7);
+    refused(&[&first, b"E"], 15, 7);
+    refused(&[&first, b"EN\x01"], 15, 7);
+    refused(&[&first, b"CL\xff\x00\x00\x00"], 15, 7);
+    refused(&[b"BD\x01\x01\x02EN\x00\x00"], 16, 0);
+    refused(&[&first, b"CE"], 16, 7);
+    refused(&[&second((32, 0))], 17, 7);
+    refused(&[&second((255, -1))], 17, 7);
+    refused(&[&second((4, -1))], 23, 7);
+    refused(&[&second((4, Board::ABSENT))], 23, 7);
+    refused(&[&second((2, 1_000_001))], 23, 7);
+    refused(&[&second((3, 9))], 18, 7);
+    refused(&[&second((2, 1_000_000))], 18, 7);
+    refused(&[&first, b"EN\x00\x00E"], 19, 7);
+    refused(&[&first, b"EN\x01\x01"], 19, 7);
+    refused(&[&first, b"EN\x01\x00E"], 20, 11);
+
+    for length in [0, 31, 33, 64] {
+        let mut cells = vec![5; length];
+        let refused = RefusedRead { number: 23, offset: 0 };
+        assert_eq!(read_library(&[], &mut cells), Err(refused));
+        assert_eq!(cells, vec![5; length]);
+    }
+}
+
+#[test]
+fn a_board_is_refused_under_an_odd_library() {
+    let odd = [-1, 1_000_001, i32::MIN + 1].map(|ticks| library(&[(31, ticks)]).to_vec());
+    let lengths = [0, 31, 33, 64].map(|length| vec![1; length]);
+    let sound = file(1, 1, 2, &[arc(0, 1, 1)]);
+    for library in odd.iter().chain(&lengths) {
+        for bytes in [b"", &b"EN"[..], b"BD\x00\x01\x02", b"BD\x01\x01\x5a", &sound] {
+            let mut cells = [5; 4];
+            let refused = RefusedRead { number: 23, offset: 0 };
+            assert_eq!(read(bytes, &mut cells, 3, library), Err(refused));
+            assert_eq!(cells, [5; 4]);
+        }
+    }
+}
+
+#[test]
+fn a_code_that_the_library_lacks_is_refused() {
+    let own = library(&[(7, 10)]);
+    assert_eq!(table_under(&own, &file(1, 1, 2, &[cell(0, 1, 7)]), 2)[1], 10);
+    for code in [0, 4, 6, 31, 32, 255] {
+        let mut cells = [5; 4];
+        let refused = RefusedRead { number: 17, offset: 5 };
+        assert_eq!(read(&file(1, 1, 2, &[cell(0, 1, code)]), &mut cells, 4, &own), Err(refused));
+        assert_eq!(cells, [Board::ABSENT; 4]);
     }
 }
 

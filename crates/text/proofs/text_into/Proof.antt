@@ -17,18 +17,18 @@ module _ (c : tie.After-read) where
   start = cleared .before .before .before .before
 
   table-blank : cleared .blank .last .0 ≡ blank
-  table-blank = cleared .blank .ensures ∙ blank-table (start .args .table .now) (start .pre .1 .0)
+  table-blank = cleared .blank .ensures ∙ blank-table (start .args .table .now) (start .pre .1 .1 .0)
 
   -- what the call's answer comes to
   text : (x : Read) → c .read .result ≡ x → textOf (c .read .last .1 .0) (readMeaning x) ≡ thinText (start .args .input .now)
-  text x q = text-is (start .args .input .now) table-blank (start .pre .1 .1 .0) (c .read .ensures .0) (c .read .ensures .1) x q
+  text x q = text-is (start .args .input .now) (start .pre .1 .0) table-blank (start .pre .1 .1 .1 .0) (c .read .ensures .0) (c .read .ensures .1) x q
 
 refused-text-requires : tie.Need-refused-text-requires
 refused-text-requires c κs =
     let k = c .before .before in
     let x = k .before .before .before in
     let s = start x in
-    (omega (arith, s .pre .0, stops-inside (s .args .input .now) (table-blank x) (s .pre .1 .1 .0) (x .read .ensures .0) _ _ (k .found2 .given .1)), s .pre .1 .1 .1)
+    (omega (arith, s .pre .0, stops-inside (s .args .input .now) (s .pre .1 .0) (table-blank x) (s .pre .1 .1 .1 .0) (x .read .ensures .0) _ _ (k .found2 .given .1)), s .pre .1 .1 .1 .1)
 
 returns : tie.Need-returns
 returns c =

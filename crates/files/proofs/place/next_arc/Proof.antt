@@ -9,7 +9,7 @@ use Rattle.format.specs.declared.Record.{Record}
 use Rattle.format.specs.declared.Record.the-variants as R
 use Rattle.format.specs.Records.{recordAt}
 use Rattle.records.specs.Records.{foundMeaning}
-use Rattle.records.proofs.AcceptedRecords.{legal}
+use Rattle.format.proofs.AcceptedRecords.{legal}
 use Rattle.files.proofs.NextArcs.{arc-steps, cell-steps, end-steps, refused-steps}
 use Rattle.files.proofs.place.next_arc.Statement.{statement}
 use Rattle.files.proofs.place.next_arc.Tie as tie
@@ -37,23 +37,23 @@ shared-slice-read-cell-delay : tie.Need-shared-slice-read-cell-delay
 shared-slice-read-cell-delay c =
     let i = c .before .before in
     let ends = legal _ _ _ _ (cell-is i) in
-    omega (arith, ends .1, ends .2, start (f i) .pre .1)
+    omega (arith, ends .1, ends .2, start (f i) .pre .1 .1)
 
 -- an arc's delay, as the code has it
 arc-is : (c : tie.After-known-told2) → toZ w32 (ofZ w32 (c .before .item .given .0 .1 .1 .0)) ≡ c .before .item .given .0 .1 .1 .0
 arc-is c = search needs
 
 returns : tie.Need-returns
-returns c = arc-steps _ _ _ _ _ _ _ _ (found-is (c .before .before .before .before) _ (c .before .item .given .1)) (arc-is c)
+returns c = arc-steps _ _ _ _ _ _ _ _ _ (found-is (c .before .before .before .before) _ (c .before .item .given .1)) (arc-is c)
 
 returns-2 : tie.Need-returns-2
-returns-2 c = cell-steps _ _ _ _ _ _ _ _ (cell-is (c .before .before .before)) (back w32 _ (c .cell-delay .ok) ∙ c .cell-delay .ensures)
+returns-2 c = cell-steps _ _ _ _ _ _ _ _ (start (f (c .before .before .before)) .pre .1 .0) _ (cell-is (c .before .before .before)) (back w32 _ (c .cell-delay .ok) ∙ c .cell-delay .ensures)
 
 returns-3 : tie.Need-returns-3
-returns-3 c = end-steps _ _ _ _ _ (found-is (c .before .before .before) _ (c .enum-told .given .1))
+returns-3 c = end-steps _ _ _ _ _ _ (found-is (c .before .before .before) _ (c .enum-told .given .1))
 
 returns-4 : tie.Need-returns-4
-returns-4 c = refused-steps _ _ _ _ _ (sym (c .before .before .record-at .ensures) ∙ ap foundMeaning (c .enum-told2 .given .1))
+returns-4 c = refused-steps _ _ _ _ _ _ (sym (c .before .before .record-at .ensures) ∙ ap foundMeaning (c .enum-told2 .given .1))
 
 pub next-arc-spec : {M : Type 1} → statement M
 next-arc-spec =

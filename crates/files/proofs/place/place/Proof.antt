@@ -17,24 +17,26 @@ use Rattle.files.proofs.place.place.Statement.{statement}
 use Rattle.files.proofs.place.place.Tie as tie
 
 abbrev Inv-loop : tie.InvT-loop
-Inv-loop bytes n loads table₀ at₀ table at = Placing n bytes (loadsOf loads) table₀ table at
+Inv-loop bytes n library loads table₀ at₀ table at = Placing library n bytes (loadsOf loads) table₀ table at
 
 abbrev μ-loop : tie.MeasureT-loop
-μ-loop bytes n loads table₀ at₀ table at = length bytes - at
+μ-loop bytes n library loads table₀ at₀ table at = length bytes - at
 
 loop-holds : tie.Need-loop-holds Inv-loop μ-loop
-loop-holds c = placing-start _ _ _ _ (c .before .before .pre .0)
+loop-holds c = placing-start _ _ _ _ _ (c .before .before .pre .0)
 
 next-arc-requires : tie.Need-next-arc-requires Inv-loop μ-loop
-next-arc-requires c κs = (c .loop .inv .inside, c .before .before .before .pre .1 .1 .0)
+next-arc-requires c κs =
+    let s = c .before .before .before in
+    (c .loop .inv .inside, (s .pre .1 .1 .0, s .pre .1 .1 .1 .0))
 
 -- what the record does
 module _ (c : tie.After-next-arc Inv-loop μ-loop) where
   abbrev start : tie.Start Inv-loop μ-loop
   start = c .before .before .before .before
 
-  steps : (x : Next) → c .next-arc .result ≡ x → Steps (start .args .n) (start .args .bytes .now) (loadsOf (start .args .loads .now)) (c .before .loop .at) x
-  steps x e = subst (Steps (start .args .n) (start .args .bytes .now) (loadsOf (start .args .loads .now)) (c .before .loop .at)) e (c .next-arc .ensures)
+  steps : (x : Next) → c .next-arc .result ≡ x → Steps (start .args .library .now) (start .args .n) (start .args .bytes .now) (loadsOf (start .args .loads .now)) (c .before .loop .at) x
+  steps x e = subst (Steps (start .args .library .now) (start .args .n) (start .args .bytes .now) (loadsOf (start .args .loads .now)) (c .before .loop .at)) e (c .next-arc .ensures)
 
 same-length : tie.Need-same-length Inv-loop μ-loop
 same-length c = c .before .before .before .loop .inv .size
@@ -43,7 +45,7 @@ returns : tie.Need-returns Inv-loop μ-loop
 returns c =
     let a = c .before .before in
     let h = steps a _ (c .enum-told .given .1) in
-    (placing-graph _ _ _ _ _ _ (a .before .loop .inv) h, placing-table _ _ _ _ _ _ (a .before .loop .inv) (start a .pre .1 .1 .1) h)
+    (placing-graph _ _ _ _ _ _ _ (a .before .loop .inv) h, placing-table _ _ _ _ _ _ _ (a .before .loop .inv) (start a .pre .1 .1 .1 .1) h)
 
 -- the record is an arc
 module _ (c : tie.After-known-told Inv-loop μ-loop) where
@@ -65,14 +67,14 @@ module _ (c : tie.After-known-told Inv-loop μ-loop) where
   abbrev after : ℕ
   after = c .before .found .given .0 .1 .1 .1 .0
 
-  arc : Steps n (start asked .args .bytes .now) (loadsOf (start asked .args .loads .now)) (asked .before .loop .at) (X.Arc u v d after)
+  arc : Steps (start asked .args .library .now) n (start asked .args .bytes .now) (loadsOf (start asked .args .loads .now)) (asked .before .loop .at) (X.Arc u v d after)
   arc = steps asked (X.Arc u v d after) (c .before .found .given .1)
 
   delay-is : toZ w32 (ofZ w32 d) ≡ d
   delay-is = search needs
 
   room : n * n ≤ length (asked .before .loop .table)
-  room = omega (arith, start asked .pre .1 .1 .1, asked .before .loop .inv .size)
+  room = omega (arith, start asked .pre .1 .1 .1 .1, asked .before .loop .inv .size)
 
 cell-of-requires : tie.Need-cell-of-requires Inv-loop μ-loop
 cell-of-requires c κs = (start (asked c) .pre .1 .0, (arc c .1 .0, arc c .1 .1))
@@ -90,7 +92,7 @@ loop-again : tie.Need-loop-again Inv-loop μ-loop
 loop-again o =
     let c = o .before in
     let l = asked c .before in
-    simp (o .cell-of .ensures .0, delay-is c) (placing-turn _ _ _ _ (l .loop .table) (l .loop .at) (l .loop .inv) (start (asked c) .pre .1 .1 .1) (u c) (v c) (after c) (d c) (arc c))
+    simp (o .cell-of .ensures .0, delay-is c) (placing-turn _ _ _ _ _ (l .loop .table) (l .loop .at) (l .loop .inv) (start (asked c) .pre .1 .1 .1 .1) (u c) (v c) (after c) (d c) (arc c))
 
 pub place-spec : {M : Type 1} → statement M
 place-spec =

@@ -3,24 +3,26 @@ use mathlib.Core.Path.{_≡_, refl, sym, ap, _∙_, subst}
 use Prim.Native.Nat.{ℕ, _+_, _-_, _≤_, _<_}
 use native.Mathlib.Omega.{arith}
 use lib.ListN.{length, getD, set, length-set}
+use Rattle.format.specs.Reading.{boardShape, knownAt, boardRecords}
 use Rattle.files.specs.declared.scan.Cursor.{Cursor}
 use Rattle.files.specs.declared.scan.Turned.the-variants as T
 use Rattle.files.specs.Scan.{InFile}
-use Rattle.files.proofs.Scanning.{Left, all-left, turn-says, still-left, refused-scan}
-use Rattle.files.proofs.Counting.{GoesOn, goes-on, is-done, Counting, counting-start, counts-few, counting-turn, counting-done}
+use Rattle.files.proofs.Scanning.{Left, all-left, turn-says, still-left}
+use Rattle.files.proofs.Counting.{known-short, refused-scan, GoesOn, goes-on, is-done, Counting, counting-start, counts-few, counting-turn, counting-done}
 use Rattle.files.proofs.scan.scan.Statement.{statement}
 use Rattle.files.proofs.scan.scan.Tie as tie
 
 abbrev Inv-records : tie.InvT-records
-Inv-records bytes n loads₀ cursor₀ loads cursor = Left n bytes cursor × (length loads ≡ length loads₀) × Counting n bytes loads cursor
+Inv-records bytes n library loads₀ cursor₀ loads cursor = Left (boardShape n) (knownAt library n bytes) bytes (known-short library n bytes) (boardRecords library n bytes) cursor × (length loads ≡ length loads₀) × Counting n bytes loads cursor
 
 abbrev μ-records : tie.MeasureT-records
-μ-records bytes n loads₀ cursor₀ loads cursor = length bytes - cursor .at
+μ-records bytes n library loads₀ cursor₀ loads cursor = length bytes - cursor .at
 
 records-holds : tie.Need-records-holds Inv-records μ-records
+unfolding boardRecords
 records-holds c =
     let s = c .before .before in
-    (all-left (s .args .n) (s .args .bytes .now) (s .pre .0), refl, counting-start (s .args .n) (s .args .bytes .now) (s .args .loads .now) (s .pre .1 .1 .1))
+    (all-left (boardShape (s .args .n)) _ (s .args .bytes .now) (known-short (s .args .library .now) (s .args .n) (s .args .bytes .now)) 5 (s .pre .0), refl, counting-start (s .args .n) (s .args .bytes .now) (s .args .loads .now) (s .pre .1 .1 .1))
 
 turn-requires : tie.Need-turn-requires Inv-records μ-records
 turn-requires c κs = (c .before .before .before .pre .1 .0, c .records .inv .0 .within)
@@ -43,7 +45,7 @@ module _ (c : tie.After-struct-known Inv-records μ-records) where
   said = turned .turned .given .1
 
   on : GoesOn (start .args .n) (start .args .bytes .now) (l .records .cursor) d
-  on = goes-on _ _ _ (turned .before .before .turn .ensures) d said
+  on = goes-on (start .args .library .now) _ _ _ (turned .before .before .turn .ensures) d said
 
 add-byte : tie.Need-add-byte Inv-records μ-records
 add-byte c = search (needs, on c .read)
@@ -89,7 +91,7 @@ records-again c =
     let i = l o .records .inv in
     let loads = l o .records .loads in
     let f = further o in (
-      still-left (i .0) (turned o .before .before .turn .ensures) _ (said o),
+      still-left _ _ _ (known-short (start o .args .library .now) (start o .args .n) (start o .args .bytes .now)) (i .0) (turned o .before .before .turn .ensures) _ (said o),
       length-set loads _ _ ∙ i .1,
       subst (λ (u : ℕ). Counting (start o .args .n) (start o .args .bytes .now) (set loads u (getD loads u 0 + 1)) (d o)) (sym (source-is c)) (counting-turn _ _ loads _ (i .2) (d o) (on o) (room c) (f .0) (f .1 .inside)),
     )
@@ -102,8 +104,8 @@ returns c =
     let u = c .before .before in
     let i = u .before .records .inv in
     record {
-      answer = turn-says (i .0) (u .turn .ensures) (c .enum-told .given .1);
-      loads = λ _. counting-done _ _ _ _ (i .2) (is-done _ _ _ (u .turn .ensures) (c .enum-told .given .1));
+      answer = turn-says _ _ _ (known-short (u .before .before .before .before .args .library .now) _ _) (i .0) (u .turn .ensures) (c .enum-told .given .1);
+      counted = λ _. counting-done _ _ _ _ (i .2) (is-done _ _ _ _ (u .turn .ensures) (c .enum-told .given .1));
     }
 
 same-length-2 : tie.Need-same-length-2 Inv-records μ-records
@@ -113,7 +115,7 @@ returns-2 : tie.Need-returns-2 Inv-records μ-records
 returns-2 c =
     let k = c .before in
     let u = k .before .before in
-    refused-scan (turn-says (u .before .records .inv .0) (u .turn .ensures) (k .turned2 .given .1))
+    refused-scan (turn-says _ _ _ (known-short _ _ _) (u .before .records .inv .0) (u .turn .ensures) (k .turned2 .given .1))
 
 pub scan-spec : {M : Type 1} → statement M
 scan-spec =

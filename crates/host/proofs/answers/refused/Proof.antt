@@ -14,7 +14,7 @@ use Rattle.host.proofs.answers.refused.Tie as tie
 less : (n : ℕ) → pos 0 -ℤ pos n ≡ negℤ (pos n)
 less n = omega (zneeds, dif (pos 0) (pos n), neg (pos n))
 
-small : (n : ℕ) → n < 23 → SFits w64 (negℤ (pos n))
+small : (n : ℕ) → n < 24 → SFits w64 (negℤ (pos n))
 small n h = omega (zneeds, neg (pos n))
 
 -- the difference as the code has it

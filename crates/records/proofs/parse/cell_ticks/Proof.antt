@@ -2,7 +2,7 @@ use mathlib.Core.Path.{sym, ap}
 use mathlib.Core.Logic.{_≢_}
 use Prim.Native.Nat.{ℕ, _≤_}
 use native.Mathlib.Omega.{arith}
-use Rattle.format.specs.Records.{cellTicks, ticksOf}
+use Rattle.format.specs.Library.{cellTicks, ticksOf}
 use Rattle.records.proofs.CellCodes.{no-ticks}
 use Rattle.records.proofs.parse.cell_ticks.Statement.{statement}
 use Rattle.records.proofs.parse.cell_ticks.Tie as tie

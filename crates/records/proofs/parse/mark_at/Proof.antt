@@ -35,12 +35,24 @@ returns-4 c =
     let e = f .before .before in
     simp (no-board (e .before .before), no-arc e, no-cell f, sym (c .before .letters4 .ensures) ∙ c .if4 .taken)
 
+no-end : (c : tie.Else4) → let a = c .before .before .before .before .before .before .before .before .before .args in letters 69 78 (a .bytes .now) (a .at) ≡ false
+no-end c = sym (c .before .letters4 .ensures) ∙ c .if4 .left
+
 returns-5 : tie.Need-returns-5
 unfolding markAt
 returns-5 c =
-    let f = c .before .before in
+    let g = c .before .before in
+    let f = g .before .before in
     let e = f .before .before in
-    simp (no-board (e .before .before), no-arc e, no-cell f, sym (c .before .letters4 .ensures) ∙ c .if4 .left)
+    simp (no-board (e .before .before), no-arc e, no-cell f, no-end g, sym (c .before .letters5 .ensures) ∙ c .if5 .taken)
+
+returns-6 : tie.Need-returns-6
+unfolding markAt
+returns-6 c =
+    let g = c .before .before in
+    let f = g .before .before in
+    let e = f .before .before in
+    simp (no-board (e .before .before), no-arc e, no-cell f, no-end g, sym (c .before .letters5 .ensures) ∙ c .if5 .left)
 
 pub mark-at-spec : {M : Type 1} → statement M
 mark-at-spec =
@@ -54,4 +66,6 @@ mark-at-spec =
     returns-3
     (λ c κs. search needs)
     returns-4
-    returns-5)
+    (λ c κs. search needs)
+    returns-5
+    returns-6)

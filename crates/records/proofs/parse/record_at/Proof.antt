@@ -47,6 +47,9 @@ returns-5 c =
 returns-6 : tie.Need-returns-6
 returns-6 c = marked (c .before .before) _ (c .enum-told5 .given .1)
 
+returns-7 : tie.Need-returns-7
+returns-7 c = marked (c .before .before) _ (c .enum-told6 .given .1)
+
 pub record-at-spec : {M : Type 1} → statement M
 record-at-spec =
     tie.close
@@ -62,8 +65,10 @@ record-at-spec =
     (λ c. search needs)
     (λ c κs. search needs)
     (λ c. search needs)
+    (λ c. search needs)
     returns-2
     returns-3
     returns-4
     returns-5
-    returns-6)
+    returns-6
+    returns-7)

@@ -1,9 +1,9 @@
 //! The calls of a list: as `replay` reads them, and what it must print for each.
 
 use second::board::{Board, Sizes};
-use second::file::RefusedRead;
 use second::margins::{self, Answers};
-use second::{delays, file, literal, steps};
+use second::records::RefusedRead;
+use second::{delays, file, library, literal, refusal, steps};
 use std::fmt::Write;
 
 #[derive(Clone, Debug)]
@@ -20,7 +20,11 @@ pub enum Call {
     Write { destination: usize },
     Read { bytes: Vec<u8> },
     Margins { arrivals: Vec<i64>, required: Vec<i64>, answers: [usize; 3] },
+    ReadLibrary { bytes: Vec<u8> },
 }
+
+/// The byte by which `replay` takes another library; no call is made, and nothing is printed.
+const PUT_LIBRARY: u8 = 14;
 
 /// What an accepted call answers.
 #[derive(Clone, Copy, Debug, PartialEq, Eq)]
@@ -47,6 +51,20 @@ impl Answer {
             Answer::Refused(number) => number,
             Answer::RefusedRead(refused) => refused.number,
         }
+    }
+
+    pub fn refused_read(self) -> Option<RefusedRead> {
+        match self {
+            Answer::RefusedRead(refused) => Some(refused),
+            _ => None,
+        }
+    }
+}
+
+fn read_answer<T>(result: Result<T, RefusedRead>, accepted: impl Fn(T) -> Accepted) -> Answer {
+    match result {
+        Ok(value) => Answer::Accepted(accepted(value)),
+        Err(refused) => Answer::RefusedRead(refused),
     }
 }
 
@@ -87,6 +105,7 @@ impl Call {
             Call::Write { .. } => 10,
             Call::Read { .. } => 11,
             Call::Margins { .. } => 12,
+            Call::ReadLibrary { .. } => 13,
         }
     }
 
@@ -117,7 +136,7 @@ impl Call {
                 times(to, arrivals);
                 length(to, *answers);
             }
-            Call::Read { bytes } => {
+            Call::Read { bytes } | Call::ReadLibrary { bytes } => {
                 length(to, bytes.len());
                 to.extend(bytes);
             }
@@ -130,7 +149,13 @@ impl Call {
     }
 
     /// The call, by the second implementation.
-    pub fn perform(&self, sizes: Sizes, table: &mut [i32], scratch: usize) -> Performed {
+    pub fn perform(
+        &self,
+        sizes: Sizes,
+        table: &mut [i32],
+        scratch: usize,
+        library: &mut [i32],
+    ) -> Performed {
         let left = Accepted::Left;
         let mut destinations = Vec::new();
         let answer = match self {
@@ -165,10 +190,9 @@ impl Call {
                 destinations = vec![bytes.into_iter().map(i64::from).collect()];
                 answer(result, Accepted::Bytes)
             }
-            Call::Read { bytes } => match file::read(bytes, table, scratch) {
-                Ok(sizes) => Answer::Accepted(Accepted::Board(sizes)),
-                Err(refused) => Answer::RefusedRead(refused),
-            },
+            Call::Read { bytes } => {
+                read_answer(file::read(bytes, table, scratch, library), Accepted::Board)
+            }
             Call::Margins { arrivals, required, answers } => {
                 let [mut arrival_at, mut required_at, mut margin_at] = answers.map(filled);
                 let lent = Answers {
@@ -180,6 +204,9 @@ impl Call {
                 destinations = vec![arrival_at, required_at, margin_at];
                 answer(result, |()| Accepted::Done)
             }
+            Call::ReadLibrary { bytes } => {
+                read_answer(library::read_library(bytes, library), |()| Accepted::Done)
+            }
         };
         Performed { answer, destinations }
     }
@@ -188,10 +215,11 @@ impl Call {
     pub fn scratch_bound(&self, sizes: Sizes, answer: Answer) -> u64 {
         let in_first_record =
             matches!(answer, Answer::RefusedRead(RefusedRead { number: 15 | 16, offset: 0 }));
-        if (1..=3).contains(&answer.number()) || in_first_record {
+        if matches!(answer.number(), 1..=3 | refusal::LIBRARY) || in_first_record {
             return 0;
         }
         match self {
+            Call::ReadLibrary { .. } => 0,
             Call::Read { bytes } => u64::from(bytes[4]).pow(2),
             _ => sizes.vertices.pow(2),
         }
@@ -225,8 +253,17 @@ pub fn encode_lent(sizes: Sizes, table: &[i32], scratch: usize) -> Vec<u8> {
     bytes
 }
 
+/// Another library, put between the calls.
+pub fn encode_library(to: &mut Vec<u8>, library: &[i32]) {
+    to.push(PUT_LIBRARY);
+    length(to, library.len());
+    for cell in library {
+        to.extend(cell.to_le_bytes());
+    }
+}
+
 /// The lines that `replay` prints for a call, but for the last, on the scratch.
-pub fn text(performed: &Performed, table: &[i32]) -> String {
+pub fn text(call: &Call, performed: &Performed, table: &[i32], library: &[i32]) -> String {
     let mut text = match performed.answer {
         Answer::Refused(number) => format!("refused {number}\n"),
         Answer::RefusedRead(RefusedRead { number, offset }) => {
@@ -242,15 +279,10 @@ pub fn text(performed: &Performed, table: &[i32]) -> String {
             format!("board {} {} {}\n", sizes.inputs, sizes.outputs, sizes.vertices)
         }
     };
-    text.push_str("table");
-    for &cell in table {
-        if cell == Board::ABSENT {
-            text.push_str(" -");
-        } else {
-            let _ = write!(text, " {cell}");
-        }
+    if matches!(call, Call::ReadLibrary { .. }) {
+        put_cells(&mut text, "library", library);
     }
-    text.push('\n');
+    put_cells(&mut text, "table", table);
     for cells in &performed.destinations {
         text.push_str("destination");
         for cell in cells {
@@ -259,4 +291,16 @@ pub fn text(performed: &Performed, table: &[i32]) -> String {
         text.push('\n');
     }
     text
+}
+
+fn put_cells(text: &mut String, name: &str, cells: &[i32]) {
+    text.push_str(name);
+    for &cell in cells {
+        if cell == Board::ABSENT {
+            text.push_str(" -");
+        } else {
+            let _ = write!(text, " {cell}");
+        }
+    }
+    text.push('\n');
 }

@@ -3,8 +3,8 @@
 //! arcs out.
 
 use crate::calls::{Accepted, Answer, Call};
-use crate::lists;
 use crate::rng::Rng;
+use crate::{libraries, lists};
 use second::board::{Board, Sizes};
 use second::margins::{self, Answers};
 use second::{delays, file};
@@ -94,7 +94,7 @@ impl Claim {
         if matches!(call, Call::Run) && matches!(answer, Answer::Accepted(_)) {
             self.check_end_of_run(rng, table)?;
         }
-        self.check_round_trip(table)
+        self.check_round_trip(table, &libraries::sound(rng))
     }
 
     /// The two calls that answer path delays agree with the slow method.
@@ -140,11 +140,13 @@ impl Claim {
     fn check_end_of_run(&self, rng: &mut Rng, table: &[i32]) -> Result<(), String> {
         let end = self.board.vertices as u64 + 1;
         let mut copy = table.to_vec();
-        let mut refused =
-            |call: Call| match call.perform(self.sizes, &mut copy, self.board.cells()).answer {
-                Answer::Accepted(_) => Err(format!("demand 3: after a run {call:?} is accepted")),
-                _ => Ok(()),
-            };
+        let mut refused = |call: Call| match call
+            .perform(self.sizes, &mut copy, self.board.cells(), &mut [])
+            .answer
+        {
+            Answer::Accepted(_) => Err(format!("demand 3: after a run {call:?} is accepted")),
+            _ => Ok(()),
+        };
         refused(Call::Prune)?;
         for v in 0..end {
             refused(Call::Shrink { k: v })?;
@@ -171,8 +173,8 @@ impl Claim {
         Ok(())
     }
 
-    /// A written file reads back as the same table.
-    fn check_round_trip(&self, table: &[i32]) -> Result<(), String> {
+    /// A written file reads back as the same table, whatever the library.
+    fn check_round_trip(&self, table: &[i32], library: &[i32]) -> Result<(), String> {
         let cells = self.board.cells();
         let mut bytes = vec![0; 9 + 8 * present(&self.board, table) as usize];
         let written = file::write(self.sizes, table, cells, &mut bytes);
@@ -180,7 +182,7 @@ impl Claim {
             return Err(format!("the writer answers {written:?}"));
         }
         let mut copy = vec![0; cells];
-        let read = file::read(&bytes, &mut copy, cells);
+        let read = file::read(&bytes, &mut copy, cells, library);
         if read != Ok(self.sizes) || copy != table[..cells] {
             return Err(format!("a written file reads back otherwise: {read:?}"));
         }

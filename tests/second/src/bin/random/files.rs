@@ -4,8 +4,9 @@ use crate::boards;
 use crate::rng::Rng;
 use second::board::Board;
 
-/// The bytes of a file; `like` gives the sizes to use, else they are random.
-pub fn file(rng: &mut Rng, like: Option<Board>) -> Vec<u8> {
+/// The bytes of a file whose cells have the given codes; `like` gives the sizes to use, else they are
+/// random.
+pub fn file(rng: &mut Rng, like: Option<Board>, codes: &[u8]) -> Vec<u8> {
     let (board, table) = match like {
         Some(board) => (board, boards::table(rng, board).0),
         None => {
@@ -14,20 +15,20 @@ pub fn file(rng: &mut Rng, like: Option<Board>) -> Vec<u8> {
         }
     };
     let cells = rng.pick(&[0, 0, 30, 70, 100]);
-    let records = records(rng, board, &table, cells);
-    at_times_damaged(rng, board, records)
+    let records = records(rng, board, &table, cells, codes);
+    at_times_damaged(rng, board, records, codes)
 }
 
 /// The bytes of a file with many cells, most of them under load, on a board of up to `most` vertices.
-pub fn loaded(rng: &mut Rng, most: usize) -> Vec<u8> {
+pub fn loaded(rng: &mut Rng, most: usize, codes: &[u8]) -> Vec<u8> {
     let (board, mut table) = boards::dense(rng, most);
     if rng.chance(30) {
         fill_row(rng, board, &mut table);
     }
     let cells = rng.pick(&[50, 95, 100, 100]);
-    let records = records(rng, board, &table, cells);
+    let records = records(rng, board, &table, cells, codes);
     if rng.chance(30) {
-        at_times_damaged(rng, board, records)
+        at_times_damaged(rng, board, records, codes)
     } else {
         records.concat()
     }
@@ -44,13 +45,13 @@ fn fill_row(rng: &mut Rng, board: Board, table: &mut [i32]) {
 }
 
 /// The records of a table, so many in a hundred of its arcs as cells, of whatever delay.
-fn records(rng: &mut Rng, board: Board, table: &[i32], cells: usize) -> Vec<Vec<u8>> {
+fn records(rng: &mut Rng, board: Board, table: &[i32], cells: usize, codes: &[u8]) -> Vec<Vec<u8>> {
     let mut records =
         vec![vec![b'B', b'D', board.inputs as u8, board.outputs as u8, board.vertices as u8]];
     for u in 0..board.vertices {
         for (v, delay) in board.arcs_out(table, u) {
             if rng.chance(cells) {
-                records.push(vec![b'C', b'E', u as u8, v as u8, rng.below(5) as u8]);
+                records.push(vec![b'C', b'E', u as u8, v as u8, rng.pick(codes)]);
             } else {
                 let mut record = vec![b'A', b'R', u as u8, v as u8];
                 record.extend(delay.to_le_bytes());
@@ -64,10 +65,15 @@ fn records(rng: &mut Rng, board: Board, table: &[i32], cells: usize) -> Vec<Vec<
     records
 }
 
-fn at_times_damaged(rng: &mut Rng, board: Board, mut records: Vec<Vec<u8>>) -> Vec<u8> {
+fn at_times_damaged(
+    rng: &mut Rng,
+    board: Board,
+    mut records: Vec<Vec<u8>>,
+    codes: &[u8],
+) -> Vec<u8> {
     if rng.chance(55) {
         for _ in 0..1 + rng.below(2) {
-            damage_records(rng, &mut records, board);
+            damage_records(rng, &mut records, board, codes);
         }
     }
     let mut bytes = records.concat();
@@ -77,7 +83,7 @@ fn at_times_damaged(rng: &mut Rng, board: Board, mut records: Vec<Vec<u8>>) -> V
     bytes
 }
 
-fn damage_records(rng: &mut Rng, records: &mut Vec<Vec<u8>>, board: Board) {
+fn damage_records(rng: &mut Rng, records: &mut Vec<Vec<u8>>, board: Board, codes: &[u8]) {
     let end = records.len();
     if end == 0 {
         return;
@@ -100,7 +106,8 @@ fn damage_records(rng: &mut Rng, records: &mut Vec<Vec<u8>>, board: Board) {
             let at = rng.below(end + 1);
             let cell = |v: usize| mostly_vertex(v, board);
             let (u, v) = (rng.below(260), rng.below(260));
-            records.insert(at, vec![b'C', b'E', cell(u), cell(v), rng.below(7) as u8]);
+            let code = if rng.chance(70) { rng.pick(codes) } else { rng.below(40) as u8 };
+            records.insert(at, vec![b'C', b'E', cell(u), cell(v), code]);
         }
         5 => {
             // the end's count
@@ -131,7 +138,7 @@ fn damage_records(rng: &mut Rng, records: &mut Vec<Vec<u8>>, board: Board) {
             ]);
             match record.len() {
                 8 => record[4..].copy_from_slice(&delay.to_le_bytes()),
-                5 => record[4] = rng.pick(&[3, 4, 5, 6, 91, 255]),
+                5 => record[4] = rng.pick(&[0, 4, 5, 6, 31, 32, 91, 255]),
                 _ => {}
             }
         }
@@ -161,7 +168,7 @@ fn damage_records(rng: &mut Rng, records: &mut Vec<Vec<u8>>, board: Board) {
             };
             let at = records.iter().take_while(before).count();
             if records.get(at).is_some_and(|record| record.get(2..4) != Some(&pair[..])) {
-                records.insert(at, vec![b'C', b'E', pair[0], pair[1], 0]);
+                records.insert(at, vec![b'C', b'E', pair[0], pair[1], rng.pick(codes)]);
                 if let Some(end) = records.last_mut().filter(|end| end.len() == 4) {
                     let count = u16::from_le_bytes([end[2], end[3]]).wrapping_add(1);
                     end[2..].copy_from_slice(&count.to_le_bytes());
@@ -184,7 +191,7 @@ fn mostly_vertex(number: usize, board: Board) -> u8 {
     }
 }
 
-fn damage_bytes(rng: &mut Rng, bytes: &mut Vec<u8>) {
+pub fn damage_bytes(rng: &mut Rng, bytes: &mut Vec<u8>) {
     match rng.below(6) {
         0 if !bytes.is_empty() => {
             let at = rng.below(bytes.len());

@@ -175,7 +175,7 @@ fn check_one(
         }),
     };
 
-    let performed = call.perform(sizes, &mut table_cells, scratch_bytes.len() / 8);
+    let performed = call.perform(sizes, &mut table_cells, scratch_bytes.len() / 8, &mut []);
     let number = performed.answer.number();
     tally.count(kind, number);
     let expected = match performed.answer {

@@ -2,10 +2,11 @@
 
 use crate::boards::{self, Star};
 use crate::calls::{Answer, Call};
-use crate::files;
 use crate::rng::Rng;
+use crate::{files, libraries};
 use second::board::{Board, Sizes};
 use second::delays;
+use second::library::{BUILT_IN, CODES};
 
 /// Boards of so many vertices have cells under a load of fifty and more.
 const LARGE: usize = 60;
@@ -14,10 +15,13 @@ const LARGE: usize = 60;
 const MOST_CELLS: usize = 8_200;
 const MOST_TIMES: usize = 100;
 
+const BUILT_IN_CODES: [u8; 5] = [0, 1, 2, 3, 4];
+
 pub struct Maker<'r> {
     pub rng: &'r mut Rng,
     pub sizes: Sizes,
     pub scratch: usize,
+    pub library: &'r [i32],
     pub stars: &'r [Star],
 }
 
@@ -32,23 +36,32 @@ impl Maker<'_> {
     }
 
     pub fn call(&mut self, table: &[i32]) -> Call {
+        if !libraries::is_sound(self.library) && self.rng.chance(60) {
+            let kind = self.rng.pick(&[11, 11, 13]);
+            return self.one(kind, table);
+        }
         // a search for a call that is accepted, where that is cheap
         if self.rng.chance(45) && table.len() <= 1_000 {
             for _ in 0..12 {
                 let kind = self.rng.pick(&[1, 2, 2, 2, 3, 3, 5, 5, 6, 6, 6]);
                 let call = self.one(kind, table);
                 let mut copy = table.to_vec();
-                let answer = call.perform(self.sizes, &mut copy, self.scratch).answer;
+                let answer = call.perform(self.sizes, &mut copy, self.scratch, &mut []).answer;
                 if matches!(answer, Answer::Accepted(_)) {
                     return call;
                 }
             }
         }
-        // where a large file fits, one is read often
-        if self.largest(table) >= LARGE && self.rng.chance(30) {
+        // where a large file fits, one is read often, and under another library any file
+        let often = match self.largest(table) {
+            LARGE.. => 30,
+            _ if *self.library != BUILT_IN => 15,
+            _ => 0,
+        };
+        if self.rng.chance(often) {
             return self.one(11, table);
         }
-        let kind = match self.rng.below(108) {
+        let kind = match self.rng.below(116) {
             0..=11 => 1,
             12..=24 => 2,
             25..=36 => 3,
@@ -60,7 +73,8 @@ impl Maker<'_> {
             80..=86 => 9,
             87..=91 => 10,
             92..=99 => 11,
-            _ => 12,
+            100..=107 => 12,
+            _ => 13,
         };
         self.one(kind, table)
     }
@@ -94,7 +108,8 @@ impl Maker<'_> {
                 Call::Write { destination: self.length(right).min(32_900) }
             }
             11 => self.read(board, self.largest(table)),
-            _ => self.margins(board),
+            12 => self.margins(board),
+            _ => Call::ReadLibrary { bytes: libraries::file(self.rng) },
         }
     }
 
@@ -297,14 +312,28 @@ impl Maker<'_> {
     }
 
     fn read(&mut self, board: Option<Board>, largest: usize) -> Call {
+        let codes = self.codes();
         let mut bytes = if largest >= LARGE && self.rng.chance(70) {
-            files::loaded(self.rng, largest)
+            files::loaded(self.rng, largest, &codes)
         } else {
             let like = board.filter(|_| self.rng.chance(60));
-            files::file(self.rng, like)
+            files::file(self.rng, like, &codes)
         };
         bytes.truncate(usize::from(u16::MAX));
         Call::Read { bytes }
+    }
+
+    /// The codes of a file's cells: mostly those that the library has.
+    fn codes(&mut self) -> Vec<u8> {
+        let cells = self.library.iter().take(CODES);
+        let present = (0..).zip(cells).filter(|(_, &cell)| cell != Board::ABSENT);
+        let codes: Vec<u8> = present.map(|(code, _)| code).collect();
+        match self.rng.below(12) {
+            0 => BUILT_IN_CODES.to_vec(),
+            1 => (0..CODES as u8).collect(),
+            _ if codes.is_empty() => BUILT_IN_CODES.to_vec(),
+            _ => codes,
+        }
     }
 }
 
@@ -327,8 +356,8 @@ pub fn times(rng: &mut Rng, count: usize) -> Vec<i64> {
 /// How many calls a list has: fewer on large boards.
 pub fn calls(rng: &mut Rng, table: usize) -> usize {
     1 + rng.below(match table {
-        0..=200 => 10,
-        201..=1_000 => 6,
+        0..=200 => 12,
+        201..=1_000 => 7,
         _ => 4,
     })
 }
@@ -336,9 +365,9 @@ pub fn calls(rng: &mut Rng, table: usize) -> usize {
 /// The bytes that `thin` gets: a file, at times with more than it reads.
 pub fn thin_input(rng: &mut Rng) -> Vec<u8> {
     let mut bytes = if rng.chance(3) {
-        files::loaded(rng, Board::MOST_VERTICES)
+        files::loaded(rng, Board::MOST_VERTICES, &BUILT_IN_CODES)
     } else {
-        files::file(rng, None)
+        files::file(rng, None, &BUILT_IN_CODES)
     };
     if rng.chance(1) {
         let long = boards::length(rng, 65_536);

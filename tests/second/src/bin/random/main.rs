@@ -14,6 +14,7 @@ mod files;
 #[cfg(feature = "host")]
 mod host;
 mod ladders;
+mod libraries;
 mod lists;
 mod loads;
 mod programs;
@@ -26,8 +27,9 @@ use lists::Maker;
 use programs::{Expected, Program};
 use rng::Rng;
 use second::board::Sizes;
+use second::library::BUILT_IN;
 use second::literal::{self, Ran};
-use second::{run, thin};
+use second::{file, run, thin};
 use std::panic::{catch_unwind, AssertUnwindSafe};
 use std::path::{Path, PathBuf};
 use std::process::ExitCode;
@@ -153,6 +155,7 @@ fn one_list(
     let lent = boards::lent(&mut rng);
     let sizes = lent.sizes;
     let mut table = lent.table.clone();
+    let mut library = BUILT_IN.to_vec();
     let mut claim = Claim::new(&mut rng, sizes, &table);
     let mut input = calls::encode_lent(sizes, &table, lent.scratch);
     let mut expected = Vec::new();
@@ -160,14 +163,36 @@ fn one_list(
         println!("{sizes:?}, scratch {}, table {table:?}", lent.scratch);
     }
     for place in 0..lists::calls(&mut rng, table.len()) {
-        let mut maker = Maker { rng: &mut rng, sizes, scratch: lent.scratch, stars: &lent.stars };
+        if let Some(cells) = libraries::put(&mut rng, &library) {
+            library = cells;
+            calls::encode_library(&mut input, &library);
+            if show {
+                println!("library {library:?}");
+            }
+        }
+        let mut maker = Maker {
+            rng: &mut rng,
+            sizes,
+            scratch: lent.scratch,
+            library: &library,
+            stars: &lent.stars,
+        };
         let call = if place == 0 { maker.first(&table) } else { maker.call(&table) };
-        let before = table.clone();
-        let performed = call.perform(sizes, &mut table, lent.scratch);
+        let (before, library_before) = (table.clone(), library.clone());
+        let performed = call.perform(sizes, &mut table, lent.scratch, &mut library);
         tally.count(call.code().into(), performed.answer.number());
-        if let Answer::Accepted(Accepted::Ran(ran)) = performed.answer {
-            tally.count_run(ran.rounds);
-            check_peer(sizes, before, lent.scratch, ran, &table)?;
+        match (&call, performed.answer) {
+            (_, Answer::Accepted(Accepted::Ran(ran))) => {
+                tally.count_run(ran.rounds);
+                check_peer(sizes, before, lent.scratch, ran, &table)?;
+            }
+            (Call::Read { bytes }, answer) => {
+                count_read(bytes, before, lent.scratch, &library, answer, tally);
+            }
+            (Call::ReadLibrary { bytes }, answer) => {
+                tally.count_library(bytes, &library_before, answer.refused_read());
+            }
+            _ => {}
         }
         if let (Answer::Accepted(Accepted::Done), [arrivals, required, _]) =
             (performed.answer, &performed.destinations[..])
@@ -177,8 +202,7 @@ fn one_list(
         if show {
             println!("call {place}: {call:?}: {:?}", performed.answer);
         }
-        if let Call::Read { bytes } = &call {
-            tally.count_file(tally::READ, bytes, performed.answer.number());
+        if matches!(call, Call::Read { .. }) {
             // another table, another claim
             claim = Claim::new(&mut rng, sizes, &table);
         } else if let Some(claim) = &mut claim {
@@ -188,7 +212,7 @@ fn one_list(
         }
         call.encode(&mut input);
         expected.push(Expected {
-            text: calls::text(&performed, &table),
+            text: calls::text(&call, &performed, &table, &library),
             scratch: call.scratch_bound(sizes, performed.answer),
         });
     }
@@ -209,6 +233,22 @@ fn one_list(
         check_thin(&lists::thin_input(&mut rng), programs, spool, tally)?;
     }
     Ok(())
+}
+
+/// A board's read, on the table as it was before.
+fn count_read(
+    bytes: &[u8],
+    mut table: Vec<i32>,
+    scratch: usize,
+    library: &[i32],
+    answer: Answer,
+    tally: &mut Tally,
+) {
+    tally.count_file(tally::READ, bytes, library, answer.number());
+    if let Some(refused) = answer.refused_read() {
+        let otherwise = file::read(bytes, &mut table, scratch, &BUILT_IN).err();
+        tally.count_refused(bytes, library, refused, otherwise.map_or(0, |other| other.number));
+    }
 }
 
 /// The run that the benchmark takes leaves the same.
@@ -240,7 +280,7 @@ fn check_thin(
     let expected = thin::thin_by(run, bytes);
     let number = refusal_in(&expected);
     tally.count(tally::THIN, number);
-    tally.count_file(tally::THIN, bytes, number);
+    tally.count_file(tally::THIN, bytes, &BUILT_IN, number);
     let output = programs.thin.output(bytes, spool)?;
     if output != expected.as_bytes() {
         let got = String::from_utf8_lossy(&output);

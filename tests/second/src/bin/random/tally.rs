@@ -1,8 +1,13 @@
 //! How often each call was accepted, and refused by which number; how many rounds the runs took; how
-//! many margins were present and absent; which loads the cells of files had.
+//! many margins were present and absent; which loads the cells of files had; which libraries were read,
+//! and which boards under them.
 
+use crate::libraries;
 use crate::loads::{self, Cell};
 use second::delays::NONE;
+use second::library::{CODES, MOST_TICKS};
+use second::records::RefusedRead;
+use second::refusal;
 
 /// A call, and the numbers by which it can be refused.
 pub struct Kind {
@@ -15,7 +20,7 @@ const fn kind(name: &'static str, refusals: &'static [u64]) -> Kind {
 }
 
 /// The calls of `replay` stand at the byte that it knows them by.
-pub const KINDS: [Kind; 17] = [
+pub const KINDS: [Kind; 18] = [
     kind("", &[]),
     kind("shrink", &[1, 2, 3, 4, 5, 6, 7, 10, 14]),
     kind("share inputs", &[1, 2, 3, 4, 5, 6, 7, 8, 11, 13, 14]),
@@ -27,8 +32,9 @@ pub const KINDS: [Kind; 17] = [
     kind("matrix", &[1, 2, 3, 4, 5, 6, 21]),
     kind("arrivals", &[1, 2, 3, 4, 5, 6, 22]),
     kind("write", &[1, 2, 3, 4, 5, 6, 21]),
-    kind("read", &[1, 2, 3, 5, 6, 15, 16, 17, 18, 19, 20]),
+    kind("read", &[1, 2, 3, 5, 6, 15, 16, 17, 18, 19, 20, 23]),
     kind("margins", &[1, 2, 3, 4, 5, 6, 22]),
+    kind("read library", &[15, 16, 17, 18, 19, 20, 23]),
     kind("thin", &[1, 5, 6, 15, 16, 17, 18, 19, 20]),
     kind("C matrix", &[1, 2, 3, 4, 5, 6, 21]),
     kind("C shrink", &[1, 2, 3, 4, 5, 6, 7, 10, 14]),
@@ -36,15 +42,15 @@ pub const KINDS: [Kind; 17] = [
 ];
 
 pub const READ: usize = 11;
-pub const THIN: usize = 13;
-pub const C_MATRIX: usize = 14;
+pub const THIN: usize = 14;
+pub const C_MATRIX: usize = 15;
 #[cfg(feature = "host")]
-pub const C_SHRINK: usize = 15;
+pub const C_SHRINK: usize = 16;
 #[cfg(feature = "host")]
-pub const C_PRUNE: usize = 16;
+pub const C_PRUNE: usize = 17;
 
 /// Number 0 counts the accepted calls.
-const NUMBERS: usize = 23;
+const NUMBERS: usize = 24;
 
 /// Runs with more rounds are counted with the last.
 const ROUNDS: usize = 8;
@@ -78,6 +84,29 @@ const MOST_LOAD: usize = 88;
 /// The answers to a file that has a cell of a greater load; the first, accepted, can't be.
 const OVERLOADED: [u64; 3] = [0, 5, 6];
 
+/// The libraries read: accepted, and refused by 23; whether an accepted one took the place of odd cells.
+const LIBRARIES: [&str; 5] =
+    ["empty", "with records", "23 for the length", "23 for a delay", "over odd cells"];
+const OVER_ODD: usize = 4;
+
+/// The faults that competed in a library, the one that won first.
+const FAULTS: [(u64, u64); 6] = [(15, 17), (15, 18), (16, 15), (17, 23), (19, 20), (23, 18)];
+
+/// The boards read: refused by their library, and accepted with cells of such a kind.
+const BOARDS: [&str; 6] = [
+    "23 for its length",
+    "23 for a cell",
+    "17 for a built-in code that it lacks",
+    "17 for a code above 31",
+    "a code above 4",
+    "the most ticks under load 50 to 88",
+];
+const ABOVE_4: usize = 4;
+const MOST: usize = 5;
+
+/// What a board refused by 23 would have got under the built-in library.
+const OTHERWISE: [u64; 12] = [0, 1, 2, 3, 5, 6, 15, 16, 17, 18, 19, 20];
+
 #[derive(Default)]
 pub struct Tally {
     counts: [[u64; NUMBERS]; KINDS.len()],
@@ -86,6 +115,10 @@ pub struct Tally {
     cells: [[u64; CELLS.len()]; READERS.len()],
     /// The files with a cell of a load above the most.
     overloaded: [[u64; OVERLOADED.len()]; READERS.len()],
+    libraries: [u64; LIBRARIES.len()],
+    faults: [u64; FAULTS.len()],
+    boards: [u64; BOARDS.len()],
+    otherwise: [u64; OTHERWISE.len()],
 }
 
 impl Tally {
@@ -106,8 +139,8 @@ impl Tally {
         }
     }
 
-    /// A file and the number by which the call that read it was refused, 0 if accepted.
-    pub fn count_file(&mut self, kind: usize, file: &[u8], number: u64) {
+    /// A file, the library, and the number by which the call that read it was refused, 0 if accepted.
+    pub fn count_file(&mut self, kind: usize, file: &[u8], library: &[i32], number: u64) {
         let Some(reader) = READERS.iter().position(|&reader| reader == kind) else { return };
         // by another number a file may be refused before its end
         let Some(answer) = OVERLOADED.iter().position(|&answer| answer == number) else { return };
@@ -115,12 +148,49 @@ impl Tally {
         let above = cells.iter().any(|cell| cell.load > MOST_LOAD);
         self.overloaded[reader][answer] += u64::from(above);
         if number == 0 {
+            let most =
+                |cell: &Cell| cell.load >= 50 && library[usize::from(cell.code)] == MOST_TICKS;
+            self.boards[ABOVE_4] += u64::from(cells.iter().any(|cell| cell.code > 4));
+            self.boards[MOST] += u64::from(cells.iter().any(most));
             let counts = &mut self.cells[reader];
-            for Cell { load, comes_before, comes_after } in cells {
+            for Cell { load, comes_before, comes_after, .. } in cells {
                 counts[load_class(load)] += 1;
                 counts[BEFORE] += u64::from(comes_before);
                 counts[AFTER] += u64::from(comes_after);
             }
+        }
+    }
+
+    /// A refused read of a board, and the number that it would get under the built-in library.
+    pub fn count_refused(
+        &mut self,
+        file: &[u8],
+        library: &[i32],
+        refused: RefusedRead,
+        otherwise: u64,
+    ) {
+        if let Some(class) = board_class(file, library, refused) {
+            self.boards[class] += 1;
+        }
+        let answer = OTHERWISE.iter().position(|&number| number == otherwise);
+        if let (refusal::LIBRARY, Some(answer)) = (refused.number, answer) {
+            self.otherwise[answer] += 1;
+        }
+    }
+
+    /// A library file, the cells as they were lent, and the refusal.
+    pub fn count_library(&mut self, file: &[u8], lent: &[i32], refused: Option<RefusedRead>) {
+        if let Some(class) = library_class(file, lent, refused) {
+            self.libraries[class] += 1;
+        }
+        let Some(refused) = refused else {
+            self.libraries[OVER_ODD] += u64::from(!libraries::is_sound(lent));
+            return;
+        };
+        let second = libraries::second_fault(file, refused);
+        let same = |&(first, other): &(u64, u64)| refused.number == first && second == Some(other);
+        if let Some(pair) = FAULTS.iter().position(same) {
+            self.faults[pair] += 1;
         }
     }
 
@@ -132,13 +202,18 @@ impl Tally {
 
     fn all(&self) -> impl Iterator<Item = &u64> {
         let counts = self.counts.as_flattened().iter().chain(&self.runs).chain(&self.margins);
-        counts.chain(self.cells.as_flattened()).chain(self.overloaded.as_flattened())
+        let counts = counts.chain(self.cells.as_flattened()).chain(self.overloaded.as_flattened());
+        let counts = counts.chain(&self.libraries).chain(&self.faults);
+        counts.chain(&self.boards).chain(&self.otherwise)
     }
 
     fn all_mut(&mut self) -> impl Iterator<Item = &mut u64> {
         let counts = self.counts.as_flattened_mut().iter_mut();
         let counts = counts.chain(&mut self.runs).chain(&mut self.margins);
-        counts.chain(self.cells.as_flattened_mut()).chain(self.overloaded.as_flattened_mut())
+        let counts =
+            counts.chain(self.cells.as_flattened_mut()).chain(self.overloaded.as_flattened_mut());
+        let counts = counts.chain(&mut self.libraries).chain(&mut self.faults);
+        counts.chain(&mut self.boards).chain(&mut self.otherwise)
     }
 
     pub fn print(&self, kinds: usize) {
@@ -177,6 +252,23 @@ impl Tally {
             }
             println!();
         }
+        print!("libraries read");
+        for (which, count) in LIBRARIES.iter().zip(&self.libraries) {
+            print!("  {which}:{count}");
+        }
+        for ((first, second), count) in FAULTS.iter().zip(&self.faults) {
+            print!("  {first} before {second}:{count}");
+        }
+        println!();
+        print!("boards under libraries");
+        for (which, count) in BOARDS.iter().zip(&self.boards) {
+            print!("  {which}:{count}");
+        }
+        print!("  23 before");
+        for (number, count) in OTHERWISE.iter().zip(&self.otherwise) {
+            print!("  {number}:{count}");
+        }
+        println!();
     }
 
     fn total(&self, number: usize) -> u64 {
@@ -227,6 +319,26 @@ impl Tally {
                 }
             }
         }
+        for (which, &count) in LIBRARIES.iter().zip(&self.libraries) {
+            if count == 0 {
+                faults.push(format!("no library was read: {which}"));
+            }
+        }
+        for ((first, second), &count) in FAULTS.iter().zip(&self.faults) {
+            if count == 0 {
+                faults.push(format!("no library was refused by {first} before {second}"));
+            }
+        }
+        for (which, &count) in BOARDS.iter().zip(&self.boards) {
+            if count == 0 {
+                faults.push(format!("no board was read under a library: {which}"));
+            }
+        }
+        for (number, &count) in OTHERWISE.iter().zip(&self.otherwise) {
+            if count == 0 {
+                faults.push(format!("no board was refused by 23 before {number}"));
+            }
+        }
         faults
     }
 }
@@ -240,5 +352,28 @@ fn load_class(load: usize) -> usize {
         5..=49 => 3,
         50..=87 => 4,
         _ => 5,
+    }
+}
+
+/// A refused board's place among `BOARDS`.
+fn board_class(file: &[u8], library: &[i32], refused: RefusedRead) -> Option<usize> {
+    match (refused.number, &file[refused.offset as usize..]) {
+        (refusal::LIBRARY, _) => Some(usize::from(library.len() == CODES)),
+        (refusal::FIELD, &[b'C', b'E', from, to, code, ..]) if from.max(to) < file[4] => match code
+        {
+            0..=4 => Some(2),
+            32.. => Some(3),
+            _ => None,
+        },
+        _ => None,
+    }
+}
+
+/// A library's place among `LIBRARIES`.
+fn library_class(file: &[u8], lent: &[i32], refused: Option<RefusedRead>) -> Option<usize> {
+    match refused.map(|refused| refused.number) {
+        None => Some(usize::from(!file.starts_with(b"EN"))),
+        Some(refusal::LIBRARY) => Some(if lent.len() == CODES { 3 } else { 2 }),
+        _ => None,
     }
 }
