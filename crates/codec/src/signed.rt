@@ -1,7 +1,6 @@
 // Signed numbers of `width` bytes: two's complement, low byte first.
 ghost use Rattle.std.specs.Prelude.{◌≡◌, ◌+◌, ◌<◌, ◌≤◌, ◌^◌, T};
 ghost use Rattle.codec.specs.Bytes.{Room, twos, pattern, in_width, signed_at, with_number};
-ghost use Rattle.laws.specs.Lent.{was};
 
 use crate::unsigned;
 
@@ -45,7 +44,7 @@ fn to_pattern(x: i64, width: usize) -> u64
 // The number in the bytes from `at` on.
 pub fn decode(bytes: &[u8], at: usize, width: usize) -> i64
     requires { Room bytes.now at width }
-    ensures { result ≡ signed_at width (was bytes) at }
+    ensures { result ≡ signed_at width bytes.now at }
 {
     let x = unsigned::number(bytes, at, width);
     of_pattern(x, width)
@@ -55,7 +54,7 @@ pub fn decode(bytes: &[u8], at: usize, width: usize) -> i64
 pub fn encode(bytes: &mut [u8], at: usize, width: usize, x: i64)
     requires room { Room bytes.old at width }
     requires t { T (in_width width x) }
-    ensures { bytes.new ≡ with_number width (was bytes) at (pattern width x) }
+    ensures { bytes.new ≡ with_number width bytes.old at (pattern width x) }
 {
     let p = to_pattern(x, width);
     unsigned::put_number(bytes, at, width, p);

@@ -1,7 +1,6 @@
 // Unsigned numbers of `width` bytes, low byte first.
 ghost use Rattle.std.specs.Prelude.{◌≡◌, ◌<◌, ◌^◌, ◌%◌};
 ghost use Rattle.codec.specs.Bytes.{Room, unsigned_at, with_number};
-ghost use Rattle.laws.specs.Lent.{was};
 
 fn wide(x: u8) -> u64
     ensures { (result ≡ x) × (result < 256) }
@@ -12,7 +11,7 @@ fn wide(x: u8) -> u64
 // The number in the bytes from `at` on.
 pub fn number(bytes: &[u8], at: usize, width: usize) -> u64
     requires { Room bytes.now at width }
-    ensures { result ≡ unsigned_at width (was bytes) at }
+    ensures { result ≡ unsigned_at width bytes.now at }
 {
     let mut x: u64 = 0;
     let mut i = 0;
@@ -34,7 +33,7 @@ fn low(x: u64) -> u8
 pub fn put_number(bytes: &mut [u8], at: usize, width: usize, x: u64)
     requires room { Room bytes.old at width }
     requires x_bound { x < 256 ^ width }
-    ensures { bytes.new ≡ with_number width (was bytes) at x }
+    ensures { bytes.new ≡ with_number width bytes.old at x }
 {
     let mut rest = x;
     let mut i = 0;

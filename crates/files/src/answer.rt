@@ -2,7 +2,7 @@
 use paths::Board;
 use timing::Refusal;
 
-#[derive(Drop)]
+#[derive(Clone, Copy)]
 pub enum Read {
     Board(Board),
     // At an offset.

@@ -1,6 +1,5 @@
 // A cell library in force: 32 cells, a code's ticks each, absent where it lacks the code.
 ghost use Rattle.std.specs.Prelude.{◌≡◌, length};
-ghost use Rattle.laws.specs.Lent.{was};
 ghost use Rattle.timing.specs.Limits.{absent_cell};
 ghost use Rattle.timing.specs.Table.{write_cell};
 ghost use Rattle.format.specs.Library.{library_cells, library_fits, ticks_in, ticks_of, value_of, built_in_cells};
@@ -23,7 +22,7 @@ pub fn none() -> [i32; library::CODES]
 
 // Whether it may be lent to a read.
 pub fn fits(library: &[i32]) -> bool
-    ensures { result ≡ library_fits (was library) }
+    ensures { result ≡ library_fits library.now }
 {
     if library.len() != library::CODES {
         return false;
@@ -33,7 +32,7 @@ pub fn fits(library: &[i32]) -> bool
 
 // A code's ticks.
 pub fn ticks_in(library: &[i32], code: u8) -> Ticks
-    ensures { ticks_meaning result ≡ ticks_in (was library) code }
+    ensures { ticks_meaning result ≡ ticks_in library.now code }
 {
     let lacking = Ticks::Refused(Refusal::WrongField);
     let at = code as usize;
@@ -63,7 +62,7 @@ fn built_in_cell(code: usize) -> i32
 
 // Fills the cells from the built-in ticks: 32 of them are the built-in library.
 pub fn built_in(library: &mut [i32])
-    ensures { library.new ≡ built_in_cells (length (was library)) }
+    ensures { library.new ≡ built_in_cells (length library.old) }
 {
     let mut code = 0;
     while code < library.len() {

@@ -1,6 +1,5 @@
 // Loads, a byte for each vertex, and a cell's delay under its load.
 ghost use Rattle.std.specs.Prelude.{◌≡◌, length};
-ghost use Rattle.laws.specs.Lent.{was};
 ghost use Rattle.timing.specs.Limits.{max_vertices, absent_cell};
 ghost use Rattle.timing.specs.Table.{write_cell};
 ghost use Rattle.format.specs.Library.{value_of, InForce};
@@ -32,7 +31,7 @@ fn under_load(ticks: i32, load: u8) -> i32
 // A cell's delay, as the table has it; absent for a code that the library lacks.
 pub fn cell_delay(library: &[i32], code: u8, load: u8) -> i32
     requires { InForce library.now }
-    ensures { result ≡ write_cell absent_cell (value_of (cell_delay (was library) code load)) }
+    ensures { result ≡ write_cell absent_cell (value_of (cell_delay library.now code load)) }
 {
     let ticks = library::ticks_in(library, code);
     match ticks {

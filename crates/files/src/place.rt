@@ -1,6 +1,5 @@
 // Pass 2: the arcs of a file whose records have been checked are placed by value.
 ghost use Rattle.std.specs.Prelude.{◌≡◌, ◌*◌, ◌≤◌, length};
-ghost use Rattle.laws.specs.Lent.{was};
 ghost use Rattle.timing.specs.Limits.{max_vertices};
 ghost use Rattle.timing.specs.Table.{graph_of, with_graph};
 ghost use Rattle.format.specs.Library.{InForce};
@@ -15,7 +14,7 @@ use records::parse;
 use records::parse::Found;
 
 // What the record at an offset places, and the offset of the next one.
-#[derive(Drop)]
+#[derive(Clone, Copy)]
 pub enum Next {
     // From, to, delay, offset.
     Arc(usize, usize, i32, usize),
@@ -26,7 +25,7 @@ pub enum Next {
 pub fn blank(table: &mut [i32], n: usize)
     requires n_le_max_vertices { n ≤ max_vertices }
     requires n_in_bounds { n * n ≤ length table.old }
-    ensures { table.new ≡ with_graph n no_arcs (was table) }
+    ensures { table.new ≡ with_graph n no_arcs table.old }
 {
     let end = n * n;
     cells::clear(&mut table[..end]);
@@ -37,8 +36,8 @@ fn next_arc(bytes: &[u8], n: usize, library: &[i32], loads: &[u8], at: usize) ->
     requires at_in_bounds { at ≤ length bytes.now }
     requires in_force { InForce library.now }
     requires n_in_bounds { n ≤ length loads.now }
-    ensures places { Places (was library) n (was bytes) (loads_of (was loads)) at result }
-    ensures next_within { NextWithin n (length (was bytes)) at result }
+    ensures places { Places library.now n bytes.now (loads_of loads.now) at result }
+    ensures next_within { NextWithin n (length bytes.now) at result }
 {
     let found = parse::record_at(bytes, n, at);
     if let Found::Record(item) = found {
@@ -60,8 +59,8 @@ pub fn place(bytes: &[u8], n: usize, library: &[i32], loads: &[u8], table: &mut 
     requires in_force { InForce library.now }
     requires n_in_bounds { n ≤ length loads.now }
     requires n_in_bounds_2 { n * n ≤ length table.old }
-    ensures table_after { graph_of n table.new ≡ all_placed (was library) n (was bytes) (loads_of (was loads)) (was table) }
-    ensures table_after_2 { table.new ≡ with_graph n (all_placed (was library) n (was bytes) (loads_of (was loads)) (was table)) (was table) }
+    ensures table_after { graph_of n table.new ≡ all_placed library.now n bytes.now (loads_of loads.now) table.old }
+    ensures table_after_2 { table.new ≡ with_graph n (all_placed library.now n bytes.now (loads_of loads.now) table.old) table.old }
 {
     let mut at = 5;
     loop {

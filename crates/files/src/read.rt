@@ -1,6 +1,5 @@
 // Reading a board file into a lent table.
 ghost use Rattle.std.specs.Prelude.{◌≡◌, ◌≤◌, length};
-ghost use Rattle.laws.specs.Lent.{was};
 ghost use Rattle.format.specs.Library.{InForce};
 ghost use Rattle.format.specs.Reading.{header, opened, file_loads, no_arcs, file_checked, arcs_read, read_call, table_read};
 ghost use Rattle.paths.specs.Board.{Lent, graph_in};
@@ -17,7 +16,7 @@ use records::parse;
 use timing::Refusal;
 
 // What the first record says.
-#[derive(Drop)]
+#[derive(Clone, Copy)]
 pub enum Header {
     // Inputs, outputs, vertices.
     Sizes(usize, usize, usize),
@@ -25,7 +24,7 @@ pub enum Header {
 }
 
 fn first_record(bytes: &[u8]) -> Header
-    ensures { header_meaning result ≡ header (was bytes) }
+    ensures { header_meaning result ≡ header bytes.now }
 {
     if bytes.len() < 2 {
         return Header::Refused(Refusal::FileEnds);
@@ -45,7 +44,7 @@ fn first_record(bytes: &[u8]) -> Header
 
 // The first record's board, where the library passes and the lent memory has room. `scratch` is the length of the lent scratch.
 fn open(bytes: &[u8], library: &[i32], table: &[i32], scratch: usize) -> Made
-    ensures { Opens (was library) (opened (was library) (was bytes) (was table) scratch) (was table) result }
+    ensures { Opens library.now (opened library.now bytes.now table.now scratch) table.now result }
 {
     if !library::fits(library) {
         return Made::Refused(Refusal::WrongLibrary);
@@ -67,7 +66,7 @@ fn fill(board: Board, bytes: &[u8], library: &[i32], loads: &[u8], table: &mut [
     requires vertices_in_bounds { board.vertices ≤ length loads.now }
     requires loads_value { loads_of loads.now ≡ file_loads board.vertices bytes.now }
     requires table_value { graph_in board table.old ≡ no_arcs }
-    ensures { Loads board.vertices (file_checked (was library) (sizes_of board) (was bytes)) (was table) table.new result }
+    ensures { Loads board.vertices (file_checked library.now (sizes_of board) bytes.now) table.old table.new result }
 {
     place::place(bytes, board.vertices, library, loads, table);
     let mut order = room::vertex_bytes();
@@ -86,7 +85,7 @@ fn load(board: Board, bytes: &[u8], library: &[i32], table: &mut [i32]) -> Scann
     requires lent { Lent board table.old }
     requires in_bounds { 5 ≤ length bytes.now }
     requires in_force { InForce library.now }
-    ensures { Loads board.vertices (arcs_read (was library) (sizes_of board) (was bytes)) (was table) table.new result }
+    ensures { Loads board.vertices (arcs_read library.now (sizes_of board) bytes.now) table.old table.new result }
 {
     let n = board.vertices;
     place::blank(table, n);
@@ -100,8 +99,8 @@ fn load(board: Board, bytes: &[u8], library: &[i32], table: &mut [i32]) -> Scann
 
 // The board in the file, with its arcs in the table, its cells' ticks from the library. Refused before the sizes are good, it leaves the table; refused later, N × N absent cells.
 pub fn read(bytes: &[u8], table: &mut [i32], scratch: &[i64], library: &[i32]) -> Read
-    ensures result_value { read_meaning result ≡ read_call (was library) (was bytes) (was table) (length (was scratch)) }
-    ensures table_after { table.new ≡ table_read (was library) (was bytes) (was table) (length (was scratch)) }
+    ensures result_value { read_meaning result ≡ read_call library.now bytes.now table.old (length scratch.now) }
+    ensures table_after { table.new ≡ table_read library.now bytes.now table.old (length scratch.now) }
 {
     let opened = open(bytes, library, table, scratch.len());
     match opened {

@@ -1,6 +1,5 @@
 // Reading a library file into 32 lent cells: every record is checked, then the ticks are placed.
 ghost use Rattle.std.specs.Prelude.{◌≡◌, length};
-ghost use Rattle.laws.specs.Lent.{was};
 ghost use Rattle.format.specs.Library.{library_cells};
 ghost use Rattle.format.specs.LibraryFile.{entry_at, LegalEntry, entry_shape, library_records, file_library, library_call, library_read};
 ghost use Rattle.files.specs.Scan.{scan_meaning, InFile, Turns, shape_says, found_says};
@@ -16,7 +15,7 @@ use timing::Refusal;
 fn item_turn(bytes: &[u8], cursor: Cursor, item: Entry) -> Turned
     requires in_file { InFile (length bytes.now) cursor }
     requires legal_entry { LegalEntry bytes.now cursor.at item }
-    ensures { Turns (length (was bytes)) cursor (shape_says (was bytes) cursor (entry_shape item)) result }
+    ensures { Turns (length bytes.now) cursor (shape_says bytes.now cursor (entry_shape item)) result }
 {
     match item {
         Entry::Ticks(code, _) => scan::entry_turn(cursor, code, cursor.at + 7),
@@ -26,7 +25,7 @@ fn item_turn(bytes: &[u8], cursor: Cursor, item: Entry) -> Turned
 
 fn turn(bytes: &[u8], cursor: Cursor) -> Turned
     requires { InFile (length bytes.now) cursor }
-    ensures { Turns (length (was bytes)) cursor (found_says (was bytes) cursor entry_shape (entry_at (was bytes) cursor.at)) result }
+    ensures { Turns (length bytes.now) cursor (found_says bytes.now cursor entry_shape (entry_at bytes.now cursor.at)) result }
 {
     let at = cursor.at;
     let found = library::entry_at(bytes, at);
@@ -38,7 +37,7 @@ fn turn(bytes: &[u8], cursor: Cursor) -> Turned
 
 // Pass 1: every record is checked.
 fn scan_entries(bytes: &[u8]) -> Scanned
-    ensures { scan_meaning result ≡ library_records (was bytes) }
+    ensures { scan_meaning result ≡ library_records bytes.now }
 {
     let mut cursor = Cursor {
         at: 0,
@@ -64,7 +63,7 @@ fn scan_entries(bytes: &[u8]) -> Scanned
 // Pass 2: the ticks of the records, in cells that are absent otherwise.
 fn place_entries(bytes: &[u8], library: &mut [i32])
     requires { length library.old ≡ library_cells }
-    ensures { library.new ≡ file_library (was bytes) }
+    ensures { library.new ≡ file_library bytes.now }
 {
     cells::clear(library);
     let mut at = 0;
@@ -83,8 +82,8 @@ fn place_entries(bytes: &[u8], library: &mut [i32])
 
 // The library in the file takes the place of the one in the cells, once all of it has been checked; refused, it leaves them.
 pub fn read_library(bytes: &[u8], library: &mut [i32]) -> Scanned
-    ensures result_value { scan_meaning result ≡ library_call (was bytes) (was library) }
-    ensures library_after { library.new ≡ library_read (was bytes) (was library) }
+    ensures result_value { scan_meaning result ≡ library_call bytes.now library.old }
+    ensures library_after { library.new ≡ library_read bytes.now library.old }
 {
     if library.len() != library::CODES {
         return Scanned::Refused(Refusal::WrongLibrary, 0);

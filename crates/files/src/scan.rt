@@ -1,6 +1,5 @@
 // Pass 1: every record is checked and counted by its source; the table stays.
 ghost use Rattle.std.specs.Prelude.{◌≡◌, ◌+◌, ◌*◌, ◌<◌, ◌≤◌, length};
-ghost use Rattle.laws.specs.Lent.{was};
 ghost use Rattle.timing.specs.Limits.{max_vertices};
 ghost use Rattle.format.specs.Records.{LegalRecord, known};
 ghost use Rattle.format.specs.Reading.{last, board_shape, known_at, no_loads};
@@ -15,7 +14,7 @@ use records::parse::{Found, Ticks};
 use timing::Refusal;
 
 // Where the next record stands, the first cell that its arc may have, and the arcs so far.
-#[derive(Drop)]
+#[derive(Clone, Copy)]
 pub struct Cursor {
     pub at: usize,
     pub low: usize,
@@ -23,7 +22,7 @@ pub struct Cursor {
 }
 
 // What a record says: go on, the file is done, or a refusal at an offset.
-#[derive(Drop)]
+#[derive(Clone, Copy)]
 pub enum Turned {
     On(Cursor),
     Done,
@@ -31,7 +30,7 @@ pub enum Turned {
 }
 
 // What all records say.
-#[derive(Drop)]
+#[derive(Clone, Copy)]
 pub enum Scanned {
     Done,
     Refused(Refusal, usize),
@@ -57,7 +56,7 @@ pub fn entry_turn(cursor: Cursor, place: usize, after: usize) -> Turned
 // The last record, with its count.
 pub fn end_turn(bytes: &[u8], cursor: Cursor, count: usize) -> Turned
     requires { cursor.at + 4 ≤ length bytes.now }
-    ensures { Turns (length (was bytes)) cursor (shape_says (was bytes) cursor (last count)) result }
+    ensures { Turns (length bytes.now) cursor (shape_says bytes.now cursor (last count)) result }
 {
     let end = cursor.at + 4;
     if count != cursor.count {
@@ -73,7 +72,7 @@ fn record_turn(bytes: &[u8], n: usize, cursor: Cursor, item: Record) -> Turned
     requires n_le_max_vertices { n ≤ max_vertices }
     requires in_file { InFile (length bytes.now) cursor }
     requires legal_record { LegalRecord n bytes.now cursor.at item }
-    ensures { Turns (length (was bytes)) cursor (record_says (was bytes) cursor n item) result }
+    ensures { Turns (length bytes.now) cursor (record_says bytes.now cursor n item) result }
 {
     match item {
         Record::Arc(u, v, _) => entry_turn(cursor, parse::cell_of(n, u, v), cursor.at + 8),
@@ -84,7 +83,7 @@ fn record_turn(bytes: &[u8], n: usize, cursor: Cursor, item: Record) -> Turned
 
 // The record, unless it is a cell whose code the library lacks.
 fn known(library: &[i32], item: Record) -> Found
-    ensures { found_meaning result ≡ known (was library) item }
+    ensures { found_meaning result ≡ known library.now item }
 {
     match item {
         Record::Arc(u, v, d) => Found::Record(Record::Arc(u, v, d)),
@@ -101,7 +100,7 @@ fn known(library: &[i32], item: Record) -> Found
 
 fn known_at(bytes: &[u8], n: usize, library: &[i32], at: usize) -> Found
     requires { at ≤ length bytes.now }
-    ensures { found_meaning result ≡ known_at (was library) n (was bytes) at }
+    ensures { found_meaning result ≡ known_at library.now n bytes.now at }
 {
     let found = parse::record_at(bytes, n, at);
     match found {
@@ -113,7 +112,7 @@ fn known_at(bytes: &[u8], n: usize, library: &[i32], at: usize) -> Found
 fn turn(bytes: &[u8], n: usize, library: &[i32], cursor: Cursor) -> Turned
     requires n_le_max_vertices { n ≤ max_vertices }
     requires in_file { InFile (length bytes.now) cursor }
-    ensures { Turns (length (was bytes)) cursor (found_says (was bytes) cursor (board_shape n) (known_at (was library) n (was bytes) cursor.at)) result }
+    ensures { Turns (length bytes.now) cursor (found_says bytes.now cursor (board_shape n) (known_at library.now n bytes.now cursor.at)) result }
 {
     let at = cursor.at;
     let found = known_at(bytes, n, library, at);
@@ -129,7 +128,7 @@ pub fn scan(bytes: &[u8], n: usize, library: &[i32], loads: &mut [u8]) -> Scanne
     requires n_le_max_vertices { n ≤ max_vertices }
     requires n_in_bounds { n ≤ length loads.old }
     requires loads_value { loads_of loads.old ≡ no_loads }
-    ensures { Scans (was library) n (was bytes) loads.new result }
+    ensures { Scans library.now n bytes.now loads.new result }
 {
     let mut cursor = Cursor {
         at: 5,

@@ -1,6 +1,5 @@
 // Writing a board file: BD, an AR for each arc, rising, and EN. The arcs can be written as lines too.
 ghost use Rattle.std.specs.Prelude.{◌≡◌, ◌<◌, T, length};
-ghost use Rattle.laws.specs.Lent.{was};
 ghost use Rattle.graph.specs.Count.{arcs};
 ghost use Rattle.timing.specs.Limits.{absent_cell, delay_limit, fits};
 ghost use Rattle.timing.specs.Table.{read_cell};
@@ -16,7 +15,7 @@ use paths::{Board, cells, checks, room};
 use records::{lines, put};
 use timing::Refusal;
 
-#[derive(Drop)]
+#[derive(Clone, Copy)]
 pub enum Written {
     // How many were written.
     Bytes(usize),
@@ -24,7 +23,7 @@ pub enum Written {
 }
 
 // How arcs are written.
-#[derive(Drop)]
+#[derive(Clone, Copy)]
 pub enum Form {
     Record,
     Line,
@@ -38,7 +37,7 @@ const FRAME_BYTES: usize = 9;
 fn put_board(board: Board, out: &mut [u8], at: usize) -> usize
     requires sized { Sized board }
     requires room_for { RoomFor (board_mark board) out.old at }
-    ensures { Appends (board_mark board) (was out) at out.new result }
+    ensures { Appends (board_mark board) out.old at out.new result }
 {
     let p = put::put_mark(out, at, b'B', b'D');
     let p = put::put_small(out, p, board.inputs);
@@ -50,7 +49,7 @@ fn put_arc(out: &mut [u8], at: usize, u: usize, v: usize, delay: i32) -> usize
     requires u_bound { u < 256 }
     requires v_bound { v < 256 }
     requires room_for { RoomFor (arc_record (record { from = u; to = v; delay = delay })) out.old at }
-    ensures { Appends (arc_record (record { from = u; to = v; delay = delay })) (was out) at out.new result }
+    ensures { Appends (arc_record (record { from = u; to = v; delay = delay })) out.old at out.new result }
 {
     let p = put::put_mark(out, at, b'A', b'R');
     let p = put::put_small(out, p, u);
@@ -64,7 +63,7 @@ fn put_cell(form: Form, out: &mut [u8], at: usize, u: usize, v: usize, cell: i32
     requires v_bound { v < 256 }
     requires t { T (fits delay_limit (read_cell absent_cell cell)) }
     requires room_for { RoomFor (cell_as form u v cell) out.old at }
-    ensures { Appends (cell_as form u v cell) (was out) at out.new result }
+    ensures { Appends (cell_as form u v cell) out.old at out.new result }
 {
     if cells::is_arc(cell) {
         return match form {
@@ -78,7 +77,7 @@ fn put_cell(form: Form, out: &mut [u8], at: usize, u: usize, v: usize, cell: i32
 fn put_end(out: &mut [u8], at: usize, count: usize) -> usize
     requires count_bound { count < 65536 }
     requires room_for { RoomFor (end_record count) out.old at }
-    ensures { Appends (end_record count) (was out) at out.new result }
+    ensures { Appends (end_record count) out.old at out.new result }
 {
     let p = put::put_mark(out, at, b'E', b'N');
     put::put_unsigned(out, p, 2, count as u64)
@@ -89,7 +88,7 @@ fn put_row(form: Form, board: Board, table: &[i32], u: usize, out: &mut [u8], at
     requires checked { Checked board table.now }
     requires u_lt_vertices { u < board.vertices }
     requires room_for { RoomFor (row_as form board table.now u) out.old at }
-    ensures { Appends (row_as form board (was table) u) (was out) at out.new result }
+    ensures { Appends (row_as form board table.now u) out.old at out.new result }
 {
     let n = board.vertices;
     let mut next = at;
@@ -106,7 +105,7 @@ fn put_row(form: Form, board: Board, table: &[i32], u: usize, out: &mut [u8], at
 pub fn put_arcs(form: Form, board: Board, table: &[i32], out: &mut [u8], at: usize) -> usize
     requires checked { Checked board table.now }
     requires room_for { RoomFor (table_as form board table.now) out.old at }
-    ensures { Appends (table_as form board (was table)) (was out) at out.new result }
+    ensures { Appends (table_as form board table.now) out.old at out.new result }
 {
     let rows = board.vertices;
     let mut next = at;
@@ -123,7 +122,7 @@ fn put_file(board: Board, table: &[i32], count: usize, out: &mut [u8]) -> usize
     requires checked { Checked board table.now }
     requires count_value { count ≡ arcs board.vertices (graph_in board table.now) }
     requires room_for { RoomFor (board_file board table.now) out.old 0 }
-    ensures { Appends (board_file board (was table)) (was out) 0 out.new result }
+    ensures { Appends (board_file board table.now) out.old 0 out.new result }
 {
     let first = put_board(board, out, 0);
     let end = put_arcs(Form::Record, board, table, out, first);
@@ -133,7 +132,7 @@ fn put_file(board: Board, table: &[i32], count: usize, out: &mut [u8]) -> usize
 // The file of a board that has passed its checks; 21 where it does not fit.
 fn file_answer(board: Board, table: &[i32], destination: &mut [u8]) -> Written
     requires { Checked board table.now }
-    ensures { Writes (file_on board (was table) (was destination)) (was destination) destination.new result }
+    ensures { Writes (file_on board table.now destination.old) destination.old destination.new result }
 {
     let count = cells::arcs(board, table);
     if destination.len() < FRAME_BYTES + ARC_BYTES * count {
@@ -151,7 +150,7 @@ pub fn write(
     scratch: &[i64],
     out: &mut [u8],
 ) -> Written
-    ensures { Writes (write_call inputs outputs vertices (length (was scratch)) (was table) (was out)) (was out) out.new result }
+    ensures { Writes (write_call inputs outputs vertices (length scratch.now) table.now out.old) out.old out.new result }
 {
     let mut order = room::vertex_bytes();
     let lent = checks::checked(inputs, outputs, vertices, table, scratch.len(), &mut order);

@@ -1,7 +1,8 @@
 // Board files and library files: marks and records. What they mean is in specs/.
+#![tactic(auto)]
 
 // The two bytes at a record's start.
-#[derive(Drop)]
+#[derive(Clone, Copy)]
 pub enum Mark {
     Board,
     Arc,
@@ -12,7 +13,7 @@ pub enum Mark {
 }
 
 // A board file's record after the first.
-#[derive(Drop)]
+#[derive(Clone, Copy)]
 pub enum Record {
     // From, to, delay.
     Arc(usize, usize, i32),
@@ -23,7 +24,7 @@ pub enum Record {
 }
 
 // A library file's record.
-#[derive(Drop)]
+#[derive(Clone, Copy)]
 pub enum Entry {
     // Cell code, ticks.
     Ticks(usize, i32),

@@ -1,11 +1,11 @@
 // The exports for a host in C, over numbers and byte runs. include/board.h is their header.
+#![tactic(auto)]
 mod answers;
 mod matrix;
 mod reduce;
 mod runs;
 
 ghost use Rattle.std.specs.Prelude.{◌≡◌};
-ghost use Rattle.laws.specs.Lent.{was};
 ghost use Rattle.reduction.specs.Steps.{shrink, prune};
 ghost use Rattle.host.specs.Answers.{matrix_answer, matrix_bytes, matrix_over, step_answer, table_bytes, step_over};
 
@@ -21,9 +21,9 @@ pub extern "C" fn board_matrix(
     scratch: &mut [u8],
     matrix: &mut [u8],
 ) -> i64
-    ensures value { result ≡ matrix_answer (matrix_over inputs outputs vertices (was table) (was scratch) (was matrix)) }
-    ensures matrix_after { matrix.new ≡ matrix_bytes (matrix_over inputs outputs vertices (was table) (was scratch) (was matrix)) (was matrix) }
-    ensures scratch_after { scratch.new ≡ was scratch }
+    ensures value { result ≡ matrix_answer (matrix_over inputs outputs vertices table.now scratch.old matrix.old) }
+    ensures matrix_after { matrix.new ≡ matrix_bytes (matrix_over inputs outputs vertices table.now scratch.old matrix.old) matrix.old }
+    ensures scratch_after { scratch.new ≡ scratch.old }
 {
     matrix::matrix(inputs, outputs, vertices, table, scratch, matrix)
 }
@@ -38,9 +38,9 @@ pub extern "C" fn board_shrink(
     scratch: &mut [u8],
     k: usize,
 ) -> i64
-    ensures value { result ≡ step_answer (step_over inputs outputs vertices (shrink k) (was table) (was scratch)) }
-    ensures table_after { table.new ≡ table_bytes (step_over inputs outputs vertices (shrink k) (was table) (was scratch)) (was table) }
-    ensures scratch_after { scratch.new ≡ was scratch }
+    ensures value { result ≡ step_answer (step_over inputs outputs vertices (shrink k) table.old scratch.old) }
+    ensures table_after { table.new ≡ table_bytes (step_over inputs outputs vertices (shrink k) table.old scratch.old) table.old }
+    ensures scratch_after { scratch.new ≡ scratch.old }
 {
     reduce::reduce(inputs, outputs, vertices, table, scratch, Step::Shrink(k))
 }
@@ -54,9 +54,9 @@ pub extern "C" fn board_prune(
     table: &mut [u8],
     scratch: &mut [u8],
 ) -> i64
-    ensures value { result ≡ step_answer (step_over inputs outputs vertices prune (was table) (was scratch)) }
-    ensures table_after { table.new ≡ table_bytes (step_over inputs outputs vertices prune (was table) (was scratch)) (was table) }
-    ensures scratch_after { scratch.new ≡ was scratch }
+    ensures value { result ≡ step_answer (step_over inputs outputs vertices prune table.old scratch.old) }
+    ensures table_after { table.new ≡ table_bytes (step_over inputs outputs vertices prune table.old scratch.old) table.old }
+    ensures scratch_after { scratch.new ≡ scratch.old }
 {
     reduce::reduce(inputs, outputs, vertices, table, scratch, Step::Prune)
 }

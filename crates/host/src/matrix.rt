@@ -1,6 +1,5 @@
 // The delay matrix over runs of bytes.
 ghost use Rattle.std.specs.Prelude.{◌≡◌, length};
-ghost use Rattle.laws.specs.Lent.{was};
 ghost use Rattle.host.specs.Runs.{whole_cells};
 ghost use Rattle.host.specs.Shown.{shown, pairs_shown};
 ghost use Rattle.host.specs.Answers.{matrix_answer, matrix_bytes, matrix_with, matrix_over};
@@ -25,8 +24,8 @@ fn matrix_in(
 ) -> i64
     requires cells_len { length cells.old ≡ shown vertices vertices (whole_cells 4 table.now) }
     requires delays_len { length delays.old ≡ pairs_shown inputs outputs (whole_cells 8 matrix.old) }
-    ensures value { result ≡ matrix_answer (matrix_with inputs outputs vertices (length (was scratch)) (was table) (was matrix)) }
-    ensures matrix_after { matrix.new ≡ matrix_bytes (matrix_with inputs outputs vertices (length (was scratch)) (was table) (was matrix)) (was matrix) }
+    ensures value { result ≡ matrix_answer (matrix_with inputs outputs vertices (length scratch.old) table.now matrix.old) }
+    ensures matrix_after { matrix.new ≡ matrix_bytes (matrix_with inputs outputs vertices (length scratch.old) table.now matrix.old) matrix.old }
 {
     runs::take_table(table, cells);
     let answer = queries::delay_matrix(inputs, outputs, vertices, cells, scratch, delays);
@@ -48,8 +47,8 @@ pub fn matrix(
     scratch: &[u8],
     matrix: &mut [u8],
 ) -> i64
-    ensures value { result ≡ matrix_answer (matrix_over inputs outputs vertices (was table) (was scratch) (was matrix)) }
-    ensures matrix_after { matrix.new ≡ matrix_bytes (matrix_over inputs outputs vertices (was table) (was scratch) (was matrix)) (was matrix) }
+    ensures value { result ≡ matrix_answer (matrix_over inputs outputs vertices table.now scratch.now matrix.old) }
+    ensures matrix_after { matrix.new ≡ matrix_bytes (matrix_over inputs outputs vertices table.now scratch.now matrix.old) matrix.old }
 {
     let count = runs::shown(vertices, vertices, table.len() / 4);
     let room = runs::shown(vertices, vertices, scratch.len() / 8);

@@ -1,6 +1,5 @@
 // A step over a table of bytes.
 ghost use Rattle.std.specs.Prelude.{◌≡◌, length};
-ghost use Rattle.laws.specs.Lent.{was};
 ghost use Rattle.steps.specs.Reduces.{step_meaning};
 ghost use Rattle.host.specs.Runs.{whole_cells};
 ghost use Rattle.host.specs.Shown.{shown};
@@ -23,8 +22,8 @@ fn reduce_in(
     step: Step,
 ) -> i64
     requires { length cells.old ≡ shown vertices vertices (whole_cells 4 table.old) }
-    ensures value { result ≡ step_answer (step_with inputs outputs vertices (length (was scratch)) (step_meaning step) (was table)) }
-    ensures table_after { table.new ≡ table_bytes (step_with inputs outputs vertices (length (was scratch)) (step_meaning step) (was table)) (was table) }
+    ensures value { result ≡ step_answer (step_with inputs outputs vertices (length scratch.old) (step_meaning step) table.old) }
+    ensures table_after { table.new ≡ table_bytes (step_with inputs outputs vertices (length scratch.old) (step_meaning step) table.old) table.old }
 {
     runs::take_table(table, cells);
     let answer = calls::reduce(inputs, outputs, vertices, cells, scratch, step);
@@ -46,8 +45,8 @@ pub fn reduce(
     scratch: &[u8],
     step: Step,
 ) -> i64
-    ensures value { result ≡ step_answer (step_over inputs outputs vertices (step_meaning step) (was table) (was scratch)) }
-    ensures table_after { table.new ≡ table_bytes (step_over inputs outputs vertices (step_meaning step) (was table) (was scratch)) (was table) }
+    ensures value { result ≡ step_answer (step_over inputs outputs vertices (step_meaning step) table.old scratch.now) }
+    ensures table_after { table.new ≡ table_bytes (step_over inputs outputs vertices (step_meaning step) table.old scratch.now) table.old }
 {
     let count = runs::shown(vertices, vertices, table.len() / 4);
     let room = runs::shown(vertices, vertices, scratch.len() / 8);

@@ -1,7 +1,6 @@
 // Runs of bytes as cells: the calls below take cells, so that a run's are copied into local memory, and back where a call has changed them.
 ghost use Rattle.std.specs.Prelude.{◌≡◌, ◌+◌, ◌*◌, ◌≤◌, length};
 ghost use Rattle.laws.specs.Lists.{tabulate};
-ghost use Rattle.laws.specs.Lent.{was};
 ghost use Rattle.timing.specs.Limits.{max_vertices};
 ghost use Rattle.host.specs.Runs.{run_cell, with_cells};
 ghost use Rattle.host.specs.Shown.{shown, most_pairs, pairs_shown};
@@ -47,7 +46,7 @@ pub fn pair_cells() -> [i64; Board::MAX_PAIRS]
 // Cell x of a table.
 fn cell_at(bytes: &[u8], x: usize) -> i32
     requires { 4 * x + 4 ≤ length bytes.now }
-    ensures { result ≡ run_cell 4 (was bytes) x }
+    ensures { result ≡ run_cell 4 bytes.now x }
 {
     signed::decode(bytes, 4 * x, 4) as i32
 }
@@ -55,7 +54,7 @@ fn cell_at(bytes: &[u8], x: usize) -> i32
 // The first cells of a table.
 pub fn take_table(bytes: &[u8], cells: &mut [i32])
     requires { 4 * length cells.old ≤ length bytes.now }
-    ensures { cells.new ≡ tabulate (length (was cells)) (run_cell 4 (was bytes)) }
+    ensures { cells.new ≡ tabulate (length cells.old) (run_cell 4 bytes.now) }
 {
     let mut x = 0;
     while x < cells.len() {
@@ -67,7 +66,7 @@ pub fn take_table(bytes: &[u8], cells: &mut [i32])
 // The first cells of a table, put back.
 pub fn put_table(bytes: &mut [u8], cells: &[i32])
     requires { 4 * length cells.now ≤ length bytes.old }
-    ensures { bytes.new ≡ with_cells 4 (was cells) (was bytes) }
+    ensures { bytes.new ≡ with_cells 4 cells.now bytes.old }
 {
     let mut x = 0;
     while x < cells.len() {
@@ -79,7 +78,7 @@ pub fn put_table(bytes: &mut [u8], cells: &[i32])
 // The first cells of a matrix.
 pub fn put_matrix(bytes: &mut [u8], cells: &[i64])
     requires { 8 * length cells.now ≤ length bytes.old }
-    ensures { bytes.new ≡ with_cells 8 (was cells) (was bytes) }
+    ensures { bytes.new ≡ with_cells 8 cells.now bytes.old }
 {
     let mut x = 0;
     while x < cells.len() {

@@ -1,10 +1,7 @@
 -- What a measured call answers: 0, or document 01's number.
 use Rattle.std.specs.Prelude.{◌≡◌, List, ℕ, ℤ}
-use Rattle.std.specs.Borrow.{Bor}
-use denote.Triple.Both.{Both}
 use Rattle.timing.specs.Refusal.{Verdict, refused, accepted, left_by}
 use Rattle.timing.specs.Margins.{Times}
-use Rattle.paths.specs.Margins.{lists, were}
 use Rattle.format.specs.Reading.{Reading, stopped, got}
 
 abbrev pub number_of : {A : Type 0} → Verdict A → ℕ
@@ -20,6 +17,6 @@ pub record Measures {A L : Type 0} (part : A → L) (v : Verdict A) (before afte
   pub number : r ≡ number_of v
   pub left : after ≡ left_by part v before
 
--- the same of a call on three lent lists, afterwards x', y' and z'
-abbrev pub Tells : {A B C : Type 0} → (Times → Verdict Times) → Both (Bor (List ℤ)) A → Both (Bor (List ℤ)) B → Both (Bor (List ℤ)) C → Bor (List ℤ) → Bor (List ℤ) → Bor (List ℤ) → ℕ → Type 0
-Tells call x y z x' y' z' r = Measures (λ v. v) (call (were x y z)) (were x y z) (lists x'.now y'.now z'.now) r
+-- the same of a call on three lent lists
+abbrev pub Tells : (Times → Verdict Times) → Times → Times → ℕ → Type 0
+Tells call before after r = Measures (λ v. v) (call before) before after r

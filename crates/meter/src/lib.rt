@@ -1,12 +1,12 @@
 // The calls that the benchmark (bench/) measures, as exports over cells. Each answers 0, or the refusal's number.
+#![tactic(auto)]
 ghost use Rattle.std.specs.Prelude.{◌≡◌, length};
-ghost use Rattle.laws.specs.Lent.{was};
 ghost use Rattle.timing.specs.Queries.{matrix_call};
 ghost use Rattle.reduction.specs.Steps.{prune, step_call};
 ghost use Rattle.reduction.specs.Run.{run_call};
 ghost use Rattle.format.specs.Reading.{read_call, table_read};
 ghost use Rattle.paths.specs.Queries.{ScratchAfter};
-ghost use Rattle.paths.specs.Margins.{margins};
+ghost use Rattle.paths.specs.Margins.{lists, margins};
 ghost use Rattle.meter.specs.Answers.{Measures, Tells, read_number};
 
 use files::answer::Read;
@@ -26,8 +26,8 @@ pub extern "C" fn meter_matrix(
     scratch: &mut [i64],
     matrix: &mut [i64],
 ) -> usize
-    ensures measures { Measures (λ x. x) (matrix_call inputs outputs vertices (length (was scratch)) (was table) (was matrix)) (was matrix) matrix.new result }
-    ensures scratch_after { ScratchAfter inputs outputs vertices (was table) (was scratch) scratch.new }
+    ensures measures { Measures (λ x. x) (matrix_call inputs outputs vertices (length scratch.old) table.now matrix.old) matrix.old matrix.new result }
+    ensures scratch_after { ScratchAfter inputs outputs vertices table.now scratch.old scratch.new }
 {
     let answer = queries::delay_matrix(inputs, outputs, vertices, table, scratch, matrix);
     match answer {
@@ -49,7 +49,7 @@ pub extern "C" fn meter_margins(
     required: &mut [i64],
     margin: &mut [i64],
 ) -> usize
-    ensures { Tells (margins inputs outputs vertices table scratch given due) arrival required margin arrival.exit required.exit margin.exit result }
+    ensures { Tells (margins inputs outputs vertices table.now scratch.now given.now due.now) (lists arrival.old required.old margin.old) (lists arrival.new required.new margin.new) result }
 {
     let answer = margins::margins(
         inputs, outputs, vertices, table, scratch, given, due, arrival, required, margin,
@@ -68,8 +68,8 @@ pub extern "C" fn meter_prune(
     table: &mut [i32],
     scratch: &mut [i64],
 ) -> usize
-    ensures measures { Measures (λ x. x.table) (step_call inputs outputs vertices (length (was scratch)) prune (was table)) (was table) table.new result }
-    ensures scratch_after { ScratchAfter inputs outputs vertices (was table) (was scratch) scratch.new }
+    ensures measures { Measures (λ x. x.table) (step_call inputs outputs vertices (length scratch.old) prune table.old) table.old table.new result }
+    ensures scratch_after { ScratchAfter inputs outputs vertices table.old scratch.old scratch.new }
 {
     let answer = steps::calls::prune(inputs, outputs, vertices, table, scratch);
     match answer {
@@ -86,8 +86,8 @@ pub extern "C" fn meter_run(
     table: &mut [i32],
     scratch: &mut [i64],
 ) -> usize
-    ensures measures { Measures (λ x. x.table) (run_call inputs outputs vertices (length (was scratch)) (was table)) (was table) table.new result }
-    ensures scratch_after { ScratchAfter inputs outputs vertices (was table) (was scratch) scratch.new }
+    ensures measures { Measures (λ x. x.table) (run_call inputs outputs vertices (length scratch.old) table.old) table.old table.new result }
+    ensures scratch_after { ScratchAfter inputs outputs vertices table.old scratch.old scratch.new }
 {
     let answer = run::calls::run(inputs, outputs, vertices, table, scratch);
     match answer {
@@ -103,8 +103,8 @@ pub extern "C" fn meter_read(
     scratch: &[i64],
     library: &[i32],
 ) -> usize
-    ensures value { result ≡ read_number (read_call (was library) (was bytes) (was table) (length (was scratch))) }
-    ensures table_after { table.new ≡ table_read (was library) (was bytes) (was table) (length (was scratch)) }
+    ensures value { result ≡ read_number (read_call library.now bytes.now table.old (length scratch.now)) }
+    ensures table_after { table.new ≡ table_read library.now bytes.now table.old (length scratch.now) }
 {
     let answer = read::read(bytes, table, scratch, library);
     match answer {

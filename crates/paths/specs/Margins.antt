@@ -1,8 +1,5 @@
 -- Required times and margins over a table that has passed its checks.
 use Rattle.std.specs.Prelude.{◌≡◌, Bool, ◌&&◌, List, ℕ, ◌≤◌, ◌<◌, T, ℤ, length}
-use Rattle.std.specs.Borrow.{Bor}
-use denote.Triple.Both.{Both}
-use Rattle.laws.specs.Lent.{was, size}
 use Rattle.graph.specs.Delay.{Delay, ◌⋓◌, ◌⊕◌, mirror, greatest}
 use Rattle.graph.specs.Graph.{reversed, propagated}
 use Rattle.timing.specs.Limits.{absent_wide, fits}
@@ -44,18 +41,14 @@ lists x y z = record { arrival = x; required = y; margin = z }
 abbrev pub lists_fit : Board → List ℤ → List ℤ → Times → Bool
 lists_fit b a r x = arrivals_fit b.inputs a && arrivals_fit b.outputs r && times_fit b.vertices x
 
--- as they were when the function was called
-abbrev pub were : {A B C : Type 0} → Both (Bor (List ℤ)) A → Both (Bor (List ℤ)) B → Both (Bor (List ℤ)) C → Times
-were x y z = lists (was x) (was y) (was z)
-
 -- the call after its checks, at a board's table
 abbrev pub margins_on : Board → List ℤ → List ℤ → List ℤ → Times → Verdict Times
 margins_on b t a r x = margins_into b.inputs b.outputs b.vertices a r x (graph_in b t)
 
 -- the whole call, of lent slices
-abbrev pub margins : {A B C D : Type 0} → ℕ → ℕ → ℕ → Both (Bor (List ℤ)) A → Both (Bor (List ℤ)) B → Both (Bor (List ℤ)) C → Both (Bor (List ℤ)) D → Times → Verdict Times
-margins m n N table scratch given due x = margins_call m n N (size scratch) (was table) (was given) (was due) x
+abbrev pub margins : ℕ → ℕ → ℕ → List ℤ → List ℤ → List ℤ → List ℤ → Times → Verdict Times
+margins m n N table scratch given due x = margins_call m n N (length scratch) table given due x
 
--- r and three lent lists afterwards, x', y' and z', are what the call says of the lists as they were
-abbrev pub Timed : {A B C : Type 0} → (Times → Verdict Times) → Both (Bor (List ℤ)) A → Both (Bor (List ℤ)) B → Both (Bor (List ℤ)) C → Bor (List ℤ) → Bor (List ℤ) → Bor (List ℤ) → Answer → Type 0
-Timed call x y z x' y' z' r = Fills (call (were x y z)) (were x y z) (lists x'.now y'.now z'.now) r
+-- r and three lent lists afterwards are what the call says of the lists as they were
+abbrev pub Timed : (Times → Verdict Times) → Times → Times → Answer → Type 0
+Timed call before after r = Fills (call before) before after r

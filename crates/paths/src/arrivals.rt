@@ -1,6 +1,6 @@
 // Arrivals: each vertex in topological order pushes its own along its arcs, so that every arc that its chain walks is looked at once, and no other cell.
 ghost use Rattle.std.specs.Prelude.{◌≡◌, ◌≢◌, ◌+◌, ◌*◌, ◌<◌, ◌≤◌, T, pos, length, get_or};
-ghost use Rattle.laws.specs.Lent.{was, Past};
+ghost use Rattle.laws.specs.Lent.{Past};
 ghost use Rattle.timing.specs.Limits.{delay_limit, absent_cell, absent_wide, fits};
 ghost use Rattle.timing.specs.Table.{read_cell};
 ghost use Rattle.timing.specs.Delays.{arrival_in};
@@ -25,7 +25,7 @@ pub fn gains(best: i64, a: i64, cell: i32) -> bool
 fn push(row: &[i32], chain: &[u8], a: i64, f: &mut [i64], n: usize)
     requires reached { Reached a }
     requires pushable { Pushable n row.now chain.now f.old }
-    ensures { Pushed n (was row) (was chain) a (was f) f.new }
+    ensures { Pushed n row.now chain.now a f.old f.new }
 {
     let mut v = chain[0] as usize;
     while v < n {
@@ -42,7 +42,7 @@ fn push_from(row: &[i32], chain: &[u8], f: &mut [i64], u: usize, n: usize)
     requires pushable { Pushable n row.now chain.now f.old }
     requires u_lt_n { u < n }
     requires t { T (fits reached_limit (arrival_in f.old u)) }
-    ensures { Pushed n (was row) (was chain) (get_or (was f) u (pos 0)) (was f) f.new }
+    ensures { Pushed n row.now chain.now (get_or f.old u (pos 0)) f.old f.new }
 {
     let a = f[u];
     if a != Board::ABSENT_WIDE {
@@ -54,7 +54,7 @@ fn push_from(row: &[i32], chain: &[u8], f: &mut [i64], u: usize, n: usize)
 pub fn propagate(board: Board, table: &[i32], order: &Order, chain: &[u8], f: &mut [i64])
     requires started { Started board table.now order.now f.old }
     requires chains { Chains board.vertices table.now chain.now }
-    ensures { f.new ≡ filled board.vertices (latest_from board (was table) (was f)) (was f) }
+    ensures { f.new ≡ filled board.vertices (latest_from board table.now f.old) f.old }
 {
     let n = board.vertices;
     let mut p = 0;
@@ -69,7 +69,7 @@ pub fn propagate(board: Board, table: &[i32], order: &Order, chain: &[u8], f: &m
 // No signal at the n vertices.
 fn start_none(f: &mut [i64], n: usize)
     requires { n ≤ length f.old }
-    ensures { f.new ≡ stored n (λ _. absent_wide) (was f) }
+    ensures { f.new ≡ stored n (λ _. absent_wide) f.old }
 {
     let mut v = 0;
     while v < n {
@@ -82,7 +82,7 @@ fn start_none(f: &mut [i64], n: usize)
 fn start_at(f: &mut [i64], n: usize, i: usize)
     requires n_in_bounds { n ≤ length f.old }
     requires i_lt_n { i < n }
-    ensures { f.new ≡ stored n (only_at i) (was f) }
+    ensures { f.new ≡ stored n (only_at i) f.old }
 {
     start_none(f, n);
     f[i] = 0;
@@ -101,14 +101,14 @@ pub fn delays_from(
     requires chains { Chains board.vertices table.now chain.now }
     requires i_lt_vertices { i < board.vertices }
     requires vertices_in_bounds { board.vertices ≤ length f.old }
-    ensures { f.new ≡ filled board.vertices (delays_from board (was table) i) (was f) }
+    ensures { f.new ≡ filled board.vertices (delays_from board table.now i) f.old }
 {
     start_at(f, board.vertices, i);
     propagate(board, table, order, chain, f);
 }
 
 fn from_list(inputs: &[i64], v: usize) -> i64
-    ensures { result ≡ from_list (was inputs) v }
+    ensures { result ≡ from_list inputs.now v }
 {
     if v >= inputs.len() {
         return Board::ABSENT_WIDE;
@@ -119,7 +119,7 @@ fn from_list(inputs: &[i64], v: usize) -> i64
 // Signals that start at the inputs.
 fn start_inputs(inputs: &[i64], f: &mut [i64], n: usize)
     requires { n ≤ length f.old }
-    ensures { f.new ≡ stored n (from_list (was inputs)) (was f) }
+    ensures { f.new ≡ stored n (from_list inputs.now) f.old }
 {
     let mut v = 0;
     while v < n {
@@ -141,7 +141,7 @@ pub fn arrivals(
     requires chains { Chains board.vertices table.now chain.now }
     requires given { Given board.inputs inputs.now }
     requires vertices_in_bounds { board.vertices ≤ length f.old }
-    ensures { f.new ≡ filled board.vertices (arrivals_from board (was table) (was inputs)) (was f) }
+    ensures { f.new ≡ filled board.vertices (arrivals_from board table.now inputs.now) f.old }
 {
     start_inputs(inputs, f, board.vertices);
     propagate(board, table, order, chain, f);
@@ -153,7 +153,7 @@ fn offer(f: &mut [i64], x: usize, a: i64, cell: i32)
     requires reached { Reached a }
     requires cell_nonzero { cell ≢ absent_cell }
     requires t { T (fits delay_limit (read_cell absent_cell cell)) }
-    ensures { Offered x a cell (was f) f.new }
+    ensures { Offered x a cell f.old f.new }
 {
     if gains(f[x], a, cell) {
         f[x] = a + (cell as i64);
@@ -168,11 +168,11 @@ fn push_four(row: &[i32], chain: &[u8], a: i64, b: i64, c: i64, d: i64, f: &mut 
     requires reached_4 { Reached d }
     requires pushable { Pushable n row.now chain.now f.old }
     requires n_in_bounds { n * 4 ≤ length f.old }
-    ensures pushed { Pushed n (was row) (was chain) a (lane n 0 (was f)) (lane n 0 f.new) }
-    ensures pushed_2 { Pushed n (was row) (was chain) b (lane n 1 (was f)) (lane n 1 f.new) }
-    ensures pushed_3 { Pushed n (was row) (was chain) c (lane n 2 (was f)) (lane n 2 f.new) }
-    ensures pushed_4 { Pushed n (was row) (was chain) d (lane n 3 (was f)) (lane n 3 f.new) }
-    ensures past { Past (n * 4) (was f) f.new }
+    ensures pushed { Pushed n row.now chain.now a (lane n 0 f.old) (lane n 0 f.new) }
+    ensures pushed_2 { Pushed n row.now chain.now b (lane n 1 f.old) (lane n 1 f.new) }
+    ensures pushed_3 { Pushed n row.now chain.now c (lane n 2 f.old) (lane n 2 f.new) }
+    ensures pushed_4 { Pushed n row.now chain.now d (lane n 3 f.old) (lane n 3 f.new) }
+    ensures past { Past (n * 4) f.old f.new }
 {
     let mut v = chain[0] as usize;
     while v < n {
@@ -200,8 +200,8 @@ fn push_each(row: &[i32], chain: &[u8], f: &mut [i64], u: usize, n: usize)
     requires u_lt_n { u < n }
     requires n_in_bounds { n * 4 ≤ length f.old }
     requires each_lane { EachLane (λ l. T (fits reached_limit (arrival_in (lane n l f.old) u))) }
-    ensures each_lane_2 { EachLane (λ l. Pushed n (was row) (was chain) (get_or (lane n l (was f)) u (pos 0)) (lane n l (was f)) (lane n l f.new)) }
-    ensures past { Past (n * 4) (was f) f.new }
+    ensures each_lane_2 { EachLane (λ l. Pushed n row.now chain.now (get_or (lane n l f.old) u (pos 0)) (lane n l f.old) (lane n l f.new)) }
+    ensures past { Past (n * 4) f.old f.new }
 {
     let a = f[u];
     let b = f[n + u];
@@ -224,8 +224,8 @@ fn push_each(row: &[i32], chain: &[u8], f: &mut [i64], u: usize, n: usize)
 fn start_four(f: &mut [i64], n: usize, i: usize)
     requires n_in_bounds { n * 4 ≤ length f.old }
     requires i_bound { i + 4 ≤ n }
-    ensures each_lane { EachLane (λ l. lane n l f.new ≡ stored n (only_at (i + l)) (lane n l (was f))) }
-    ensures past { Past (n * 4) (was f) f.new }
+    ensures each_lane { EachLane (λ l. lane n l f.new ≡ stored n (only_at (i + l)) (lane n l f.old)) }
+    ensures past { Past (n * 4) f.old f.new }
 {
     let mut l = 0;
     while l < 4 {
@@ -249,8 +249,8 @@ pub fn delays_from_four(
     requires chains { Chains board.vertices table.now chain.now }
     requires i_bound { i + 4 ≤ board.vertices }
     requires vertices_in_bounds { board.vertices * 4 ≤ length f.old }
-    ensures delay_lanes { DelayLanes board (was table) i (was f) f.new }
-    ensures past { Past (board.vertices * 4) (was f) f.new }
+    ensures delay_lanes { DelayLanes board table.now i f.old f.new }
+    ensures past { Past (board.vertices * 4) f.old f.new }
 {
     let n = board.vertices;
     start_four(f, n, i);

@@ -6,14 +6,14 @@ ghost use Rattle.paths.specs.Board.{Sized, board_meaning, board_of};
 use timing::Refusal;
 
 // Sizes that have passed the constructor.
-#[derive(Drop)]
+#[derive(Clone, Copy)]
 pub struct Board {
     pub inputs: usize,
     pub outputs: usize,
     pub vertices: usize,
 }
 
-#[derive(Drop)]
+#[derive(Clone, Copy)]
 pub enum Made {
     Board(Board),
     Refused(Refusal),

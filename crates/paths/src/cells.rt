@@ -3,7 +3,6 @@ ghost use Rattle.std.specs.Prelude.{◌≡◌, ◌+◌, ◌*◌, ◌<◌, ◌≤
 ghost use Rattle.std.specs.Int.Signed.{le_z};
 ghost use Rattle.laws.specs.Bounded.{every, sum};
 ghost use Rattle.laws.specs.Lists.{tabulate};
-ghost use Rattle.laws.specs.Lent.{was};
 ghost use Rattle.graph.specs.Delay.{at, present};
 ghost use Rattle.graph.specs.Count.{bit, fan_in, fan_out, arcs};
 ghost use Rattle.timing.specs.Limits.{delay_limit, absent_cell, fits};
@@ -70,7 +69,7 @@ fn within(x: i32, low: i32, high: i32) -> bool
 // Whether each cell of a row is. All are looked at, so that the compiler takes four at a time.
 pub fn row_within(row: &[i32], n: usize, low: i32, high: i32) -> bool
     requires { n ≤ length row.now }
-    ensures { result ≡ every n (λ v. between low high (cell_at (was row) v)) }
+    ensures { result ≡ every n (λ v. between low high (cell_at row.now v)) }
 {
     let mut all = true;
     let mut v = 0;
@@ -84,7 +83,7 @@ pub fn row_within(row: &[i32], n: usize, low: i32, high: i32) -> bool
 // Whether no cell of a row is above high: absent is the least number of all.
 pub fn row_upto(row: &[i32], n: usize, high: i32) -> bool
     requires { n ≤ length row.now }
-    ensures { result ≡ every n (λ v. le_z (get_or (was row) v (pos 0)) high) }
+    ensures { result ≡ every n (λ v. le_z (get_or row.now v (pos 0)) high) }
 {
     let mut all = true;
     let mut v = 0;
@@ -98,7 +97,7 @@ pub fn row_upto(row: &[i32], n: usize, high: i32) -> bool
 // Whether each cell of a row is absent or in range.
 fn row_fits(row: &[i32], n: usize) -> bool
     requires { n ≤ length row.now }
-    ensures { result ≡ every n (λ v. fits delay_limit (cell_at (was row) v)) }
+    ensures { result ≡ every n (λ v. fits delay_limit (cell_at row.now v)) }
 {
     row_within(row, n, MIN_TICKS, MAX_TICKS)
 }
@@ -106,7 +105,7 @@ fn row_fits(row: &[i32], n: usize) -> bool
 // Check 4: each cell is absent or in range.
 pub fn cells_fit(board: Board, table: &[i32]) -> bool
     requires { Lent board table.now }
-    ensures { result ≡ cells_fit board.vertices (graph_in board (was table)) }
+    ensures { result ≡ cells_fit board.vertices (graph_in board table.now) }
 {
     let n = board.vertices;
     let mut u = 0;
@@ -124,7 +123,7 @@ pub fn cells_fit(board: Board, table: &[i32]) -> bool
 // Whatever the table holds, at most 90 cells are looked at (`InTable`), so that the byte never wraps.
 fn count(table: &[i32], from: usize, stride: usize, times: usize) -> usize
     requires { InTable table.now from stride times }
-    ensures { result ≡ sum times (λ i. bit (cell_at (was table) (from + stride * i))) }
+    ensures { result ≡ sum times (λ i. bit (cell_at table.now (from + stride * i))) }
 {
     let mut total = 0u8;
     let mut i = 0;
@@ -142,7 +141,7 @@ fn count(table: &[i32], from: usize, stride: usize, times: usize) -> usize
 pub fn fan_out(board: Board, table: &[i32], u: usize) -> usize
     requires lent { Lent board table.now }
     requires u_lt_vertices { u < board.vertices }
-    ensures { result ≡ fan_out board.vertices (graph_in board (was table)) u }
+    ensures { result ≡ fan_out board.vertices (graph_in board table.now) u }
 {
     let n = board.vertices;
     count(table, n * u, 1, n)
@@ -152,7 +151,7 @@ pub fn fan_out(board: Board, table: &[i32], u: usize) -> usize
 pub fn fan_in(board: Board, table: &[i32], v: usize) -> usize
     requires lent { Lent board table.now }
     requires v_lt_vertices { v < board.vertices }
-    ensures { result ≡ fan_in board.vertices (graph_in board (was table)) v }
+    ensures { result ≡ fan_in board.vertices (graph_in board table.now) v }
 {
     let n = board.vertices;
     count(table, v, n, n)
@@ -164,7 +163,7 @@ pub fn next_before(board: Board, table: &[i32], v: usize, from: usize, to: usize
     requires v_lt_vertices { v < board.vertices }
     requires from_le_to { from ≤ to }
     requires to_le_vertices { to ≤ board.vertices }
-    ensures { NextInto to (graph_in board (was table)) v from result }
+    ensures { NextInto to (graph_in board table.now) v from result }
 {
     let n = board.vertices;
     let mut u = from;
@@ -183,7 +182,7 @@ pub fn next_into(board: Board, table: &[i32], v: usize, from: usize) -> usize
     requires lent { Lent board table.now }
     requires v_lt_vertices { v < board.vertices }
     requires from_le_vertices { from ≤ board.vertices }
-    ensures { NextInto board.vertices (graph_in board (was table)) v from result }
+    ensures { NextInto board.vertices (graph_in board table.now) v from result }
 {
     let n = board.vertices;
     let last = n - 1;
@@ -205,7 +204,7 @@ pub fn next_into(board: Board, table: &[i32], v: usize, from: usize) -> usize
 pub fn none_into(board: Board, table: &[i32], v: usize) -> bool
     requires lent { Lent board table.now }
     requires v_lt_vertices { v < board.vertices }
-    ensures { result ≡ eqb (fan_in board.vertices (graph_in board (was table)) v) 0 }
+    ensures { result ≡ eqb (fan_in board.vertices (graph_in board table.now) v) 0 }
 {
     let n = board.vertices;
     next_into(board, table, v, 0) == n
@@ -215,7 +214,7 @@ pub fn none_into(board: Board, table: &[i32], v: usize) -> bool
 pub fn one_into(board: Board, table: &[i32], v: usize) -> bool
     requires lent { Lent board table.now }
     requires v_lt_vertices { v < board.vertices }
-    ensures { result ≡ eqb (fan_in board.vertices (graph_in board (was table)) v) 1 }
+    ensures { result ≡ eqb (fan_in board.vertices (graph_in board table.now) v) 1 }
 {
     let n = board.vertices;
     let u = next_into(board, table, v, 0);
@@ -228,7 +227,7 @@ pub fn one_into(board: Board, table: &[i32], v: usize) -> bool
 // All arcs: the present cells.
 pub fn arcs(board: Board, table: &[i32]) -> usize
     requires { Lent board table.now }
-    ensures { result ≡ arcs board.vertices (graph_in board (was table)) }
+    ensures { result ≡ arcs board.vertices (graph_in board table.now) }
 {
     let n = board.vertices;
     let mut total = 0;
@@ -243,7 +242,7 @@ pub fn arcs(board: Board, table: &[i32]) -> usize
 // Check 5: no arc leads into an input.
 pub fn no_arc_into_input(board: Board, table: &[i32]) -> bool
     requires { Lent board table.now }
-    ensures { result ≡ no_arc_into_input board.inputs board.vertices (graph_in board (was table)) }
+    ensures { result ≡ no_arc_into_input board.inputs board.vertices (graph_in board table.now) }
 {
     let n = board.vertices;
     let m = board.inputs;
@@ -259,7 +258,7 @@ pub fn no_arc_into_input(board: Board, table: &[i32]) -> bool
 
 // No arcs.
 pub fn clear(row: &mut [i32])
-    ensures { row.new ≡ tabulate (length (was row)) (λ _. absent_cell) }
+    ensures { row.new ≡ tabulate (length row.old) (λ _. absent_cell) }
 {
     let mut v = 0;
     while v < row.len() {

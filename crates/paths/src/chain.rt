@@ -1,6 +1,5 @@
 // Chains of arcs: a pass over a row goes from each arc to the next, whatever lies between. Arcs that are beaten by two others are passed too.
 ghost use Rattle.std.specs.Prelude.{◌≡◌, ◌*◌, ◌<◌, ◌≤◌, T, length, get_or};
-ghost use Rattle.laws.specs.Lent.{was};
 ghost use Rattle.graph.specs.Delay.{at, present, ◌⊕◌};
 ghost use Rattle.timing.specs.Limits.{max_vertices, delay_limit, absent_cell, fits};
 ghost use Rattle.timing.specs.Table.{read_cell};
@@ -30,7 +29,7 @@ fn chain_row(row: &[i32], next: &[i32], d: i64, chain: &mut [u8])
     requires near { Near (length chain.old) row.now }
     requires near_2 { Near (length chain.old) next.now }
     requires t { T (fits delay_limit (at d)) }
-    ensures { Chain (length (was chain)) (unbeaten (cell_at (was row)) (cell_at (was next)) d) (λ v. get_or chain.new v 0) }
+    ensures { Chain (length chain.old) (unbeaten (cell_at row.now) (cell_at next.now) d) (λ v. get_or chain.new v 0) }
 {
     let mut after = chain.len();
     let mut v = chain.len();
@@ -49,7 +48,7 @@ fn chain_row(row: &[i32], next: &[i32], d: i64, chain: &mut [u8])
 fn plain_row(row: &[i32], chain: &mut [u8])
     requires chain_len_bound { length chain.old ≤ max_vertices }
     requires chain_in_bounds { length chain.old ≤ length row.now }
-    ensures { Chain (length (was chain)) (cell_at (was row)) (λ v. get_or chain.new v 0) }
+    ensures { Chain (length chain.old) (cell_at row.now) (λ v. get_or chain.new v 0) }
 {
     let mut after = chain.len();
     let mut v = chain.len();
@@ -68,7 +67,7 @@ fn chain_from(board: Board, table: &[i32], u: usize, w: usize, chain: &mut [u8])
     requires u_lt_vertices { u < board.vertices }
     requires w_lt_vertices { w < board.vertices }
     requires chain_len { length chain.old ≡ board.vertices }
-    ensures { Chained board.vertices (graph_in board (was table)) u (λ v. get_or chain.new v 0) }
+    ensures { Chained board.vertices (graph_in board table.now) u (λ v. get_or chain.new v 0) }
 {
     let n = board.vertices;
     let at = n * u;
@@ -86,7 +85,7 @@ fn chain_from(board: Board, table: &[i32], u: usize, w: usize, chain: &mut [u8])
 pub fn chains(board: Board, table: &[i32], order: &Order, chain: &mut [u8])
     requires passable { Passable board table.now order.now }
     requires vertices_in_bounds { board.vertices * board.vertices ≤ length chain.old }
-    ensures { Chains board.vertices (was table) chain.new }
+    ensures { Chains board.vertices table.now chain.new }
 {
     let n = board.vertices;
     let mut w = 0;

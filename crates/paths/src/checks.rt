@@ -1,6 +1,5 @@
 // Checks 1 to 6, which every call makes.
 ghost use Rattle.std.specs.Prelude.{◌≡◌, length};
-ghost use Rattle.laws.specs.Lent.{was};
 ghost use Rattle.timing.specs.Limits.{max_vertices};
 ghost use Rattle.paths.specs.Board.{Lent};
 ghost use Rattle.paths.specs.Checked.{MemoryChecking, ArcsChecking, Checking};
@@ -18,7 +17,7 @@ pub fn memory_checked(
     table: &[i32],
     scratch: usize,
 ) -> Made
-    ensures { MemoryChecking inputs outputs vertices scratch (was table) result }
+    ensures { MemoryChecking inputs outputs vertices scratch table.now result }
 {
     let made = Board::new(inputs, outputs, vertices);
     if let Made::Board(board) = made {
@@ -36,7 +35,7 @@ pub fn memory_checked(
 pub fn arcs_checked(board: Board, table: &[i32], order: &mut Order) -> Made
     requires lent { Lent board table.now }
     requires order_len { length order.old ≡ max_vertices }
-    ensures { ArcsChecking board (was table) order.new result }
+    ensures { ArcsChecking board table.now order.new result }
 {
     if !cells::no_arc_into_input(board, table) {
         return Made::Refused(Refusal::ArcIntoInput);
@@ -57,7 +56,7 @@ pub fn checked(
     order: &mut Order,
 ) -> Made
     requires { length order.old ≡ max_vertices }
-    ensures { Checking inputs outputs vertices scratch (was table) order.new result }
+    ensures { Checking inputs outputs vertices scratch table.now order.new result }
 {
     let made = memory_checked(inputs, outputs, vertices, table, scratch);
     if let Made::Board(board) = made {

@@ -1,4 +1,5 @@
 // Path delays of boards: the board's type, checks 1 to 6, topological order, arrivals, and the delay matrix; required times and margins.
+#![tactic(auto)]
 
 pub mod arrivals;
 pub mod board;

@@ -1,7 +1,6 @@
 // Required times and margins: a pass forwards and one backwards over the arcs. Backwards, required times are mirrored (negated), so that the later of two
 // is taken there too and absent is again below every other.
 ghost use Rattle.std.specs.Prelude.{◌≡◌, ◌≢◌, ◌≤◌, T, length};
-ghost use Rattle.laws.specs.Lent.{was};
 ghost use Rattle.graph.specs.Delay.{◌⋓◌, ◌⊕◌, ◌⊖◌, mirror};
 ghost use Rattle.timing.specs.Limits.{delay_limit, absent_cell, absent_wide, fits};
 ghost use Rattle.timing.specs.Table.{read_cell, write_cell};
@@ -10,7 +9,7 @@ ghost use Rattle.timing.specs.Margins.{cells};
 ghost use Rattle.paths.specs.Chain.{Chains};
 ghost use Rattle.paths.specs.Arrivals.{reached_limit, stored, filled, Started, Given, Pushable};
 ghost use Rattle.paths.specs.Checked.{Passable};
-ghost use Rattle.paths.specs.Margins.{InReach, Pulled, latest_back, own_from, required_from, lists_fit, were, margins_on, margins, Timed};
+ghost use Rattle.paths.specs.Margins.{InReach, Pulled, latest_back, own_from, required_from, lists, lists_fit, margins_on, margins, Timed};
 
 use crate::board::{Board, Made};
 use crate::order::Order;
@@ -38,7 +37,7 @@ fn later(best: i64, a: i64, cell: i32) -> i64
 fn pull(row: &[i32], chain: &[u8], start: i64, f: &[i64], n: usize) -> i64
     requires pushable { Pushable n row.now chain.now f.now }
     requires in_reach { InReach n f.now }
-    ensures { Pulled n (was row) (was chain) start (was f) result }
+    ensures { Pulled n row.now chain.now start f.now result }
 {
     let mut best = start;
     let mut v = chain[0] as usize;
@@ -53,7 +52,7 @@ fn pull(row: &[i32], chain: &[u8], start: i64, f: &[i64], n: usize) -> i64
 fn propagate_back(board: Board, table: &[i32], order: &Order, chain: &[u8], f: &mut [i64])
     requires started { Started board table.now order.now f.old }
     requires chains { Chains board.vertices table.now chain.now }
-    ensures { f.new ≡ filled board.vertices (latest_back board (was table) (was f)) (was f) }
+    ensures { f.new ≡ filled board.vertices (latest_back board table.now f.old) f.old }
 {
     let n = board.vertices;
     let mut p = n;
@@ -79,7 +78,7 @@ fn mirrored(x: i64) -> i64
 // The mirrored required time of a vertex itself.
 fn own_time(board: Board, due: &[i64], v: usize) -> i64
     requires { Given board.outputs due.now }
-    ensures { result ≡ own_from board (was due) v }
+    ensures { result ≡ own_from board due.now v }
 {
     let m = board.inputs;
     if v < m {
@@ -95,7 +94,7 @@ fn own_time(board: Board, due: &[i64], v: usize) -> i64
 fn start_outputs(board: Board, due: &[i64], f: &mut [i64])
     requires given { Given board.outputs due.now }
     requires vertices_in_bounds { board.vertices ≤ length f.old }
-    ensures { f.new ≡ stored board.vertices (own_from board (was due)) (was f) }
+    ensures { f.new ≡ stored board.vertices (own_from board due.now) f.old }
 {
     let n = board.vertices;
     let mut v = 0;
@@ -108,7 +107,7 @@ fn start_outputs(board: Board, due: &[i64], f: &mut [i64])
 // Each cell mirrored.
 fn mirror_all(f: &mut [i64])
     requires { InReach (length f.old) f.old }
-    ensures { f.new ≡ cells (length (was f)) (λ v. mirror (arrival_in (was f) v)) }
+    ensures { f.new ≡ cells (length f.old) (λ v. mirror (arrival_in f.old v)) }
 {
     let mut v = 0;
     while v < f.len() {
@@ -130,7 +129,7 @@ fn required_times(
     requires chains { Chains board.vertices table.now chain.now }
     requires given { Given board.outputs due.now }
     requires required_len { length required.old ≡ board.vertices }
-    ensures { required.new ≡ cells board.vertices (required_from board (was table) (was due)) }
+    ensures { required.new ≡ cells board.vertices (required_from board table.now due.now) }
 {
     start_outputs(board, due, required);
     propagate_back(board, table, order, chain, required);
@@ -156,7 +155,7 @@ fn margin_of(required: i64, arrival: i64) -> i64
 fn fill_margins(required: &[i64], arrival: &[i64], margin: &mut [i64])
     requires in_reach { InReach (length margin.old) required.now }
     requires in_reach_2 { InReach (length margin.old) arrival.now }
-    ensures { margin.new ≡ cells (length (was margin)) (λ v. arrival_in (was required) v ⊖ arrival_in (was arrival) v) }
+    ensures { margin.new ≡ cells (length margin.old) (λ v. arrival_in required.now v ⊖ arrival_in arrival.now v) }
 {
     let mut v = 0;
     while v < margin.len() {
@@ -174,7 +173,7 @@ fn lists_fit(
     required: &[i64],
     margin: &[i64],
 ) -> bool
-    ensures { result ≡ lists_fit board (was given) (was due) (were arrival required margin) }
+    ensures { result ≡ lists_fit board given.now due.now (lists arrival.now required.now margin.now) }
 {
     let n = board.vertices;
     if !queries::times_fit(given, board.inputs) {
@@ -204,7 +203,7 @@ fn margins_answer(
     margin: &mut [i64],
 ) -> Answer
     requires { Passable board table.now order.now }
-    ensures { Timed (margins_on board (was table) (was given) (was due)) arrival required margin arrival.exit required.exit margin.exit result }
+    ensures { Timed (margins_on board table.now given.now due.now) (lists arrival.old required.old margin.old) (lists arrival.new required.new margin.new) result }
 {
     if !lists_fit(board, given, due, arrival, required, margin) {
         return Answer::Refused(Refusal::ArrivalLists);
@@ -231,7 +230,7 @@ pub fn margins(
     required: &mut [i64],
     margin: &mut [i64],
 ) -> Answer
-    ensures { Timed (margins inputs outputs vertices table scratch given due) arrival required margin arrival.exit required.exit margin.exit result }
+    ensures { Timed (margins inputs outputs vertices table.now scratch.now given.now due.now) (lists arrival.old required.old margin.old) (lists arrival.new required.new margin.new) result }
 {
     let mut order = room::vertex_bytes();
     let lent = checks::checked(inputs, outputs, vertices, table, scratch.len(), &mut order);

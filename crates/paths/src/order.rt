@@ -1,6 +1,5 @@
 // Topological order: check 6. Each vertex waits for its arcs in; the smallest that waits for none is placed next. O(N²).
 ghost use Rattle.std.specs.Prelude.{◌≡◌, cond, ℕ, ◌+◌, ◌<◌, ◌≤◌, eqb, length, get_or};
-ghost use Rattle.laws.specs.Lent.{was};
 ghost use Rattle.graph.specs.Count.{bit};
 ghost use Rattle.timing.specs.Limits.{max_vertices, absent_cell};
 ghost use Rattle.timing.specs.Table.{read_cell};
@@ -35,7 +34,7 @@ fn raise(row: &[i32], fan: &mut [u8; Board::MAX_VERTICES], n: usize)
     requires n_in_bounds { n ≤ length row.now }
     requires fan_len { length fan.old ≡ max_vertices }
     requires raisable { Raisable n fan.old }
-    ensures { Raised n (was row) (was fan) fan.new }
+    ensures { Raised n row.now fan.old fan.new }
 {
     let mut v = 0;
     while v < n {
@@ -47,7 +46,7 @@ fn raise(row: &[i32], fan: &mut [u8; Board::MAX_VERTICES], n: usize)
 // How many arcs lead into each vertex, by rows.
 fn fans(board: Board, table: &[i32]) -> [u8; Board::MAX_VERTICES]
     requires { Lent board table.now }
-    ensures { FansIn board.vertices (graph_in board (was table)) result }
+    ensures { FansIn board.vertices (graph_in board table.now) result }
 {
     let n = board.vertices;
     let mut fan = no_fans();
@@ -76,7 +75,7 @@ fn lower(row: &[i32], fan: &mut [u8; Board::MAX_VERTICES], n: usize)
     requires n_in_bounds { n ≤ length row.now }
     requires fan_len { length fan.old ≡ max_vertices }
     requires lowerable { Lowerable n row.now fan.old }
-    ensures { Lowered n (was row) (was fan) fan.new }
+    ensures { Lowered n row.now fan.old fan.new }
 {
     let mut v = 0;
     while v < n {
@@ -89,7 +88,7 @@ fn lower(row: &[i32], fan: &mut [u8; Board::MAX_VERTICES], n: usize)
 fn ready(fan: &[u8; Board::MAX_VERTICES], from: usize, n: usize) -> usize
     requires n_le_max_vertices { n ≤ max_vertices }
     requires from_le_n { from ≤ n }
-    ensures { FirstZero n (was fan) from result }
+    ensures { FirstZero n fan.now from result }
 {
     let mut v = from;
     while v < n {
@@ -117,7 +116,7 @@ fn past(from: usize, u: usize) -> usize
 pub fn topological_order(board: Board, table: &[i32], order: &mut Order) -> bool
     requires lent { Lent board table.now }
     requires order_len { length order.old ≡ max_vertices }
-    ensures { Ordered board.vertices (graph_in board (was table)) order.new result }
+    ensures { Ordered board.vertices (graph_in board table.now) order.new result }
 {
     let n = board.vertices;
     let mut fan = fans(board, table);
@@ -148,7 +147,7 @@ fn vertex(x: u8) -> usize
 // Whether a stands before b among the first n bytes of `order`.
 pub fn stands_before(order: &Order, n: usize, a: usize, b: usize) -> bool
     requires { n ≤ max_vertices }
-    ensures { result ≡ stands_before n (was order) a b }
+    ensures { result ≡ stands_before n order.now a b }
 {
     let mut p = 0;
     while p < n {

@@ -1,7 +1,7 @@
 // The calls that answer path delays: the delay matrix, and the arrivals at the outputs.
 ghost use Rattle.std.specs.Prelude.{◌≡◌, ◌+◌, ◌*◌, ◌≤◌, pos, length, get_or};
 ghost use Rattle.laws.specs.Lists.{tabulate};
-ghost use Rattle.laws.specs.Lent.{was, size, Past};
+ghost use Rattle.laws.specs.Lent.{Past};
 ghost use Rattle.timing.specs.Limits.{arrival_limit, absent_wide, fits};
 ghost use Rattle.timing.specs.Table.{read_cell};
 ghost use Rattle.timing.specs.Delays.{arrivals_fit};
@@ -16,7 +16,7 @@ use crate::order::Order;
 use crate::{arrivals, chain, checks, room};
 use timing::Refusal;
 
-#[derive(Drop)]
+#[derive(Clone, Copy)]
 pub enum Answer {
     Done,
     Refused(Refusal),
@@ -25,7 +25,7 @@ pub enum Answer {
 // The outputs' cells: they stand in f from m on.
 fn copy_out(row: &mut [i64], f: &[i64], m: usize)
     requires { m + length row.old ≤ length f.now }
-    ensures { row.new ≡ tabulate (length (was row)) (λ j. get_or (was f) (m + j) (pos 0)) }
+    ensures { row.new ≡ tabulate (length row.old) (λ j. get_or f.now (m + j) (pos 0)) }
 {
     let mut j = 0;
     while j < row.len() {
@@ -49,8 +49,8 @@ fn fill_four(
     requires i_bound { i + 4 ≤ board.inputs }
     requires vertices_in_bounds { board.vertices * 4 ≤ length scratch.old }
     requires inputs_in_bounds { board.outputs * board.inputs ≤ length destination.old }
-    ensures rows_made { RowsMade board (was table) i (i + 4) (was destination) destination.new }
-    ensures past { Past (board.vertices * 4) (was scratch) scratch.new }
+    ensures rows_made { RowsMade board table.now i (i + 4) destination.old destination.new }
+    ensures past { Past (board.vertices * 4) scratch.old scratch.new }
 {
     arrivals::delays_from_four(board, table, order, chain, i, scratch);
     let n = board.outputs;
@@ -77,8 +77,8 @@ pub fn fill_matrix(
     requires passable { Passable board table.now order.now }
     requires scratch_room { ScratchRoom board scratch.old }
     requires inputs_in_bounds { board.outputs * board.inputs ≤ length destination.old }
-    ensures destination_after { destination.new ≡ with_matrix board (was table) (was destination) }
-    ensures past_scratch { PastScratch board (was scratch) scratch.new }
+    ensures destination_after { destination.new ≡ with_matrix board table.now destination.old }
+    ensures past_scratch { PastScratch board scratch.old scratch.new }
 {
     let mut chain = room::cell_bytes();
     chain::chains(board, table, order, &mut chain);
@@ -108,8 +108,8 @@ fn matrix_answer(
 ) -> Answer
     requires passable { Passable board table.now order.now }
     requires scratch_room { ScratchRoom board scratch.old }
-    ensures fills { Fills (matrix_on board (was table) (was destination)) (was destination) destination.new result }
-    ensures past_scratch { PastScratch board (was scratch) scratch.new }
+    ensures fills { Fills (matrix_on board table.now destination.old) destination.old destination.new result }
+    ensures past_scratch { PastScratch board scratch.old scratch.new }
 {
     if destination.len() >= board.outputs * board.inputs {
         fill_matrix(board, table, order, scratch, destination);
@@ -127,8 +127,8 @@ pub fn delay_matrix(
     scratch: &mut [i64],
     destination: &mut [i64],
 ) -> Answer
-    ensures fills { Fills (matrix_call inputs outputs vertices (size scratch) (was table) (was destination)) (was destination) destination.new result }
-    ensures scratch_after { ScratchAfter inputs outputs vertices (was table) (was scratch) scratch.new }
+    ensures fills { Fills (matrix_call inputs outputs vertices (length scratch.old) table.now destination.old) destination.old destination.new result }
+    ensures scratch_after { ScratchAfter inputs outputs vertices table.now scratch.old scratch.new }
 {
     let mut order = room::vertex_bytes();
     let lent = checks::checked(inputs, outputs, vertices, table, scratch.len(), &mut order);
@@ -153,7 +153,7 @@ fn arrival_fits(x: i64) -> bool
 
 // Whether there are so many times, each absent or within the limits.
 pub fn times_fit(given: &[i64], count: usize) -> bool
-    ensures { result ≡ arrivals_fit count (was given) }
+    ensures { result ≡ arrivals_fit count given.now }
 {
     if given.len() != count {
         return false;
@@ -179,8 +179,8 @@ fn arrivals_answer(
 ) -> Answer
     requires passable { Passable board table.now order.now }
     requires scratch_room { ScratchRoom board scratch.old }
-    ensures fills { Fills (arrivals_on board (was table) (was given) (was answers)) (was answers) answers.new result }
-    ensures past_scratch { PastScratch board (was scratch) scratch.new }
+    ensures fills { Fills (arrivals_on board table.now given.now answers.old) answers.old answers.new result }
+    ensures past_scratch { PastScratch board scratch.old scratch.new }
 {
     if !times_fit(given, board.inputs) {
         return Answer::Refused(Refusal::ArrivalLists);
@@ -205,8 +205,8 @@ pub fn output_arrivals(
     given: &[i64],
     answers: &mut [i64],
 ) -> Answer
-    ensures fills { Fills (arrival_call inputs outputs vertices (size scratch) (was table) (was given) (was answers)) (was answers) answers.new result }
-    ensures scratch_after { ScratchAfter inputs outputs vertices (was table) (was scratch) scratch.new }
+    ensures fills { Fills (arrival_call inputs outputs vertices (length scratch.old) table.now given.now answers.old) answers.old answers.new result }
+    ensures scratch_after { ScratchAfter inputs outputs vertices table.now scratch.old scratch.new }
 {
     let mut order = room::vertex_bytes();
     let lent = checks::checked(inputs, outputs, vertices, table, scratch.len(), &mut order);

@@ -1,6 +1,5 @@
 // The common difference of two rows or columns of path delays.
 ghost use Rattle.std.specs.Prelude.{◌≡◌, T, length};
-ghost use Rattle.laws.specs.Lent.{was};
 ghost use Rattle.timing.specs.Limits.{arrival_limit, absent_wide, fits};
 ghost use Rattle.timing.specs.Table.{read_cell};
 ghost use Rattle.timing.specs.Delays.{arrival_in};
@@ -13,7 +12,7 @@ use paths::Board;
 use timing::Refusal;
 
 // What the places compared so far say: none is joined, all differ by one number, or not.
-#[derive(Drop)]
+#[derive(Clone, Copy)]
 pub enum Seen {
     Nothing,
     One(i64),
@@ -56,7 +55,7 @@ pub fn settle(seen: Seen) -> Difference
 // ys less xs where both are joined, if that is one number.
 pub fn common_difference(xs: &[i64], ys: &[i64]) -> Difference
     requires { Comparable xs.now ys.now }
-    ensures { difference_meaning result ≡ common_difference (length (was xs)) (arrival_in (was xs)) (arrival_in (was ys)) }
+    ensures { difference_meaning result ≡ common_difference (length xs.now) (arrival_in xs.now) (arrival_in ys.now) }
 {
     let mut seen = Seen::Nothing;
     let mut j = 0;

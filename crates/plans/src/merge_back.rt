@@ -1,7 +1,6 @@
 // Merge back: the step's conditions, and the new table.
 ghost use Rattle.std.specs.Prelude.{◌≡◌, ◌<◌, T, neg_ℤ};
 ghost use Rattle.laws.specs.Bounded.{every};
-ghost use Rattle.laws.specs.Lent.{was};
 ghost use Rattle.graph.specs.Delay.{at, ◌⊕◌};
 ghost use Rattle.timing.specs.Limits.{delay_limit, absent_cell, fits};
 ghost use Rattle.timing.specs.Table.{read_cell};
@@ -30,7 +29,7 @@ fn column_sums_fit(board: Board, table: &[i32], v: usize, d: i32) -> bool
     requires lent { Lent board table.now }
     requires v_lt_vertices { v < board.vertices }
     requires t { T (fits delay_limit (at d)) }
-    ensures { result ≡ every board.vertices (λ u. fits delay_limit (graph_in board (was table) u v ⊕ at d)) }
+    ensures { result ≡ every board.vertices (λ u. fits delay_limit (graph_in board table.now u v ⊕ at d)) }
 {
     let n = board.vertices;
     let mut u = 0;
@@ -49,7 +48,7 @@ fn merge_fits(board: Board, table: &[i32], v: usize, o: usize, d: i32) -> bool
     requires lent { Lent board table.now }
     requires in_range { InRange board table.now }
     requires drives { Drives board.vertices table.now v o d }
-    ensures { result ≡ merge_fits board.vertices (graph_in board (was table)) v o d }
+    ensures { result ≡ merge_fits board.vertices (graph_in board table.now) v o d }
 {
     if !column_sums_fit(board, table, v, d) {
         return false;
@@ -63,7 +62,7 @@ fn merge_fits(board: Board, table: &[i32], v: usize, o: usize, d: i32) -> bool
 pub fn merge_back_verdict(board: Board, table: &[i32], o: usize) -> Driven
     requires lent { Lent board table.now }
     requires in_range { InRange board table.now }
-    ensures { driven_meaning result ≡ merge_back_on board (was table) o }
+    ensures { driven_meaning result ≡ merge_back_on board table.now o }
 {
     if !rows::is_output(board, o) {
         return Driven::Refused(Refusal::WrongVertex);
@@ -87,7 +86,7 @@ pub fn merge_back_verdict(board: Board, table: &[i32], o: usize) -> Driven
 // The row of another vertex than v: its arc to v, which was `into`, leads to o.
 fn redirect(row: &mut [i32], into: i32, v: usize, o: usize, d: i32)
     requires { Redirectable row.old (read_cell absent_cell into) v o d }
-    ensures { row.new ≡ remade (redirected_cell (was row) (read_cell absent_cell into) v o d) (was row) }
+    ensures { row.new ≡ remade (redirected_cell row.old (read_cell absent_cell into) v o d) row.old }
 {
     row[o] = sums::sum(into, d);
     row[v] = Board::ABSENT;
@@ -96,7 +95,7 @@ fn redirect(row: &mut [i32], into: i32, v: usize, o: usize, d: i32)
 // o's row takes the arcs of v too, in `via`, with d taken off.
 pub fn merge_row(row: &mut [i32], via: &Row, v: usize, o: usize, d: i32, u: usize)
     requires { Mergeable row.old via.now v o d }
-    ensures { row.new ≡ remade (merged_cell (was row) (was via) v o d u) (was row) }
+    ensures { row.new ≡ remade (merged_cell row.old via.now v o d u) row.old }
 {
     if u == v {
         cells::clear(row);

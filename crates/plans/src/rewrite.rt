@@ -1,6 +1,5 @@
 // The new table of a step that rewrites each row on its own, with one row to take arcs from.
 ghost use Rattle.std.specs.Prelude.{◌≡◌, ◌<◌, ◌≤◌};
-ghost use Rattle.laws.specs.Lent.{was};
 ghost use Rattle.paths.specs.Board.{Lent, graph_in};
 ghost use Rattle.plans.specs.Rewritten.{rewritten, Rewritable, origin, rewritten_cell, RowFit, NextChanged};
 ghost use Rattle.plans.specs.OnBoards.{changed, remade};
@@ -10,7 +9,7 @@ use crate::{merge_back, rows, share_inputs, share_outputs, shrink};
 use paths::{Board, cells};
 
 // The step with its vertices, and its delay where it has one.
-#[derive(Drop)]
+#[derive(Clone, Copy)]
 pub enum Rewriting {
     Shrink(usize),
     ShareInputs(usize, usize, usize, i32),
@@ -33,7 +32,7 @@ fn origin(how: Rewriting) -> usize
 // The row of u.
 fn rewrite_row(row: &mut [i32], via: &Row, how: Rewriting, u: usize)
     requires { RowFit how row.old via.now }
-    ensures { row.new ≡ remade (rewritten_cell how (was row) (was via) u) (was row) }
+    ensures { row.new ≡ remade (rewritten_cell how row.old via.now u) row.old }
 {
     match how {
         Rewriting::Shrink(k) => shrink::shrink_row(row, via, k, u),
@@ -50,7 +49,7 @@ fn next_changed(board: Board, table: &[i32], how: Rewriting, from: usize) -> usi
     requires lent { Lent board table.now }
     requires how_bound { origin how < board.vertices }
     requires from_le_vertices { from ≤ board.vertices }
-    ensures { NextChanged how board.vertices (graph_in board (was table)) from result }
+    ensures { NextChanged how board.vertices (graph_in board table.now) from result }
 {
     if let Rewriting::Shrink(k) = how {
         if from <= k {
@@ -65,7 +64,7 @@ fn next_changed(board: Board, table: &[i32], how: Rewriting, from: usize) -> usi
 pub fn rewrite(board: Board, table: &mut [i32], how: Rewriting)
     requires lent { Lent board table.old }
     requires rewritable { Rewritable how board.vertices table.old }
-    ensures { table.new ≡ changed board (rewritten how) (was table) }
+    ensures { table.new ≡ changed board (rewritten how) table.old }
 {
     let n = board.vertices;
     let from = n * origin(how);

@@ -1,6 +1,5 @@
 // Rows of a table, and the roles of vertices.
 ghost use Rattle.std.specs.Prelude.{◌≡◌, ℕ, ◌+◌, ◌<◌, ◌≤◌, pos, length, get_or};
-ghost use Rattle.laws.specs.Lent.{was};
 ghost use Rattle.timing.specs.Limits.{max_vertices};
 ghost use Rattle.reduction.specs.Outcome.{is_output, is_inner};
 ghost use Rattle.paths.specs.Board.{Sized, Lent};
@@ -39,7 +38,7 @@ pub fn is_output(board: Board, k: usize) -> bool
 pub fn is_free(board: Board, table: &[i32], k: usize) -> bool
     requires lent { Lent board table.now }
     requires k_lt_vertices { k < board.vertices }
-    ensures { result ≡ is_free board (was table) k }
+    ensures { result ≡ is_free board table.now k }
 {
     if !is_inner(board, k) {
         return false;
@@ -54,7 +53,7 @@ pub fn is_free(board: Board, table: &[i32], k: usize) -> bool
 pub fn row_copy(table: &[i32], at: usize, n: usize) -> Row
     requires n_le_max_vertices { n ≤ max_vertices }
     requires n_in_bounds { at + n ≤ length table.now }
-    ensures { (v : ℕ) → v < n → get_or result v (pos 0) ≡ get_or (was table) (at + v) (pos 0) }
+    ensures { (v : ℕ) → v < n → get_or result v (pos 0) ≡ get_or table.now (at + v) (pos 0) }
 {
     let mut copy = [0i32; Board::MAX_VERTICES];
     let mut v = 0;

@@ -1,6 +1,6 @@
 // Share inputs: the step's conditions, and a row of its new table.
 ghost use Rattle.std.specs.Prelude.{◌≡◌, ◌&&◌, ◌+◌, ◌<◌, ◌≤◌, ltb, pos, length, get_or};
-ghost use Rattle.laws.specs.Lent.{was, Past};
+ghost use Rattle.laws.specs.Lent.{Past};
 ghost use Rattle.timing.specs.Limits.{max_vertices};
 ghost use Rattle.reduction.specs.ShareInputs.{enough_out};
 ghost use Rattle.paths.specs.Board.{graph_in, Lent, ScratchRoom, PastScratch};
@@ -20,7 +20,7 @@ use timing::Refusal;
 // One arc alone, to k.
 fn only_arc(row: &mut [i32], k: usize, d: i32)
     requires { k < length row.old }
-    ensures { row.new ≡ remade (only_arc k d) (was row) }
+    ensures { row.new ≡ remade (only_arc k d) row.old }
 {
     cells::clear(row);
     row[k] = d;
@@ -29,7 +29,7 @@ fn only_arc(row: &mut [i32], k: usize, d: i32)
 // The arcs of another row.
 fn take_over(row: &mut [i32], via: &Row)
     requires { length row.old ≤ max_vertices }
-    ensures { row.new ≡ remade (λ t. get_or (was via) t (pos 0)) (was row) }
+    ensures { row.new ≡ remade (λ t. get_or via.now t (pos 0)) row.old }
 {
     let mut t = 0;
     while t < row.len() {
@@ -42,7 +42,7 @@ fn take_over(row: &mut [i32], via: &Row)
 pub fn share_inputs_row(row: &mut [i32], via: &Row, a: usize, b: usize, k: usize, e: i32, u: usize)
     requires row_len_bound { length row.old ≤ max_vertices }
     requires k_in_bounds { k < length row.old }
-    ensures { row.new ≡ remade (inputs_cell (was row) (was via) a b k e u) (was row) }
+    ensures { row.new ≡ remade (inputs_cell row.old via.now a b k e u) row.old }
 {
     if u == a {
         only_arc(row, k, 0);
@@ -76,7 +76,7 @@ fn two_inputs(board: Board, a: usize, b: usize, k: usize) -> bool
 // The outputs' delays are compared: those in the second N cells less those in the first N.
 fn outputs_difference(board: Board, delays: &[i64]) -> Difference
     requires { TwoVectors board delays.now }
-    ensures { difference_meaning result ≡ vectors_difference board (was delays) }
+    ensures { difference_meaning result ≡ vectors_difference board delays.now }
 {
     let m = board.inputs;
     let o = board.outputs;
@@ -100,8 +100,8 @@ fn rows_difference(
     requires vertices_in_bounds { board.vertices + board.vertices ≤ length scratch.old }
     requires a_lt_inputs { a < board.inputs }
     requires b_lt_inputs { b < board.inputs }
-    ensures result_value { difference_meaning result ≡ rows_difference board (was table) a b }
-    ensures past { Past (board.vertices + board.vertices) (was scratch) scratch.new }
+    ensures result_value { difference_meaning result ≡ rows_difference board table.now a b }
+    ensures past { Past (board.vertices + board.vertices) scratch.old scratch.new }
 {
     let mut chain = room::cell_bytes();
     chain::chains(board, table, order, &mut chain);
@@ -115,7 +115,7 @@ fn rows_difference(
 pub fn enough_out(board: Board, table: &[i32], b: usize) -> bool
     requires lent { Lent board table.now }
     requires b_lt_vertices { b < board.vertices }
-    ensures { result ≡ enough_out board.vertices (graph_in board (was table)) b }
+    ensures { result ≡ enough_out board.vertices (graph_in board table.now) b }
 {
     cells::fan_out(board, table, b) >= 3
 }
@@ -124,7 +124,7 @@ pub fn enough_out(board: Board, table: &[i32], b: usize) -> bool
 pub fn inputs_saved(board: Board, table: &[i32], b: usize, e: i64) -> Difference
     requires lent { Lent board table.now }
     requires b_lt_vertices { b < board.vertices }
-    ensures { difference_meaning result ≡ inputs_saved_on board (was table) b e }
+    ensures { difference_meaning result ≡ inputs_saved_on board table.now b e }
 {
     if !enough_out(board, table, b) {
         return Difference::Refused(Refusal::NothingSaved);
@@ -147,8 +147,8 @@ pub fn share_inputs_verdict(
 ) -> Difference
     requires passable { Passable board table.now order.now }
     requires scratch_room { ScratchRoom board scratch.old }
-    ensures result_value { difference_meaning result ≡ share_inputs_on board (was table) a b k }
-    ensures past_scratch { PastScratch board (was scratch) scratch.new }
+    ensures result_value { difference_meaning result ≡ share_inputs_on board table.now a b k }
+    ensures past_scratch { PastScratch board scratch.old scratch.new }
 {
     if !two_inputs(board, a, b, k) {
         return Difference::Refused(Refusal::WrongVertex);

@@ -1,6 +1,6 @@
 // Share outputs: the step's conditions, and a row of its new table.
 ghost use Rattle.std.specs.Prelude.{◌≡◌, true, ℕ, ◌<◌, ◌≤◌, T, length};
-ghost use Rattle.laws.specs.Lent.{was, Past};
+ghost use Rattle.laws.specs.Lent.{Past};
 ghost use Rattle.timing.specs.Limits.{max_vertices};
 ghost use Rattle.paths.specs.Board.{Sized, graph_in, ScratchRoom, PastScratch, Lent};
 ghost use Rattle.paths.specs.Order.{stands_before};
@@ -21,7 +21,7 @@ use timing::Refusal;
 // The row of u: of the arcs into b, a's is left.
 pub fn share_outputs_row(row: &mut [i32], a: usize, b: usize, e: i32, u: usize)
     requires { b < length row.old }
-    ensures { row.new ≡ remade (outputs_cell (was row) a b e u) (was row) }
+    ensures { row.new ≡ remade (outputs_cell row.old a b e u) row.old }
 {
     if u == a {
         row[b] = e;
@@ -55,8 +55,8 @@ fn columns_difference(
     requires passable { Passable board table.now order.now }
     requires vertices_in_bounds { board.vertices ≤ length scratch.old }
     requires two_outputs { TwoOutputs board a b }
-    ensures result_value { difference_meaning result ≡ columns_difference board (was table) a b }
-    ensures past { Past board.vertices (was scratch) scratch.new }
+    ensures result_value { difference_meaning result ≡ columns_difference board table.now a b }
+    ensures past { Past board.vertices scratch.old scratch.new }
 {
     let mut chain = room::cell_bytes();
     chain::chains(board, table, order, &mut chain);
@@ -80,7 +80,7 @@ fn columns_difference(
 fn index(board: Board, table: &[i32], words: &mut [u64], made: bool)
     requires lent { Lent board table.now }
     requires indexed { Indexed board table.now words.old made }
-    ensures { RowSets board.vertices (graph_in board (was table)) words.new }
+    ensures { RowSets board.vertices (graph_in board table.now) words.new }
 {
     if !made {
         reach::row_sets(board, table, words);
@@ -88,7 +88,7 @@ fn index(board: Board, table: &[i32], words: &mut [u64], made: bool)
 }
 
 // Whether a path is found, and whether the row sets are there now.
-#[derive(Drop)]
+#[derive(Clone, Copy)]
 pub struct Looked {
     pub found: bool,
     pub made: bool,
@@ -97,7 +97,7 @@ pub struct Looked {
 // Whether an order, where it is one of the table's, has a before b.
 fn is_ahead(order: &Order, sorted: bool, n: usize, a: usize, b: usize) -> bool
     requires { n ≤ max_vertices }
-    ensures { result ≡ true → (sorted ≡ true) × T (stands_before n (was order) a b) }
+    ensures { result ≡ true → (sorted ≡ true) × T (stands_before n order.now a b) }
 {
     if !sorted {
         return false;
@@ -121,8 +121,8 @@ pub fn path_back(
     requires passable { sorted ≡ true → Passable board table.now order.now }
     requires two_outputs { TwoOutputs board a b }
     requires indexed { Indexed board table.now words.old made }
-    ensures found_value { result.found ≡ path_on board (was table) b a }
-    ensures indexed_2 { Indexed board (was table) words.new result.made }
+    ensures found_value { result.found ≡ path_on board table.now b a }
+    ensures indexed_2 { Indexed board table.now words.new result.made }
 {
     let n = board.vertices;
     if is_ahead(order, sorted, n, a, b) {
@@ -141,7 +141,7 @@ pub fn path_back(
 pub fn outputs_saved(board: Board, table: &[i32], back: bool, b: usize, e: i64) -> Difference
     requires lent { Lent board table.now }
     requires b_lt_vertices { b < board.vertices }
-    ensures { (a : ℕ) → back ≡ path_on board (was table) b a → difference_meaning result ≡ outputs_saved_on board (was table) a b e }
+    ensures { (a : ℕ) → back ≡ path_on board table.now b a → difference_meaning result ≡ outputs_saved_on board table.now a b e }
 {
     if back {
         return Difference::Refused(Refusal::PathBack);
@@ -166,8 +166,8 @@ pub fn share_outputs_verdict(
 ) -> Difference
     requires passable { Passable board table.now order.now }
     requires scratch_room { ScratchRoom board scratch.old }
-    ensures result_value { difference_meaning result ≡ share_outputs_on board (was table) a b }
-    ensures past_scratch { PastScratch board (was scratch) scratch.new }
+    ensures result_value { difference_meaning result ≡ share_outputs_on board table.now a b }
+    ensures past_scratch { PastScratch board scratch.old scratch.new }
 {
     if !two_outputs(board, a, b) {
         return Difference::Refused(Refusal::WrongVertex);

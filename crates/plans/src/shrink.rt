@@ -1,7 +1,6 @@
 // Shrink: the step's conditions, and the new table.
 ghost use Rattle.std.specs.Prelude.{◌≡◌, ◌<◌, ◌≤◌, T, length};
 ghost use Rattle.laws.specs.Bounded.{every};
-ghost use Rattle.laws.specs.Lent.{was};
 ghost use Rattle.graph.specs.Delay.{at};
 ghost use Rattle.timing.specs.Limits.{max_vertices, delay_limit, absent_cell, fits};
 ghost use Rattle.timing.specs.Table.{read_cell};
@@ -21,7 +20,7 @@ use timing::Refusal;
 fn is_relay(board: Board, table: &[i32], k: usize) -> bool
     requires lent { Lent board table.now }
     requires k_lt_vertices { k < board.vertices }
-    ensures { result ≡ relays board (was table) k }
+    ensures { result ≡ relays board table.now k }
 {
     if cells::fan_out(board, table, k) == 1 {
         return true;
@@ -34,7 +33,7 @@ pub fn row_sums_fit(into: i32, via: &[i32], n: usize) -> bool
     requires n_in_bounds { n ≤ length via.now }
     requires t { T (fits delay_limit (at into)) }
     requires t_2 { T (every n (λ t. fits delay_limit (cell_at via.now t))) }
-    ensures { result ≡ sums_fit n (at into) (was via) }
+    ensures { result ≡ sums_fit n (at into) via.now }
 {
     let high = cells::MAX_TICKS - into;
     if 0 <= into {
@@ -48,7 +47,7 @@ fn sums_fit(board: Board, table: &[i32], k: usize) -> bool
     requires lent { Lent board table.now }
     requires in_range { InRange board table.now }
     requires k_lt_vertices { k < board.vertices }
-    ensures { result ≡ sums_through board (was table) k }
+    ensures { result ≡ sums_through board table.now k }
 {
     let n = board.vertices;
     let from = n * k;
@@ -67,7 +66,7 @@ fn sums_fit(board: Board, table: &[i32], k: usize) -> bool
 pub fn shrink_verdict(board: Board, table: &[i32], k: usize) -> Fit
     requires lent { Lent board table.now }
     requires in_range { InRange board table.now }
-    ensures { fit_meaning result ≡ shrink_on board (was table) k }
+    ensures { fit_meaning result ≡ shrink_on board table.now k }
 {
     if !rows::is_inner(board, k) {
         return Fit::Refused(Refusal::WrongVertex);
@@ -85,7 +84,7 @@ pub fn shrink_verdict(board: Board, table: &[i32], k: usize) -> Fit
 pub fn join_row(row: &mut [i32], via: &Row, into: i32)
     requires row_len_bound { length row.old ≤ max_vertices }
     requires t { T (sums_fit (length row.old) (read_cell absent_cell into) via.now) }
-    ensures { row.new ≡ remade (joined_cell (was row) (was via) (read_cell absent_cell into)) (was row) }
+    ensures { row.new ≡ remade (joined_cell row.old via.now (read_cell absent_cell into)) row.old }
 {
     let mut t = 0;
     while t < row.len() {
@@ -97,7 +96,7 @@ pub fn join_row(row: &mut [i32], via: &Row, into: i32)
 // The row of another vertex than k; it stays as it is where no arc leads to k.
 fn bypass(row: &mut [i32], via: &Row, k: usize)
     requires { Shrinkable row.old via.now k }
-    ensures { row.new ≡ remade (bypassed_cell (was row) (was via) k) (was row) }
+    ensures { row.new ≡ remade (bypassed_cell row.old via.now k) row.old }
 {
     let into = row[k];
     if !cells::is_arc(into) {
@@ -109,7 +108,7 @@ fn bypass(row: &mut [i32], via: &Row, k: usize)
 
 pub fn shrink_row(row: &mut [i32], via: &Row, k: usize, u: usize)
     requires { Shrinkable row.old via.now k }
-    ensures { row.new ≡ remade (shrunk_cell (was row) (was via) k u) (was row) }
+    ensures { row.new ≡ remade (shrunk_cell row.old via.now k u) row.old }
 {
     if u == k {
         cells::clear(row);

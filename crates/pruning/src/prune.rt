@@ -1,7 +1,7 @@
 // Prune: the arcs that decide a delay are marked, by a pass forwards and a pass backwards from each input; then the others go.
 ghost use Rattle.std.specs.Prelude.{◌≡◌, ◌≢◌, false, not, cond, ◌&&◌, ◌||◌, ◌+◌, ◌*◌, ◌<◌, ◌≤◌, T, pos, length, get_or};
 ghost use Rattle.laws.specs.Bounded.{some};
-ghost use Rattle.laws.specs.Lent.{was, Past};
+ghost use Rattle.laws.specs.Lent.{Past};
 ghost use Rattle.graph.specs.Delay.{present};
 ghost use Rattle.timing.specs.Limits.{delay_limit, absent_cell, absent_wide, fits};
 ghost use Rattle.timing.specs.Table.{read_cell};
@@ -35,7 +35,7 @@ fn is_tight(a: i64, cell: i32, w: i64) -> bool
 fn mark_row(row: &[i32], chain: &[u8], a: i64, f: &[i64], marks: &mut [bool]) -> bool
     requires reached { Reached a }
     requires pushable { Pushable (length marks.old) row.now chain.now f.now }
-    ensures { RowMarked (walked_at (was row) (was chain)) a (was f) (was marks) marks.new result }
+    ensures { RowMarked (walked_at row.now chain.now) a f.now marks.old marks.new result }
 {
     let mut found = false;
     let mut v = chain[0] as usize;
@@ -79,8 +79,8 @@ fn sweep(
     requires chains { Chains board.vertices table.now chain.now }
     requires from_input { FromInput board table.now f.old }
     requires vertices_in_bounds { board.vertices * board.vertices ≤ length marks.old }
-    ensures swept { Swept board (was table) (was f) (was marks) marks.new }
-    ensures past { Past board.vertices (was f) f.new }
+    ensures swept { Swept board table.now f.old marks.old marks.new }
+    ensures past { Past board.vertices f.old f.new }
 {
     let n = board.vertices;
     let mut p = n;
@@ -114,8 +114,8 @@ fn mark_from(
     requires i_lt_inputs { i < board.inputs }
     requires vertices_in_bounds { board.vertices ≤ length f.old }
     requires vertices_in_bounds_2 { board.vertices * board.vertices ≤ length marks.old }
-    ensures marked_from { MarkedFrom board i (was table) (was marks) marks.new }
-    ensures past { Past board.vertices (was f) f.new }
+    ensures marked_from { MarkedFrom board i table.now marks.old marks.new }
+    ensures past { Past board.vertices f.old f.new }
 {
     arrivals::delays_from(board, table, order, chain, i, f);
     sweep(board, table, order, chain, f, marks);
@@ -136,8 +136,8 @@ fn mark_four(
     requires i_bound { i + 4 ≤ board.inputs }
     requires vertices_in_bounds { board.vertices * 4 ≤ length f.old }
     requires vertices_in_bounds_2 { board.vertices * board.vertices ≤ length marks.old }
-    ensures marked_four { MarkedFour board i (was table) (was marks) marks.new }
-    ensures past { Past (board.vertices * 4) (was f) f.new }
+    ensures marked_four { MarkedFour board i table.now marks.old marks.new }
+    ensures past { Past (board.vertices * 4) f.old f.new }
 {
     arrivals::delays_from_four(board, table, order, chain, i, f);
     let n = board.vertices;
@@ -161,8 +161,8 @@ pub fn prune_marks(
     requires passable { Passable board table.now order.now }
     requires scratch_room { ScratchRoom board scratch.old }
     requires vertices_in_bounds { board.vertices * board.vertices ≤ length marks.old }
-    ensures deciding_marked { DecidingMarked board (was table) (was marks) marks.new }
-    ensures past_scratch { PastScratch board (was scratch) scratch.new }
+    ensures deciding_marked { DecidingMarked board table.now marks.old marks.new }
+    ensures past_scratch { PastScratch board scratch.old scratch.new }
 {
     let mut chain = room::cell_bytes();
     chain::chains(board, table, order, &mut chain);
@@ -188,7 +188,7 @@ fn goes(cell: i32, mark: bool) -> bool
 fn row_unmarked(row: &[i32], marks: &[bool], n: usize) -> bool
     requires n_in_bounds { n ≤ length row.now }
     requires n_in_bounds_2 { n ≤ length marks.now }
-    ensures { result ≡ some n (λ v. present (cell_at (was row) v) && not (get_or (was marks) v false)) }
+    ensures { result ≡ some n (λ v. present (cell_at row.now v) && not (get_or marks.now v false)) }
 {
     let mut some = false;
     let mut v = 0;
@@ -202,7 +202,7 @@ fn row_unmarked(row: &[i32], marks: &[bool], n: usize) -> bool
 fn some_unmarked(board: Board, table: &[i32], marks: &[bool]) -> bool
     requires lent { Lent board table.now }
     requires vertices_in_bounds { board.vertices * board.vertices ≤ length marks.now }
-    ensures { result ≡ some_unmarked board.vertices (graph_in board (was table)) (was marks) }
+    ensures { result ≡ some_unmarked board.vertices (graph_in board table.now) marks.now }
 {
     let n = board.vertices;
     let mut u = 0;
@@ -228,7 +228,7 @@ fn kept(cell: i32, mark: bool) -> i32
 // A row without the arcs that have no mark.
 fn thin_row(row: &mut [i32], marks: &[bool])
     requires { length row.old ≤ length marks.now }
-    ensures { row.new ≡ remade (λ v. cond (get_or (was marks) v false) (get_or (was row) v (pos 0)) absent_cell) (was row) }
+    ensures { row.new ≡ remade (λ v. cond (get_or marks.now v false) (get_or row.old v (pos 0)) absent_cell) row.old }
 {
     let mut v = 0;
     while v < row.len() {
@@ -240,7 +240,7 @@ fn thin_row(row: &mut [i32], marks: &[bool])
 fn thin(board: Board, table: &mut [i32], marks: &[bool])
     requires lent { Lent board table.old }
     requires vertices_in_bounds { board.vertices * board.vertices ≤ length marks.now }
-    ensures { table.new ≡ changed board (marked_arcs board.vertices (was marks)) (was table) }
+    ensures { table.new ≡ changed board (marked_arcs board.vertices marks.now) table.old }
 {
     let n = board.vertices;
     let mut u = 0;
@@ -263,8 +263,8 @@ fn prune_in(
     requires passable { Passable board table.old order.now }
     requires scratch_room { ScratchRoom board scratch.old }
     requires unmarked { Unmarked board marks.old }
-    ensures applies { Applies board prune (was table) table.new result }
-    ensures past_scratch { PastScratch board (was scratch) scratch.new }
+    ensures applies { Applies board prune table.old table.new result }
+    ensures past_scratch { PastScratch board scratch.old scratch.new }
 {
     prune_marks(board, table, order, scratch, marks);
     if !some_unmarked(board, table, marks) {
@@ -278,8 +278,8 @@ fn prune_in(
 pub fn prune_step(board: Board, table: &mut [i32], order: &Order, scratch: &mut [i64]) -> Fit
     requires passable { Passable board table.old order.now }
     requires scratch_room { ScratchRoom board scratch.old }
-    ensures applies { Applies board prune (was table) table.new result }
-    ensures past_scratch { PastScratch board (was scratch) scratch.new }
+    ensures applies { Applies board prune table.old table.new result }
+    ensures past_scratch { PastScratch board scratch.old scratch.new }
 {
     let mut marks = room::cell_flags();
     let size = board.cells();

@@ -1,6 +1,6 @@
 // The rows of a table as sets of vertices, and whether a path leads from one vertex to another.
+#![tactic(auto)]
 ghost use Rattle.std.specs.Prelude.{◌≡◌, ◌&&◌, ℕ, ◌*◌, ◌<◌, ◌≤◌, ltb, length};
-ghost use Rattle.laws.specs.Lent.{was};
 ghost use Rattle.graph.specs.Delay.{present};
 ghost use Rattle.graph.specs.Graph.{Graph, longest};
 ghost use Rattle.timing.specs.Limits.{max_vertices};
@@ -26,7 +26,7 @@ pub fn words() -> [u64; WORDS]
 fn row_set(row: &[i32], n: usize) -> Set
     requires n_le_max_vertices { n ≤ max_vertices }
     requires n_in_bounds { n ≤ length row.now }
-    ensures { (u : ℕ) → holds result u ≡ (ltb u n && present (cell_at (was row) u)) }
+    ensures { (u : ℕ) → holds result u ≡ (ltb u n && present (cell_at row.now u)) }
 {
     let mut s = Set::empty();
     let mut v = 0;
@@ -43,7 +43,7 @@ fn row_set(row: &[i32], n: usize) -> Set
 fn targets(board: Board, table: &[i32], u: usize) -> Set
     requires lent { Lent board table.now }
     requires u_lt_vertices { u < board.vertices }
-    ensures { Targets (graph_in board (was table)) u result }
+    ensures { Targets (graph_in board table.now) u result }
 {
     let n = board.vertices;
     let at = n * u;
@@ -54,7 +54,7 @@ fn targets(board: Board, table: &[i32], u: usize) -> Set
 pub fn row_sets(board: Board, table: &[i32], words: &mut [u64])
     requires lent { Lent board table.now }
     requires vertices_in_bounds { 2 * board.vertices ≤ length words.old }
-    ensures { RowSets board.vertices (graph_in board (was table)) words.new }
+    ensures { RowSets board.vertices (graph_in board table.now) words.new }
 {
     let n = board.vertices;
     let mut u = 0;
@@ -70,7 +70,7 @@ pub fn one_source(words: &mut [u64], n: usize, a: usize, b: usize)
     requires n_in_bounds { 2 * n ≤ length words.old }
     requires a_lt_n { a < n }
     requires b_lt_n { b < n }
-    ensures { OneSource n a b (was words) words.new }
+    ensures { OneSource n a b words.old words.new }
 {
     let mut u = 0;
     while u < n {
@@ -88,7 +88,7 @@ pub fn leads(words: &[u64], n: usize, v: usize, u: usize) -> bool
     requires v_lt_n { v < n }
     requires u_lt_n { u < n }
     requires rowed { (g : Graph) × Rowed n g words.now }
-    ensures { (g : Graph) → Rowed n g (was words) → result ≡ present (longest g n v u) }
+    ensures { (g : Graph) → Rowed n g words.now → result ≡ present (longest g n v u) }
 {
     let mut met = rows::at(words, v);
     let mut done = Set::empty();

@@ -1,6 +1,5 @@
 // What stands at an offset of a library file.
 ghost use Rattle.std.specs.Prelude.{◌≡◌, ◌+◌, ◌≤◌, length};
-ghost use Rattle.laws.specs.Lent.{was};
 ghost use Rattle.format.specs.declared.Mark.TheVariants.{End, Library};
 ghost use Rattle.format.specs.Library.{ticks_fit};
 ghost use Rattle.format.specs.LibraryFile.{entry_body, entry_at};
@@ -18,7 +17,7 @@ pub const CODES: usize = 32;
 // The most ticks of a code.
 pub const MAX_TICKS: i64 = 1_000_000;
 
-#[derive(Drop)]
+#[derive(Clone, Copy)]
 pub enum FoundEntry {
     Entry(Entry),
     Refused(Refusal),
@@ -36,7 +35,7 @@ fn ticks_fit(x: i64) -> bool
 
 fn ticks_at(bytes: &[u8], at: usize) -> FoundEntry
     requires { at + 2 ≤ length bytes.now }
-    ensures { entry_meaning result ≡ entry_body (was bytes) at Library }
+    ensures { entry_meaning result ≡ entry_body bytes.now at Library }
 {
     if bytes.len() - at < 7 {
         return FoundEntry::Refused(Refusal::FileEnds);
@@ -54,7 +53,7 @@ fn ticks_at(bytes: &[u8], at: usize) -> FoundEntry
 
 fn count_at(bytes: &[u8], at: usize) -> FoundEntry
     requires { at + 2 ≤ length bytes.now }
-    ensures { entry_meaning result ≡ entry_body (was bytes) at End }
+    ensures { entry_meaning result ≡ entry_body bytes.now at End }
 {
     if bytes.len() - at < 4 {
         return FoundEntry::Refused(Refusal::FileEnds);
@@ -65,7 +64,7 @@ fn count_at(bytes: &[u8], at: usize) -> FoundEntry
 // The record at `at`.
 pub fn entry_at(bytes: &[u8], at: usize) -> FoundEntry
     requires { at ≤ length bytes.now }
-    ensures { entry_meaning result ≡ entry_at (was bytes) at }
+    ensures { entry_meaning result ≡ entry_at bytes.now at }
 {
     if bytes.len() - at < 2 {
         return FoundEntry::Refused(Refusal::FileEnds);

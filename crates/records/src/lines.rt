@@ -1,6 +1,5 @@
 // Lines of text: words with a space between two, numbers in decimal, and a newline.
 ghost use Rattle.std.specs.Prelude.{◌≡◌, [], ◌∷◌, ◌<◌, ◌+◌, ◌*◌, ◌^◌, pos, neg_ℤ, ◌<ℤ◌};
-ghost use Rattle.laws.specs.Lent.{was};
 ghost use Rattle.format.specs.Reading.{sizes};
 ghost use Rattle.format.specs.Text.{digits_of, decimal, signed_decimal, line, board_line, arc_line, counts_line, refused_line};
 ghost use Rattle.records.specs.Appending.{RoomFor, Appends};
@@ -31,7 +30,7 @@ fn top_power(x: usize) -> usize
 pub fn put_decimal(out: &mut [u8], at: usize, x: usize) -> usize
     requires x_bound { x < 10 ^ 10 }
     requires room_for { RoomFor (decimal x) out.old at }
-    ensures { Appends (decimal x) (was out) at out.new result }
+    ensures { Appends (decimal x) out.old at out.new result }
 {
     let mut power = top_power(x);
     let mut next = at;
@@ -54,7 +53,7 @@ fn negated(d: i32) -> usize
 fn put_delay(out: &mut [u8], at: usize, d: i32) -> usize
     requires delay_in_range { DelayInRange d }
     requires room_for { RoomFor (signed_decimal d) out.old at }
-    ensures { Appends (signed_decimal d) (was out) at out.new result }
+    ensures { Appends (signed_decimal d) out.old at out.new result }
 {
     if d < 0 {
         let next = put::put_byte(out, at, b'-');
@@ -66,7 +65,7 @@ fn put_delay(out: &mut [u8], at: usize, d: i32) -> usize
 // A word, as it stands.
 fn put_text(out: &mut [u8], at: usize, text: &[u8]) -> usize
     requires { RoomFor text.now out.old at }
-    ensures { Appends (was text) (was out) at out.new result }
+    ensures { Appends text.now out.old at out.new result }
 {
     let mut next = at;
     let mut i = 0;
@@ -81,7 +80,7 @@ fn put_text(out: &mut [u8], at: usize, text: &[u8]) -> usize
 fn put_number(out: &mut [u8], at: usize, x: usize) -> usize
     requires x_bound { x < 10 ^ 10 }
     requires room_for { RoomFor (32 ∷ decimal x) out.old at }
-    ensures { Appends (32 ∷ decimal x) (was out) at out.new result }
+    ensures { Appends (32 ∷ decimal x) out.old at out.new result }
 {
     let next = put::put_byte(out, at, b' ');
     put_decimal(out, next, x)
@@ -93,7 +92,7 @@ fn triple_line(out: &mut [u8], at: usize, word: &[u8], x: usize, y: usize, z: i3
     requires y_bound { y < 10 ^ 10 }
     requires delay_in_range { DelayInRange z }
     requires room_for { RoomFor (line word.now (decimal x ∷ decimal y ∷ signed_decimal z ∷ [])) out.old at }
-    ensures { Appends (line (was word) (decimal x ∷ decimal y ∷ signed_decimal z ∷ [])) (was out) at out.new result }
+    ensures { Appends (line word.now (decimal x ∷ decimal y ∷ signed_decimal z ∷ [])) out.old at out.new result }
 {
     let a = put_text(out, at, word);
     let b = put_number(out, a, x);
@@ -114,7 +113,7 @@ pub fn board_line(
     requires outputs_bound { outputs < 256 }
     requires vertices_bound { vertices < 256 }
     requires room_for { RoomFor (board_line (sizes inputs outputs vertices)) out.old at }
-    ensures { Appends (board_line (sizes inputs outputs vertices)) (was out) at out.new result }
+    ensures { Appends (board_line (sizes inputs outputs vertices)) out.old at out.new result }
 {
     triple_line(out, at, b"board", inputs, outputs, vertices as i32)
 }
@@ -124,7 +123,7 @@ pub fn arc_line(out: &mut [u8], at: usize, u: usize, v: usize, delay: i32) -> us
     requires v_bound { v < 256 }
     requires delay_in_range { DelayInRange delay }
     requires room_for { RoomFor (arc_line (record { from = u; to = v; delay = delay })) out.old at }
-    ensures { Appends (arc_line (record { from = u; to = v; delay = delay })) (was out) at out.new result }
+    ensures { Appends (arc_line (record { from = u; to = v; delay = delay })) out.old at out.new result }
 {
     triple_line(out, at, b"arc", u, v, delay)
 }
@@ -134,7 +133,7 @@ fn pair_line(out: &mut [u8], at: usize, first: &[u8], x: usize, second: &[u8], y
     requires x_bound { x < 10 ^ 10 }
     requires y_bound { y < 10 ^ 10 }
     requires room_for { RoomFor (line first.now (decimal x ∷ second.now ∷ decimal y ∷ [])) out.old at }
-    ensures { Appends (line (was first) (decimal x ∷ was second ∷ decimal y ∷ [])) (was out) at out.new result }
+    ensures { Appends (line first.now (decimal x ∷ second.now ∷ decimal y ∷ [])) out.old at out.new result }
 {
     let a = put_text(out, at, first);
     let b = put_number(out, a, x);
@@ -148,7 +147,7 @@ pub fn counts_line(out: &mut [u8], at: usize, steps: usize, arcs: usize) -> usiz
     requires steps_bound { steps < 10 ^ 10 }
     requires arcs_bound { arcs < 10 ^ 10 }
     requires room_for { RoomFor (counts_line steps arcs) out.old at }
-    ensures { Appends (counts_line steps arcs) (was out) at out.new result }
+    ensures { Appends (counts_line steps arcs) out.old at out.new result }
 {
     pair_line(out, at, b"accepted", steps, b"arcs", arcs)
 }
@@ -157,7 +156,7 @@ pub fn refused_line(out: &mut [u8], at: usize, number: usize, offset: usize) -> 
     requires number_bound { number < 10 ^ 10 }
     requires offset_bound { offset < 10 ^ 10 }
     requires room_for { RoomFor (refused_line number offset) out.old at }
-    ensures { Appends (refused_line number offset) (was out) at out.new result }
+    ensures { Appends (refused_line number offset) out.old at out.new result }
 {
     pair_line(out, at, b"refused", number, b"at", offset)
 }

@@ -1,6 +1,5 @@
 // What stands at an offset of a file.
 ghost use Rattle.std.specs.Prelude.{◌≡◌, ◌&&◌, ℕ, ◌+◌, ◌*◌, ◌<◌, ◌≤◌, ltb, length};
-ghost use Rattle.laws.specs.Lent.{was};
 ghost use Rattle.timing.specs.Limits.{max_vertices};
 ghost use Rattle.format.specs.declared.Mark.TheVariants.{Arc, Cell, End};
 ghost use Rattle.format.specs.Library.{ticks_of};
@@ -13,20 +12,20 @@ use paths::cells;
 use timing::Refusal;
 
 // The ticks of a cell code.
-#[derive(Drop)]
+#[derive(Clone, Copy)]
 pub enum Ticks {
     Of(i32),
     Refused(Refusal),
 }
 
 // The ends of an arc.
-#[derive(Drop)]
+#[derive(Clone, Copy)]
 pub enum Ends {
     Of(usize, usize),
     Refused(Refusal),
 }
 
-#[derive(Drop)]
+#[derive(Clone, Copy)]
 pub enum Found {
     Record(Record),
     Refused(Refusal),
@@ -40,7 +39,7 @@ fn wide(x: u8) -> usize
 
 pub fn byte(bytes: &[u8], at: usize) -> usize
     requires { at < length bytes.now }
-    ensures { (result ≡ byte_at (was bytes) at) × (result < 256) }
+    ensures { (result ≡ byte_at bytes.now at) × (result < 256) }
 {
     wide(bytes[at])
 }
@@ -48,7 +47,7 @@ pub fn byte(bytes: &[u8], at: usize) -> usize
 // Whether the letters x and y stand at `at`.
 pub fn letters(bytes: &[u8], at: usize, x: u8, y: u8) -> bool
     requires { at + 2 ≤ length bytes.now }
-    ensures { result ≡ letters x y (was bytes) at }
+    ensures { result ≡ letters x y bytes.now at }
 {
     if bytes[at] != x {
         return false;
@@ -58,7 +57,7 @@ pub fn letters(bytes: &[u8], at: usize, x: u8, y: u8) -> bool
 
 pub fn mark_at(bytes: &[u8], at: usize) -> Mark
     requires { at + 2 ≤ length bytes.now }
-    ensures { result ≡ mark_at (was bytes) at }
+    ensures { result ≡ mark_at bytes.now at }
 {
     if letters(bytes, at, b'B', b'D') {
         return Mark::Board;
@@ -111,7 +110,7 @@ fn vertices(n: usize, u: usize, v: usize) -> bool
 fn ends_at(bytes: &[u8], n: usize, at: usize, size: usize) -> Ends
     requires at_in_bounds { at ≤ length bytes.now }
     requires le_size { 4 ≤ size }
-    ensures { ends_meaning result ≡ ends_of n (was bytes) at size }
+    ensures { ends_meaning result ≡ ends_of n bytes.now at size }
 {
     if bytes.len() - at < size {
         return Ends::Refused(Refusal::FileEnds);
@@ -126,7 +125,7 @@ fn ends_at(bytes: &[u8], n: usize, at: usize, size: usize) -> Ends
 
 fn arc_at(bytes: &[u8], n: usize, at: usize) -> Found
     requires { at + 2 ≤ length bytes.now }
-    ensures { found_meaning result ≡ body n (was bytes) at Arc }
+    ensures { found_meaning result ≡ body n bytes.now at Arc }
 {
     let ends = ends_at(bytes, n, at, 8);
     match ends {
@@ -143,7 +142,7 @@ fn arc_at(bytes: &[u8], n: usize, at: usize) -> Found
 
 fn cell_at(bytes: &[u8], n: usize, at: usize) -> Found
     requires { at + 2 ≤ length bytes.now }
-    ensures { found_meaning result ≡ body n (was bytes) at Cell }
+    ensures { found_meaning result ≡ body n bytes.now at Cell }
 {
     let ends = ends_at(bytes, n, at, 5);
     match ends {
@@ -154,7 +153,7 @@ fn cell_at(bytes: &[u8], n: usize, at: usize) -> Found
 
 fn end_at(bytes: &[u8], at: usize) -> Found
     requires { at + 2 ≤ length bytes.now }
-    ensures { (n : ℕ) → found_meaning result ≡ body n (was bytes) at End }
+    ensures { (n : ℕ) → found_meaning result ≡ body n bytes.now at End }
 {
     if bytes.len() - at < 4 {
         return Found::Refused(Refusal::FileEnds);
@@ -165,7 +164,7 @@ fn end_at(bytes: &[u8], at: usize) -> Found
 // The record at `at`, in a file of n vertices.
 pub fn record_at(bytes: &[u8], n: usize, at: usize) -> Found
     requires { at ≤ length bytes.now }
-    ensures { found_meaning result ≡ record_at n (was bytes) at }
+    ensures { found_meaning result ≡ record_at n bytes.now at }
 {
     if bytes.len() - at < 2 {
         return Found::Refused(Refusal::FileEnds);

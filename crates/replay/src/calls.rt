@@ -4,14 +4,14 @@ ghost use Rattle.replay.specs.Page.{OnPage};
 use crate::lines;
 
 // Document 01's m, n and N, of any size.
-#[derive(Drop)]
+#[derive(Clone, Copy)]
 pub struct Sizes {
     pub inputs: usize,
     pub outputs: usize,
     pub vertices: usize,
 }
 
-#[derive(Drop)]
+#[derive(Clone, Copy)]
 pub struct Call {
     pub kind: usize,
     pub sizes: Sizes,
@@ -19,7 +19,7 @@ pub struct Call {
     pub at: usize,
 }
 
-#[derive(Drop)]
+#[derive(Clone, Copy)]
 pub enum Played {
     // The place after the call's text.
     Printed(usize),

@@ -3,7 +3,7 @@ ghost use Rattle.std.specs.Prelude.{◌≡◌, ◌≤◌, length};
 
 use codec::unsigned;
 
-#[derive(Drop)]
+#[derive(Clone, Copy)]
 pub enum Got {
     Number(usize),
     End,

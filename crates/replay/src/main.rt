@@ -4,6 +4,7 @@
 // Then come the calls: a byte for the kind (play.rt), and what the call is given, counts and lengths of 2 bytes, cells of 4, vertices and times of 8. The library is the built-in one until a call brings another.
 //
 // A part is written `x[0..k]` and not `x[..k]`: that it has k elements needs no proof file then.
+#![tactic(auto)]
 mod answers;
 mod calls;
 mod file_calls;

@@ -1,7 +1,7 @@
 // What a run's call answers.
 use timing::Refusal;
 
-#[derive(Drop)]
+#[derive(Clone, Copy)]
 pub enum Ran {
     // So many steps were accepted; so many arcs are left.
     Accepted(usize, usize),

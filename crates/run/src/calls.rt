@@ -1,6 +1,5 @@
 // The automatic run as a call: any arguments, the checks first.
 ghost use Rattle.std.specs.Prelude.{◌≡◌, length};
-ghost use Rattle.laws.specs.Lent.{was};
 ghost use Rattle.timing.specs.Limits.{max_vertices};
 ghost use Rattle.reduction.specs.Run.{run_call};
 ghost use Rattle.paths.specs.Checked.{Passable};
@@ -19,8 +18,8 @@ fn rounds(board: Board, table: &mut [i32], order: &mut Order, scratch: &mut [i64
     requires passable { Passable board table.old order.old }
     requires order_len { length order.old ≡ max_vertices }
     requires scratch_room { ScratchRoom board scratch.old }
-    ensures runs { Runs (run_on board (length (was scratch)) (was table)) (was table) table.new result }
-    ensures past_scratch { PastScratch board (was scratch) scratch.new }
+    ensures runs { Runs (run_on board (length scratch.old) table.old) table.old table.new result }
+    ensures past_scratch { PastScratch board scratch.old scratch.new }
 {
     let mut matrix = [0i64; Board::MAX_PAIRS];
     queries::fill_matrix(board, table, order, scratch, &mut matrix);
@@ -45,8 +44,8 @@ pub fn run(
     table: &mut [i32],
     scratch: &mut [i64],
 ) -> Ran
-    ensures runs { Runs (run_call inputs outputs vertices (length (was scratch)) (was table)) (was table) table.new result }
-    ensures scratch_after { ScratchAfter inputs outputs vertices (was table) (was scratch) scratch.new }
+    ensures runs { Runs (run_call inputs outputs vertices (length scratch.old) table.old) table.old table.new result }
+    ensures scratch_after { ScratchAfter inputs outputs vertices table.old scratch.old scratch.new }
 {
     let mut order = room::vertex_bytes();
     let lent = checks::checked(inputs, outputs, vertices, table, scratch.len(), &mut order);

@@ -1,6 +1,5 @@
 // Whether a vertex has arcs enough to be the second of a share.
 ghost use Rattle.std.specs.Prelude.{◌≡◌, ◌<◌};
-ghost use Rattle.laws.specs.Lent.{was};
 ghost use Rattle.paths.specs.Board.{Lent};
 ghost use Rattle.run.specs.Running.{Counted};
 ghost use Rattle.run.specs.Sides.{rich_on};
@@ -13,7 +12,7 @@ use plans::share_inputs;
 pub fn is_rich(board: Board, table: &[i32], side: Side, v: usize) -> bool
     requires lent { Lent board table.now }
     requires v_lt_vertices { v < board.vertices }
-    ensures { result ≡ rich_on board side (was table) v }
+    ensures { result ≡ rich_on board side table.now v }
 {
     match side {
         Side::Inputs => share_inputs::enough_out(board, table, v),
@@ -24,7 +23,7 @@ pub fn is_rich(board: Board, table: &[i32], side: Side, v: usize) -> bool
 // Each vertex of the side is counted.
 pub fn rich_ones(board: Board, table: &[i32], side: Side) -> [bool; Board::MAX_VERTICES]
     requires { Lent board table.now }
-    ensures { Counted side board (was table) result }
+    ensures { Counted side board table.now result }
 {
     let end = side::end(board, side);
     let mut rich = room::vertex_flags();

@@ -1,6 +1,5 @@
 // What a side's tries need of the table as it is.
 ghost use Rattle.std.specs.Prelude.{◌≡◌, ◌⊎◌, true, false, ◌≤◌};
-ghost use Rattle.laws.specs.Lent.{was};
 ghost use Rattle.timing.specs.Limits.{max_vertices};
 ghost use Rattle.paths.specs.Board.{Lent};
 ghost use Rattle.paths.specs.Order.{stands_before};
@@ -15,7 +14,7 @@ use plans::rows;
 // The smallest inner number not in use; N where there is none.
 pub fn fresh_number(board: Board, table: &[i32]) -> usize
     requires { Lent board table.now }
-    ensures { result ≡ fresh_on board (was table) }
+    ensures { result ≡ fresh_on board table.now }
 {
     let n = board.vertices;
     let mut k = board.inputs + board.outputs;
@@ -31,7 +30,7 @@ pub fn fresh_number(board: Board, table: &[i32]) -> usize
 // The number that a share needs: inputs the smallest free one, outputs none.
 pub fn renew(board: Board, table: &[i32], side: Side) -> usize
     requires { Lent board table.now }
-    ensures { side ≡ Inputs → result ≡ fresh_on board (was table) }
+    ensures { side ≡ Inputs → result ≡ fresh_on board table.now }
 {
     match side {
         Side::Inputs => fresh_number(board, table),
@@ -52,7 +51,7 @@ pub fn is_open(board: Board, side: Side, rich: bool, fresh: usize) -> bool
 // Whether an accepted share of a, b leaves the order one of the table's: `sorted` says whether it was. A new vertex has no place in it.
 pub fn still_sorted(order: &Order, n: usize, side: Side, sorted: bool, a: usize, b: usize) -> bool
     requires { n ≤ max_vertices }
-    ensures { result ≡ true → (sorted ≡ true) × (side ≡ Outputs) × (stands_before n (was order) a b ≡ true) }
+    ensures { result ≡ true → (sorted ≡ true) × (side ≡ Outputs) × (stands_before n order.now a b ≡ true) }
 {
     if !sorted {
         return false;

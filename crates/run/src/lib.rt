@@ -1,4 +1,5 @@
 // The automatic run as a call over lent memory.
+#![tactic(auto)]
 pub mod accepted;
 pub mod answer;
 pub mod calls;

@@ -1,6 +1,5 @@
 // A round of the automatic run.
 ghost use Rattle.std.specs.Prelude.{◌≡◌, true, false, length};
-ghost use Rattle.laws.specs.Lent.{was};
 ghost use Rattle.timing.specs.Limits.{max_vertices};
 ghost use Rattle.paths.specs.Checked.{Checked, Passable};
 ghost use Rattle.paths.specs.Board.{ScratchRoom, PastScratch};
@@ -28,9 +27,9 @@ fn try_prune(
     requires passable { sorted ≡ true → Passable board table.old order.old }
     requires lean_on { lean ≡ true → LeanOn board table.old }
     requires scratch_room { ScratchRoom board scratch.old }
-    ensures leads { Leads board (prune_try board) (was table) steps table.new result }
+    ensures leads { Leads board (prune_try board) table.old steps table.new result }
     ensures order_len_2 { length order.new ≡ max_vertices }
-    ensures past_scratch { PastScratch board (was scratch) scratch.new }
+    ensures past_scratch { PastScratch board scratch.old scratch.new }
 {
     if lean {
         return steps;
@@ -47,7 +46,7 @@ fn sort(board: Board, table: &[i32], order: &mut Order, sorted: bool)
     requires checked { Checked board table.now }
     requires order_len { length order.old ≡ max_vertices }
     requires passable { sorted ≡ true → Passable board table.now order.old }
-    ensures passable_2 { Passable board (was table) order.new }
+    ensures passable_2 { Passable board table.now order.new }
     ensures order_len_2 { length order.new ≡ max_vertices }
 {
     if !sorted {
@@ -82,10 +81,10 @@ pub fn round(
     requires passable { first ≡ true → Passable board table.old order.old }
     requires lean_on { first ≡ false → LeanOn board table.old }
     requires scratch_room { ScratchRoom board scratch.old }
-    ensures leads { Leads board (tries_on board) (was table) steps table.new result }
+    ensures leads { Leads board (tries_on board) table.old steps table.new result }
     ensures lean_on_2 { LeanOn board table.new }
     ensures order_len_2 { length order.new ≡ max_vertices }
-    ensures past_scratch { PastScratch board (was scratch) scratch.new }
+    ensures past_scratch { PastScratch board scratch.old scratch.new }
 {
     let one = shares::shares(board, table, order, matrix, Side::Inputs, first, steps);
     let two = shares::shares(

@@ -1,6 +1,5 @@
 // A try of a share whose rows or columns have been compared.
 ghost use Rattle.std.specs.Prelude.{◌≡◌, true, ◌*◌, ◌<◌, ◌≤◌, length};
-ghost use Rattle.laws.specs.Lent.{was};
 ghost use Rattle.paths.specs.Checked.{Passable, Checked};
 ghost use Rattle.paths.specs.Board.{Sized};
 ghost use Rattle.reach.specs.RowSets.{OneSource};
@@ -20,7 +19,7 @@ use plans::verdict::Difference;
 use plans::{rewrite, share_inputs, share_outputs};
 
 // The steps accepted so far, the smallest free number where inputs are shared, whether the order is one of the table's, and whether its row sets are there.
-#[derive(Drop)]
+#[derive(Clone, Copy)]
 pub struct Tally {
     pub steps: usize,
     pub fresh: usize,
@@ -34,7 +33,7 @@ fn share_rows(board: Board, table: &mut [i32], a: usize, b: usize, k: usize, e: 
     requires pair { Pair Inputs board a b }
     requires compared { Compared Inputs board table.old a b e }
     requires k_value { k ≡ fresh_on board table.old }
-    ensures { TriesStep board (share_step Inputs a b k) (was table) table.new result }
+    ensures { TriesStep board (share_step Inputs a b k) table.old table.new result }
 {
     if k >= board.vertices {
         return false;
@@ -49,7 +48,7 @@ fn share_rows(board: Board, table: &mut [i32], a: usize, b: usize, k: usize, e: 
 }
 
 // Whether a share is accepted, and whether the row sets of the table before it are there.
-#[derive(Drop)]
+#[derive(Clone, Copy)]
 pub struct Shared {
     pub accepted: bool,
     pub made: bool,
@@ -72,8 +71,8 @@ fn share_columns(
     requires pair { Pair Outputs board a b }
     requires compared { Compared Outputs board table.old a b e }
     requires indexed { Indexed board table.old words.old made }
-    ensures tries_step { TriesStep board (share_step Outputs a b 0) (was table) table.new result.accepted }
-    ensures indexed_2 { Indexed board (was table) words.new result.made }
+    ensures tries_step { TriesStep board (share_step Outputs a b 0) table.old table.new result.accepted }
+    ensures indexed_2 { Indexed board table.old words.new result.made }
 {
     if !cells::in_range(e) {
         return Shared {
@@ -116,8 +115,8 @@ fn share(
     requires rows_kept { RowsKept side board table.old words.old made }
     requires pair { Pair side board a b }
     requires compared { Compared side board table.old a b e }
-    ensures tries_step { TriesStep board (share_step side a b k) (was table) table.new result.accepted }
-    ensures rows_kept_2 { RowsKept side board (was table) words.new result.made }
+    ensures tries_step { TriesStep board (share_step side a b k) table.old table.new result.accepted }
+    ensures rows_kept_2 { RowsKept side board table.old words.new result.made }
 {
     match side {
         Side::Inputs => {
@@ -134,7 +133,7 @@ fn keep_up(board: Board, words: &mut [u64], made: bool, a: usize, b: usize)
     requires vertices_in_bounds { 2 * board.vertices ≤ length words.old }
     requires a_lt_vertices { a < board.vertices }
     requires b_lt_vertices { b < board.vertices }
-    ensures { made ≡ true → OneSource board.vertices a b (was words) words.new }
+    ensures { made ≡ true → OneSource board.vertices a b words.old words.new }
 {
     if made {
         reach::one_source(words, board.vertices, a, b);
@@ -160,8 +159,8 @@ pub fn try_share(
     requires rows_kept { RowsKept side board table.old words.old tally.made }
     requires pair { Pair side board a b }
     requires difference_value { difference_meaning difference ≡ compared_by side board table.old a b }
-    ensures leads { Leads board (pair_try board side a b) (was table) tally.steps table.new result.steps }
-    ensures ready_2 { Ready side board table.new (was order) result.fresh result.sorted × Counted side board table.new rich.new }
+    ensures leads { Leads board (pair_try board side a b) table.old tally.steps table.new result.steps }
+    ensures ready_2 { Ready side board table.new order.now result.fresh result.sorted × Counted side board table.new rich.new }
     ensures rows_kept_2 { RowsKept side board table.new words.new result.made }
 {
     let steps = tally.steps;

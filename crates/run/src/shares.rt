@@ -1,6 +1,5 @@
 // The share tries of a round: pairs a, b, a rising, then b. The matrix does not change during a run, so that it is computed once before.
 ghost use Rattle.std.specs.Prelude.{◌≡◌, true};
-ghost use Rattle.laws.specs.Lent.{was};
 ghost use Rattle.paths.specs.Checked.{Passable};
 ghost use Rattle.run.specs.Running.{progress, Running, Held, Leads};
 ghost use Rattle.run.specs.Sides.{side_tries};
@@ -29,8 +28,8 @@ pub fn shares(
     requires running { Running board (progress table.old steps) }
     requires held { Held board matrix.now table.old }
     requires passable { sorted ≡ true → Passable board table.old order.now }
-    ensures leads { Leads board (side_tries board side) (was table) steps table.new result.steps }
-    ensures passable_2 { result.sorted ≡ true → Passable board table.new (was order) }
+    ensures leads { Leads board (side_tries board side) table.old steps table.new result.steps }
+    ensures passable_2 { result.sorted ≡ true → Passable board table.new order.now }
 {
     let from = side::first(board, side);
     let end = side::end(board, side);

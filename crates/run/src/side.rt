@@ -5,7 +5,7 @@ ghost use Rattle.run.specs.Sides.{OnSide, first_of, across_of, stride_of, place_
 
 use paths::Board;
 
-#[derive(Drop)]
+#[derive(Clone, Copy)]
 pub enum Side {
     Inputs,
     Outputs,

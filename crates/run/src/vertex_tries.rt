@@ -1,6 +1,5 @@
 // The steps that name one vertex, over rising vertices: shrink for the inner ones, merge back for the outputs.
 ghost use Rattle.std.specs.Prelude.{◌≡◌, ◌<◌};
-ghost use Rattle.laws.specs.Lent.{was};
 ghost use Rattle.reduction.specs.Steps.{shrink};
 ghost use Rattle.paths.specs.Board.{Sized};
 ghost use Rattle.paths.specs.Checked.{Checked};
@@ -11,7 +10,7 @@ use crate::accepted;
 use paths::{Board, cells};
 use steps::apply;
 
-#[derive(Drop)]
+#[derive(Clone, Copy)]
 pub enum VertexStep {
     Shrink,
     MergeBack,
@@ -42,7 +41,7 @@ fn try_shrink(board: Board, table: &mut [i32], k: usize) -> bool
     requires checked { Checked board table.old }
     requires lean_on { LeanOn board table.old }
     requires k_lt_vertices { k < board.vertices }
-    ensures { TriesStep board (shrink k) (was table) table.new result }
+    ensures { TriesStep board (shrink k) table.old table.new result }
 {
     if cells::fan_out(board, table, k) == 0 {
         return false;
@@ -54,7 +53,7 @@ fn try_vertex(board: Board, table: &mut [i32], kind: VertexStep, v: usize) -> bo
     requires checked { Checked board table.old }
     requires lean_on { LeanOn board table.old }
     requires v_lt_vertices { v < board.vertices }
-    ensures { TriesStep board (vertex_step kind v) (was table) table.new result }
+    ensures { TriesStep board (vertex_step kind v) table.old table.new result }
 {
     match kind {
         VertexStep::Shrink => try_shrink(board, table, v),
@@ -66,7 +65,7 @@ fn try_vertex(board: Board, table: &mut [i32], kind: VertexStep, v: usize) -> bo
 pub fn vertex_tries(board: Board, table: &mut [i32], kind: VertexStep, steps: usize) -> usize
     requires running { Running board (progress table.old steps) }
     requires lean_on { LeanOn board table.old }
-    ensures { Leads board (kind_tries board kind) (was table) steps table.new result }
+    ensures { Leads board (kind_tries board kind) table.old steps table.new result }
 {
     let end = end(board, kind);
     let mut done = steps;

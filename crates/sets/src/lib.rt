@@ -1,4 +1,5 @@
 // Sets of numbers below 128, a bit for each: two words.
+#![tactic(auto)]
 pub mod rows;
 
 ghost use Rattle.std.specs.Prelude.{◌≡◌, true, false, not, ◌&&◌, ◌||◌, ℕ, ◌<◌, T, eqb};
@@ -30,7 +31,7 @@ fn least_bit(x: u64) -> usize
     u64::trailing_zeros(x) as usize
 }
 
-#[derive(Drop)]
+#[derive(Clone, Copy)]
 pub struct Set {
     pub low: u64,
     pub high: u64,

@@ -1,6 +1,5 @@
 // Sets in a lent run of words, two words for each.
 ghost use Rattle.std.specs.Prelude.{◌≡◌, ◌+◌, ◌*◌, ◌<◌, length};
-ghost use Rattle.laws.specs.Lent.{was};
 ghost use Rattle.sets.specs.Rows.{set_at, Stored};
 
 use crate::Set;
@@ -8,7 +7,7 @@ use crate::Set;
 // The set at place u.
 pub fn at(words: &[u64], u: usize) -> Set
     requires { 2 * u + 1 < length words.now }
-    ensures { result ≡ set_at (was words) u }
+    ensures { result ≡ set_at words.now u }
 {
     let i = 2 * u;
     Set {
@@ -20,7 +19,7 @@ pub fn at(words: &[u64], u: usize) -> Set
 // s at place u, the others as they were.
 pub fn put(words: &mut [u64], u: usize, s: Set)
     requires { 2 * u + 1 < length words.old }
-    ensures { Stored u s (was words) words.new }
+    ensures { Stored u s words.old words.new }
 {
     let i = 2 * u;
     words[i] = s.low;

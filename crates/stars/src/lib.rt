@@ -1,2 +1,3 @@
 // Star, over a table that has passed its checks.
+#![tactic(auto)]
 pub mod star;

@@ -2,7 +2,6 @@
 ghost use Rattle.std.specs.Prelude.{◌≡◌, true, false, ◌&&◌, ℕ, ◌+◌, ◌<◌, ◌≤◌, T, ltb, ◌-ℤ◌, ◌+ℤ◌, length, get_or, drop};
 ghost use Rattle.laws.specs.Integers.{eq_z, min_z};
 ghost use Rattle.laws.specs.Bounded.{each, member};
-ghost use Rattle.laws.specs.Lent.{was};
 ghost use Rattle.graph.specs.Delay.{at, present};
 ghost use Rattle.timing.specs.Limits.{max_vertices, delay_limit, fits};
 ghost use Rattle.reduction.specs.Star.{non_empty, distinct, starred};
@@ -21,14 +20,14 @@ use plans::verdict::Fit;
 use timing::Refusal;
 
 // How many arcs are covered, and whether the delays to the centre are in range.
-#[derive(Drop)]
+#[derive(Clone, Copy)]
 struct Weight {
     covered: usize,
     in_range: bool,
 }
 
 fn all_below(xs: &[usize], n: usize) -> bool
-    ensures { result ≡ below n (was xs) }
+    ensures { result ≡ below n xs.now }
 {
     let mut i = 0;
     while i < xs.len() {
@@ -42,7 +41,7 @@ fn all_below(xs: &[usize], n: usize) -> bool
 
 // Refusal 7.
 fn exist(sources: &[usize], targets: &[usize], k: usize, n: usize) -> bool
-    ensures { result ≡ (below n (was sources) && below n (was targets) && ltb k n) }
+    ensures { result ≡ (below n sources.now && below n targets.now && ltb k n) }
 {
     if !all_below(sources, n) {
         return false;
@@ -56,7 +55,7 @@ fn exist(sources: &[usize], targets: &[usize], k: usize, n: usize) -> bool
 // Whether x stands in the list, from place `from` on.
 fn found(xs: &[usize], from: usize, x: usize) -> bool
     requires { from ≤ length xs.now }
-    ensures { result ≡ member x (drop from (was xs)) }
+    ensures { result ≡ member x (drop from xs.now) }
 {
     let mut i = from;
     while i < xs.len() {
@@ -71,7 +70,7 @@ fn found(xs: &[usize], from: usize, x: usize) -> bool
 // Whether vertices below n are a set with a member; a list that is too long is not searched.
 fn is_set(xs: &[usize], n: usize) -> bool
     requires { T (below n xs.now) }
-    ensures { result ≡ (non_empty (was xs) && distinct (was xs)) }
+    ensures { result ≡ (non_empty xs.now && distinct xs.now) }
 {
     if xs.len() == 0 {
         return false;
@@ -92,7 +91,7 @@ fn is_set(xs: &[usize], n: usize) -> bool
 // Whether a row has an arc to each target.
 fn row_joined(row: &[i32], targets: &[usize]) -> bool
     requires { T (below (length row.now) targets.now) }
-    ensures { result ≡ each (was targets) (λ t. present (cell_at (was row) t)) }
+    ensures { result ≡ each targets.now (λ t. present (cell_at row.now t)) }
 {
     let mut i = 0;
     while i < targets.len() {
@@ -110,7 +109,7 @@ fn all_joined(board: Board, table: &[i32], sources: &[usize], targets: &[usize])
     requires lent { Lent board table.now }
     requires t { T (below board.vertices sources.now) }
     requires t_2 { T (below board.vertices targets.now) }
-    ensures { result ≡ each (was sources) (λ s. each (was targets) (λ t. present (graph_in board (was table) s t))) }
+    ensures { result ≡ each sources.now (λ s. each targets.now (λ t. present (graph_in board table.now s t))) }
 {
     let n = board.vertices;
     let mut i = 0;
@@ -152,7 +151,7 @@ fn least_difference(row: &[i32], first: &Row, targets: &[usize]) -> i64
     requires t { T (below (length row.now) targets.now) }
     requires t_2 { T (below max_vertices targets.now) }
     requires t_3 { T (non_empty targets.now) }
-    ensures { at result ≡ least_gap (was row) (was first) (was targets) }
+    ensures { at result ≡ least_gap row.now first.now targets.now }
 {
     let mut i = targets.len() - 1;
     let last = targets[i];
@@ -169,7 +168,7 @@ fn least_difference(row: &[i32], first: &Row, targets: &[usize]) -> i64
 fn row_covered(row: &[i32], first: &Row, targets: &[usize], e: i64) -> usize
     requires t { T (below (length row.now) targets.now) }
     requires t_2 { T (below max_vertices targets.now) }
-    ensures { result ≡ meeting (was row) (was first) (was targets) e }
+    ensures { result ≡ meeting row.now first.now targets.now e }
 {
     let mut total = 0;
     let mut i = 0;
@@ -188,8 +187,8 @@ fn weigh(row: &[i32], first: &Row, targets: &[usize]) -> Weight
     requires t { T (below (length row.now) targets.now) }
     requires t_2 { T (below max_vertices targets.now) }
     requires t_3 { T (non_empty targets.now) }
-    ensures covered_value { result.covered ≡ meeting (was row) (was first) (was targets) (gap (was row) (was first) (was targets)) }
-    ensures in_range_value { result.in_range ≡ fits delay_limit (least_gap (was row) (was first) (was targets)) }
+    ensures covered_value { result.covered ≡ meeting row.now first.now targets.now (gap row.now first.now targets.now) }
+    ensures in_range_value { result.in_range ≡ fits delay_limit (least_gap row.now first.now targets.now) }
 {
     let e = least_difference(row, first, targets);
     Weight {
@@ -202,8 +201,8 @@ fn weigh(row: &[i32], first: &Row, targets: &[usize]) -> Weight
 fn weigh_all(board: Board, table: &[i32], sources: &[usize], targets: &[usize]) -> Weight
     requires lent { Lent board table.now }
     requires bundle { Bundle board.vertices sources.now targets.now (graph_in board table.now) }
-    ensures covered_value { result.covered ≡ covered_on board (was table) (was sources) (was targets) }
-    ensures in_range_value { result.in_range ≡ centre_fits board (was table) (was sources) (was targets) }
+    ensures covered_value { result.covered ≡ covered_on board table.now sources.now targets.now }
+    ensures in_range_value { result.in_range ≡ centre_fits board table.now sources.now targets.now }
 {
     let n = board.vertices;
     let first = rows::row_copy(table, n * sources[0], n);
@@ -232,7 +231,7 @@ pub fn star_verdict(
 ) -> Fit
     requires lent { Lent board table.now }
     requires in_range { InRange board table.now }
-    ensures { fit_meaning result ≡ star_on board (was table) (was sources) (was targets) k }
+    ensures { fit_meaning result ≡ star_on board table.now sources.now targets.now k }
 {
     let n = board.vertices;
     if !exist(sources, targets, k, n) {
@@ -263,7 +262,7 @@ pub fn star_verdict(
 // The marks of a list's members.
 fn marks(xs: &[usize]) -> [bool; Board::MAX_VERTICES]
     requires { T (below max_vertices xs.now) }
-    ensures { (v : ℕ) → v < max_vertices → get_or result v false ≡ member v (was xs) }
+    ensures { (v : ℕ) → v < max_vertices → get_or result v false ≡ member v xs.now }
 {
     let mut marked = [false; Board::MAX_VERTICES];
     let mut i = 0;
@@ -279,7 +278,7 @@ fn marks(xs: &[usize]) -> [bool; Board::MAX_VERTICES]
 fn centre_row(row: &mut [i32], first: &Row, targets: &[usize])
     requires vertex_set { VertexSet (length row.old) targets.now }
     requires row_len_bound { length row.old ≤ max_vertices }
-    ensures { row.new ≡ remade (centre_cell (was row) (was first) (was targets)) (was row) }
+    ensures { row.new ≡ remade (centre_cell row.old first.now targets.now) row.old }
 {
     let mut i = 0;
     while i < targets.len() {
@@ -293,7 +292,7 @@ fn centre_row(row: &mut [i32], first: &Row, targets: &[usize])
 fn clear_covered(row: &mut [i32], first: &Row, targets: &[usize], e: i64)
     requires vertex_set { VertexSet (length row.old) targets.now }
     requires row_len_bound { length row.old ≤ max_vertices }
-    ensures { row.new ≡ remade (cleared_cell (was row) (was first) (was targets) e) (was row) }
+    ensures { row.new ≡ remade (cleared_cell row.old first.now targets.now e) row.old }
 {
     let mut i = 0;
     while i < targets.len() {
@@ -311,7 +310,7 @@ fn source_row(row: &mut [i32], first: &Row, targets: &[usize], k: usize)
     requires row_len_bound { length row.old ≤ max_vertices }
     requires k_in_bounds { k < length row.old }
     requires t { T (fits delay_limit (least_gap row.old first.now targets.now)) }
-    ensures { row.new ≡ remade (source_cell (was row) (was first) (was targets) k (gap (was row) (was first) (was targets))) (was row) }
+    ensures { row.new ≡ remade (source_cell row.old first.now targets.now k (gap row.old first.now targets.now)) row.old }
 {
     let e = least_difference(row, first, targets);
     clear_covered(row, first, targets, e);
@@ -324,7 +323,7 @@ fn row_after(row: &mut [i32], first: &Row, targets: &[usize], k: usize, u: usize
     requires row_len_bound { length row.old ≤ max_vertices }
     requires k_in_bounds { k < length row.old }
     requires t { source ≡ true → T (fits delay_limit (least_gap row.old first.now targets.now)) }
-    ensures { row.new ≡ remade (cell_after (was row) (was first) (was targets) k u source) (was row) }
+    ensures { row.new ≡ remade (cell_after row.old first.now targets.now k u source) row.old }
 {
     if u == k {
         centre_row(row, first, targets);
@@ -339,7 +338,7 @@ fn row_after(row: &mut [i32], first: &Row, targets: &[usize], k: usize, u: usize
 pub fn star_apply(board: Board, table: &mut [i32], sources: &[usize], targets: &[usize], k: usize)
     requires lent { Lent board table.old }
     requires star_ready_on { StarReadyOn board table.old sources.now targets.now k }
-    ensures { table.new ≡ changed board (starred (was sources) (was targets) k) (was table) }
+    ensures { table.new ≡ changed board (starred sources.now targets.now k) table.old }
 {
     let n = board.vertices;
     let first = rows::row_copy(table, n * sources[0], n);

@@ -1,6 +1,5 @@
 // What a step's call answers.
 ghost use Rattle.std.specs.Prelude.{◌≡◌};
-ghost use Rattle.laws.specs.Lent.{was};
 ghost use Rattle.paths.specs.Board.{Lent};
 ghost use Rattle.steps.specs.Reduces.{counted};
 
@@ -8,7 +7,7 @@ use paths::{Board, cells};
 use plans::verdict::Fit;
 use timing::Refusal;
 
-#[derive(Drop)]
+#[derive(Clone, Copy)]
 pub enum Answer {
     // Accepted; so many arcs are left.
     Left(usize),
@@ -18,7 +17,7 @@ pub enum Answer {
 // The answer to a step that left this table.
 pub fn counted(board: Board, table: &[i32], fit: Fit) -> Answer
     requires { Lent board table.now }
-    ensures { result ≡ counted board.vertices fit (was table) }
+    ensures { result ≡ counted board.vertices fit table.now }
 {
     match fit {
         Fit::Accepted => Answer::Left(cells::arcs(board, table)),

@@ -1,5 +1,4 @@
 // Each step on a table that has passed its checks: its conditions, then its new table. No arc is counted here.
-ghost use Rattle.laws.specs.Lent.{was};
 ghost use Rattle.reduction.specs.Steps.{shrink, share_inputs, share_outputs, merge_back, star};
 ghost use Rattle.paths.specs.Checked.{Passable, Checked};
 ghost use Rattle.paths.specs.Board.{ScratchRoom, PastScratch};
@@ -14,7 +13,7 @@ use stars::star;
 
 pub fn apply_shrink(board: Board, table: &mut [i32], k: usize) -> Fit
     requires { Checked board table.old }
-    ensures { Applies board (shrink k) (was table) table.new result }
+    ensures { Applies board (shrink k) table.old table.new result }
 {
     let fit = shrink::shrink_verdict(board, table, k);
     match fit {
@@ -28,7 +27,7 @@ pub fn apply_shrink(board: Board, table: &mut [i32], k: usize) -> Fit
 
 pub fn apply_merge_back(board: Board, table: &mut [i32], o: usize) -> Fit
     requires { Checked board table.old }
-    ensures { Applies board (merge_back o) (was table) table.new result }
+    ensures { Applies board (merge_back o) table.old table.new result }
 {
     let driven = merge_back::merge_back_verdict(board, table, o);
     match driven {
@@ -48,7 +47,7 @@ pub fn apply_star(
     k: usize,
 ) -> Fit
     requires { Checked board table.old }
-    ensures { Applies board (star (was sources) (was targets) k) (was table) table.new result }
+    ensures { Applies board (star sources.now targets.now k) table.old table.new result }
 {
     let fit = star::star_verdict(board, table, sources, targets, k);
     match fit {
@@ -70,8 +69,8 @@ pub fn apply_share_inputs(
     k: usize,
 ) -> Fit
     requires { Passable board table.old order.now × (ScratchRoom board scratch.old) }
-    ensures applies { Applies board (share_inputs a b k) (was table) table.new result }
-    ensures past_scratch { PastScratch board (was scratch) scratch.new }
+    ensures applies { Applies board (share_inputs a b k) table.old table.new result }
+    ensures past_scratch { PastScratch board scratch.old scratch.new }
 {
     let difference = share_inputs::share_inputs_verdict(board, table, order, scratch, a, b, k);
     match difference {
@@ -93,8 +92,8 @@ pub fn apply_share_outputs(
     b: usize,
 ) -> Fit
     requires { Passable board table.old order.now × (ScratchRoom board scratch.old) }
-    ensures applies { Applies board (share_outputs a b) (was table) table.new result }
-    ensures past_scratch { PastScratch board (was scratch) scratch.new }
+    ensures applies { Applies board (share_outputs a b) table.old table.new result }
+    ensures past_scratch { PastScratch board scratch.old scratch.new }
 {
     let difference = share_outputs::share_outputs_verdict(board, table, order, scratch, a, b);
     match difference {

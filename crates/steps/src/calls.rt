@@ -1,5 +1,4 @@
 // The six steps as calls: any arguments, the checks first, the count of arcs last.
-ghost use Rattle.laws.specs.Lent.{was, size};
 ghost use Rattle.reduction.specs.Steps.{shrink, share_inputs, share_outputs, prune, merge_back, star, step_call};
 ghost use Rattle.paths.specs.Queries.{ScratchAfter};
 ghost use Rattle.steps.specs.Reduces.{Reduces, step_meaning};
@@ -19,8 +18,8 @@ pub fn reduce(
     scratch: &mut [i64],
     step: Step,
 ) -> Answer
-    ensures reduces { Reduces (step_call inputs outputs vertices (size scratch) (step_meaning step) (was table)) (was table) table.new result }
-    ensures scratch_after { ScratchAfter inputs outputs vertices (was table) (was scratch) scratch.new }
+    ensures reduces { Reduces (step_call inputs outputs vertices (length scratch.old) (step_meaning step) table.old) table.old table.new result }
+    ensures scratch_after { ScratchAfter inputs outputs vertices table.old scratch.old scratch.new }
 {
     let mut order = room::vertex_bytes();
     let lent = checks::checked(inputs, outputs, vertices, table, scratch.len(), &mut order);
@@ -42,8 +41,8 @@ pub fn shrink(
     scratch: &mut [i64],
     k: usize,
 ) -> Answer
-    ensures reduces { Reduces (step_call inputs outputs vertices (size scratch) (shrink k) (was table)) (was table) table.new result }
-    ensures scratch_after { ScratchAfter inputs outputs vertices (was table) (was scratch) scratch.new }
+    ensures reduces { Reduces (step_call inputs outputs vertices (length scratch.old) (shrink k) table.old) table.old table.new result }
+    ensures scratch_after { ScratchAfter inputs outputs vertices table.old scratch.old scratch.new }
 {
     reduce(inputs, outputs, vertices, table, scratch, Step::Shrink(k))
 }
@@ -59,8 +58,8 @@ pub fn share_inputs(
     b: usize,
     k: usize,
 ) -> Answer
-    ensures reduces { Reduces (step_call inputs outputs vertices (size scratch) (share_inputs a b k) (was table)) (was table) table.new result }
-    ensures scratch_after { ScratchAfter inputs outputs vertices (was table) (was scratch) scratch.new }
+    ensures reduces { Reduces (step_call inputs outputs vertices (length scratch.old) (share_inputs a b k) table.old) table.old table.new result }
+    ensures scratch_after { ScratchAfter inputs outputs vertices table.old scratch.old scratch.new }
 {
     reduce(
         inputs,
@@ -82,8 +81,8 @@ pub fn share_outputs(
     a: usize,
     b: usize,
 ) -> Answer
-    ensures reduces { Reduces (step_call inputs outputs vertices (size scratch) (share_outputs a b) (was table)) (was table) table.new result }
-    ensures scratch_after { ScratchAfter inputs outputs vertices (was table) (was scratch) scratch.new }
+    ensures reduces { Reduces (step_call inputs outputs vertices (length scratch.old) (share_outputs a b) table.old) table.old table.new result }
+    ensures scratch_after { ScratchAfter inputs outputs vertices table.old scratch.old scratch.new }
 {
     reduce(
         inputs,
@@ -103,8 +102,8 @@ pub fn prune(
     table: &mut [i32],
     scratch: &mut [i64],
 ) -> Answer
-    ensures reduces { Reduces (step_call inputs outputs vertices (size scratch) prune (was table)) (was table) table.new result }
-    ensures scratch_after { ScratchAfter inputs outputs vertices (was table) (was scratch) scratch.new }
+    ensures reduces { Reduces (step_call inputs outputs vertices (length scratch.old) prune table.old) table.old table.new result }
+    ensures scratch_after { ScratchAfter inputs outputs vertices table.old scratch.old scratch.new }
 {
     reduce(inputs, outputs, vertices, table, scratch, Step::Prune)
 }
@@ -118,8 +117,8 @@ pub fn merge_back(
     scratch: &mut [i64],
     o: usize,
 ) -> Answer
-    ensures reduces { Reduces (step_call inputs outputs vertices (size scratch) (merge_back o) (was table)) (was table) table.new result }
-    ensures scratch_after { ScratchAfter inputs outputs vertices (was table) (was scratch) scratch.new }
+    ensures reduces { Reduces (step_call inputs outputs vertices (length scratch.old) (merge_back o) table.old) table.old table.new result }
+    ensures scratch_after { ScratchAfter inputs outputs vertices table.old scratch.old scratch.new }
 {
     reduce(
         inputs,
@@ -142,8 +141,8 @@ pub fn star(
     targets: &[usize],
     k: usize,
 ) -> Answer
-    ensures reduces { Reduces (step_call inputs outputs vertices (size scratch) (star (was sources) (was targets) k) (was table)) (was table) table.new result }
-    ensures scratch_after { ScratchAfter inputs outputs vertices (was table) (was scratch) scratch.new }
+    ensures reduces { Reduces (step_call inputs outputs vertices (length scratch.old) (star sources.now targets.now k) table.old) table.old table.new result }
+    ensures scratch_after { ScratchAfter inputs outputs vertices table.old scratch.old scratch.new }
 {
     let mut order = room::vertex_bytes();
     let lent = checks::checked(inputs, outputs, vertices, table, scratch.len(), &mut order);

@@ -1,4 +1,5 @@
 // The six steps as calls over lent memory.
+#![tactic(auto)]
 pub mod answer;
 pub mod apply;
 pub mod calls;

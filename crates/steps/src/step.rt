@@ -1,5 +1,4 @@
 // The five steps of the automatic run, as one function.
-ghost use Rattle.laws.specs.Lent.{was};
 ghost use Rattle.paths.specs.Checked.{Passable};
 ghost use Rattle.paths.specs.Board.{ScratchRoom, PastScratch};
 ghost use Rattle.plans.specs.OnBoards.{Applies};
@@ -12,7 +11,7 @@ use plans::verdict::Fit;
 use pruning::prune;
 
 // A step with its vertices, any numbers.
-#[derive(Drop)]
+#[derive(Clone, Copy)]
 pub enum Step {
     Shrink(usize),
     ShareInputs(usize, usize, usize),
@@ -29,8 +28,8 @@ pub fn apply_step(
     step: Step,
 ) -> Fit
     requires { Passable board table.old order.now × (ScratchRoom board scratch.old) }
-    ensures applies { Applies board (step_meaning step) (was table) table.new result }
-    ensures past_scratch { PastScratch board (was scratch) scratch.new }
+    ensures applies { Applies board (step_meaning step) table.old table.new result }
+    ensures past_scratch { PastScratch board scratch.old scratch.new }
 {
     match step {
         Step::Shrink(k) => apply::apply_shrink(board, table, k),

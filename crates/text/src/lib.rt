@@ -1,6 +1,6 @@
 // The whole text of `thin`: the size, the arcs and the counts of a board file that was read and reduced, or its refusal.
+#![tactic(auto)]
 ghost use Rattle.std.specs.Prelude.{◌≡◌, ◌≤◌, ◌<◌, ◌^◌, length};
-ghost use Rattle.laws.specs.Lent.{was};
 ghost use Rattle.timing.specs.Refusal.{number};
 ghost use Rattle.format.specs.Library.{built_in};
 ghost use Rattle.format.specs.Reading.{got};
@@ -31,7 +31,7 @@ pub fn page() -> [u8; PAGE]
 fn refused_text(refusal: Refusal, offset: usize, out: &mut [u8]) -> usize
     requires offset_bound { offset < 10 ^ 10 }
     requires text_bytes_in_bounds { text_bytes ≤ length out.old }
-    ensures appends { Appends (refused_line (number refusal) offset) (was out) 0 out.new result }
+    ensures appends { Appends (refused_line (number refusal) offset) out.old 0 out.new result }
     ensures upper_bound { result ≤ text_bytes }
 {
     let number = numbers::number(refusal);
@@ -43,7 +43,7 @@ fn reduced_text(board: Board, table: &[i32], steps: usize, arcs: usize, out: &mu
     requires steps_bound { steps < 10 ^ 4 }
     requires arcs_bound { arcs < 10 ^ 4 }
     requires text_bytes_in_bounds { text_bytes ≤ length out.old }
-    ensures appends { Appends (reduced_text (sizes_of board) (record { table = was table; steps = steps; arcs_left = arcs })) (was out) 0 out.new result }
+    ensures appends { Appends (reduced_text (sizes_of board) (record { table = table.now; steps = steps; arcs_left = arcs })) out.old 0 out.new result }
     ensures upper_bound { result ≤ text_bytes }
 {
     let first = lines::board_line(out, 0, board.inputs, board.outputs, board.vertices);
@@ -55,7 +55,7 @@ fn reduced_text(board: Board, table: &[i32], steps: usize, arcs: usize, out: &mu
 fn run_text(board: Board, table: &mut [i32], scratch: &mut [i64], out: &mut [u8]) -> usize
     requires scratch_len { length scratch.old ≡ most_cells }
     requires text_bytes_in_bounds { text_bytes ≤ length out.old }
-    ensures appends { Appends (text_of (was table) (got (sizes_of board))) (was out) 0 out.new result }
+    ensures appends { Appends (text_of table.old (got (sizes_of board))) out.old 0 out.new result }
     ensures upper_bound { result ≤ text_bytes }
 {
     let ran = calls::run(board.inputs, board.outputs, board.vertices, table, scratch);
@@ -78,7 +78,7 @@ fn text_into(
     requires table_len { length table.old ≡ most_cells }
     requires scratch_len { length scratch.old ≡ most_cells }
     requires text_bytes_in_bounds { text_bytes ≤ length out.old }
-    ensures appends { Appends (thin_text (was input)) (was out) 0 out.new result }
+    ensures appends { Appends (thin_text input.now) out.old 0 out.new result }
     ensures upper_bound { result ≤ text_bytes }
 {
     place::blank(table, Board::MAX_VERTICES);
@@ -93,7 +93,7 @@ fn text_into(
 pub fn thin_text(input: &[u8], out: &mut [u8]) -> usize
     requires input_len_bound { length input.now ≤ 65536 }
     requires text_bytes_in_bounds { text_bytes ≤ length out.old }
-    ensures appends { Appends (thin_text (was input)) (was out) 0 out.new result }
+    ensures appends { Appends (thin_text input.now) out.old 0 out.new result }
     ensures upper_bound { result ≤ text_bytes }
 {
     let mut library = library::none();

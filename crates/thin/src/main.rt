@@ -1,4 +1,5 @@
 // Reads a board file from standard input, runs the automatic run on it, and prints the board, its arcs and the counts, or the refusal.
+#![tactic(auto)]
 
 fn main() {
     // No more than these bytes are read; a failed read counts as the end.
