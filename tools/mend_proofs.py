@@ -99,7 +99,9 @@ def opening(text, i):
 
 
 PLAIN = {"args", "ranges", "well_formed", "lifetimes", "type_inv"}
-FIELDS = {"pre": "requires", "inv": "invariant", "taken": "true", "left": "false", "last": "new", "kept": "auto", "post": "ensures", "came": "branch-raw", "branch": "branch-raw"}
+FIELDS = {"pre": "requires", "inv": "invariant", "taken": "true", "left": "false", "last": "new", "kept": "auto", "post": "ensures", "came": "branch-raw", "branch": "branch-raw", "type-inv": "type_inv", "well-formed": "well_formed"}
+# what a step has: a name before one of these is a step's, whatever stands before it
+STEP = {"given", "ensures", "result", "invariant", "inv", "true", "false", "taken", "left", "auto", "new", "last", "kept", "type-inv", "type_inv", "lifetimes", "branch", "came", "is", "told"}
 
 
 def path_number(rest, k):
@@ -241,7 +243,10 @@ class File:
         if place is None:
             # of an unknown thing: only what the names alone tell
             if rest and rest[0] not in PLAIN:
-                rest = self.field(None, rest) if self.known(rest[0]) else [FIELDS[rest[0]] if rest[0] in ("pre", "inv", "taken", "left") else rest[0]] + rest[1:]
+                if self.known(rest[0]) and len(rest) > 1 and rest[1] in STEP:
+                    rest = self.field(None, rest)
+                elif rest[0] in ("pre", "inv", "type-inv"):
+                    rest = [FIELDS[rest[0]]] + rest[1:]
             return "".join("." + p for p in parts[:k] + rest)
         at = place
         for _ in range(k):
@@ -303,7 +308,8 @@ class File:
             carry = []
             while b and (b[-1].startswith("--")):
                 carry.insert(0, b.pop())
-            fixed.append(b)
+            if b:
+                fixed.append(b)
         if carry:
             fixed[-1] += carry
         blocks = fixed
@@ -335,9 +341,13 @@ class File:
         t = "\n".join("\n".join(b) for b in out)
         t = self.spec(t, needs)
         # own names
-        for old, new in sorted(renamed.items(), key=lambda p: -len(p[0])):
-            if old != new:
-                t = re.sub(rf"(?<![^\s(){{}};,@])(?<!tie\.){re.escape(old)}(?![^\s(){{}}.;,@])", new, t)
+        own = {o: w for o, w in renamed.items() if o != w}
+        for b in blocks:
+            for l in b:
+                m = re.match(rf"^(?:  )?(?:abbrev |pub |unfoldable )*({WORD}) : ", l)
+                if m and "-" in m[1] and m[1] not in renamed and not re.match(r"invariant-|decreases-", m[1]) and not m[1].endswith("-spec"):
+                    own[m[1]] = norm(m[1])
+        t = re.sub(rf"(?<![^\s(){{}};,@])({WORD})(?=[\s(){{}}.;,@]|$)", lambda m: own.get(m[1], m[1]), t)
         t = re.sub(r"(?m)^pub (\S+)-spec( : \{M)", lambda m: "pub " + norm(m[1]) + "_spec" + m[2], t)
         t = re.sub(r"(?m)^(\S+)-spec =$", lambda m: norm(m[1]) + "_spec =", t)
         t = re.sub(r"(?m)^(\S+)-spec = ", lambda m: norm(m[1]) + "_spec = ", t)

@@ -6,5 +6,9 @@ use Rattle.codec.proofs.signed.greatest.Tie as tie
 returns : tie.Need-returns
 returns c = all_ones c.args.width c.requires.1
 
-pub greatest-spec : {M : Type 1} → statement M
-greatest-spec = tie.close (tie.spec (λ c. search rules) (λ c. search rules) (λ c. search rules) returns)
+pub greatest_spec : {M : Type 1} → statement M
+greatest_spec = tie.close (tie.spec
+    (λ c. search rules)
+    (λ c. search rules)
+    (λ c. search rules)
+    returns)

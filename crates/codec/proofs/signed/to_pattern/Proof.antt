@@ -38,29 +38,35 @@ unfolding pattern
 stays w (pos n) f e = (tt, record { fits = omega (arith, f.sfits) }, refl)
 stays w (negsuc n) f e = let z : ◌≡◌ {A = ℕ} 0 1 = cc in absurd (omega arith)
 
-below : (c : tie.Then1) → Flipped c.before.args.width c.before.args.x
-below c = flips _ _ c.before.ranges.x c.before.requires.1.1 (rw (to_z-of_z {w = w64} c.before.ranges.x) at c.if1.true)
+below : (c : tie.Then-x-lt0) → Flipped c.args.width c.args.x
+below c = flips _ _ c.ranges.x c.requires.1.1 (rw (to_z-of_z {w = w64} c.ranges.x) at c.if-x-lt0.true)
 
-above : (c : tie.Else1) → let x = c.before.args.x in T (non_neg x) × Fits w64 (nat_abs x) × (nat_abs x ≡ pattern c.before.args.width x)
-above c = stays _ _ c.before.ranges.x (rw (to_z-of_z {w = w64} c.before.ranges.x) at c.if1.false)
+above : (c : tie.Else-x-lt0) → let x = c.args.x in T (non_neg x) × Fits w64 (nat_abs x) × (nat_abs x ≡ pattern c.args.width x)
+above c = stays _ _ c.ranges.x (rw (to_z-of_z {w = w64} c.ranges.x) at c.if-x-lt0.false)
 
-cast-result : tie.Need-overflow-cast-result
-cast-result c =
+overflow_cast-result : tie.Need-overflow_cast-result
+overflow_cast-result c =
     let b = below c.before in
-    simp b.flipped (tt, record { fits = omega (arith, b.small, power_fits c.before.before.args.width c.before.before.requires.1.0) })
+    simp b.flipped (tt, record { fits = omega (arith, b.small, power_fits c.args.width c.requires.1.0) })
 
-sub-result : tie.Need-overflow-sub-result
-sub-result c = let b = below c.before in simp b.flipped (omega (arith, b.small))
+overflow_sub-result : tie.Need-overflow_sub-result
+overflow_sub-result c = let b = below c.before in simp b.flipped (omega (arith, b.small))
+
+returns-then-x-lt0 : tie.Need-returns-then-x-lt0
+returns-then-x-lt0 c = let b = below c.before in simp b.flipped (omega (arith, b.left, b.small))
+
+overflow_cast-result-2 : tie.Need-overflow_cast-result-2
+overflow_cast-result-2 c = simp (to_z-of_z {w = w64} c.ranges.x) ((above c).0, (above c).1)
 
 returns : tie.Need-returns
-returns c = let b = below c.before in simp b.flipped (omega (arith, b.left, b.small))
+returns c = simp (to_z-of_z {w = w64} c.ranges.x) (above c).2
 
-cast-result-2 : tie.Need-overflow-cast-result-2
-cast-result-2 c = simp (to_z-of_z {w = w64} c.before.ranges.x) ((above c).0, (above c).1)
-
-returns-2 : tie.Need-returns-2
-returns-2 c = simp (to_z-of_z {w = w64} c.before.ranges.x) (above c).2
-
-pub to-pattern-spec : {M : Type 1} → statement M
-to-pattern-spec =
-    tie.close (tie.spec (λ c κs. search rules) cast-result sub-result returns cast-result-2 returns-2)
+pub to_pattern_spec : {M : Type 1} → statement M
+to_pattern_spec =
+    tie.close (tie.spec
+    (λ c κs. search rules)
+    overflow_cast-result
+    overflow_sub-result
+    returns-then-x-lt0
+    overflow_cast-result-2
+    returns)

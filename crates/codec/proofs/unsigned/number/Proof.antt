@@ -8,61 +8,61 @@ use Rattle.codec.proofs.unsigned.number.Statement.{statement}
 use Rattle.codec.proofs.unsigned.number.Tie as tie
 
 -- the i high bytes are read
-abbrev invariant-loop : tie.invariant-loop
+abbrev invariant-loop : tie.invariant-loop-i
 invariant-loop bytes at width x₀ i₀ x i = (i ≤ width) × (x ≡ unsigned_at i bytes (at + (width - i)))
 
-abbrev decreases-loop : tie.decreases-loop
+abbrev decreases-loop : tie.decreases-loop-i
 decreases-loop bytes at width x₀ i₀ x i = width - i
 
-loop-holds : tie.Need-loop-init invariant-loop decreases-loop
+loop-i-init : tie.Need-loop-i-init invariant-loop decreases-loop
 unfolding number_of
-loop-holds c = (omega arith, refl)
+loop-i-init c = (omega arith, refl)
 
 -- one byte more has room
-room : (c : tie.In-loop invariant-loop decreases-loop) → 256 * c.before.loop.x + 255 < 2 ^ 64
+room : (c : tie.In-loop-i invariant-loop decreases-loop) → 256 * c.loop-i.x + 255 < 2 ^ 64
 room c =
     let l = c.before in
-    let a = l.before.before.args in
-    let i = l.loop.i in
-    let below : l.loop.x < 256 ^ i = rw l.loop.invariant.1 (read_below a.bytes.now (a.at + (a.width - i)) i l.before.shared-slice-known.given) in
+    let a = l.args in
+    let i = l.loop-i.i in
+    let below : l.loop-i.x < 256 ^ i = rw l.loop-i.invariant.1 (read_below a.bytes.now (a.at + (a.width - i)) i l.shared_slice_known-1.given) in
     omega (arith, power_fits (suc i) (omega arith))
 
-mul-x : tie.Need-overflow-mul-x invariant-loop decreases-loop
-mul-x c = omega (arith, room c)
+overflow_mul-x : tie.Need-overflow_mul-x invariant-loop decreases-loop
+overflow_mul-x c = omega (arith, room c)
 
-add-x : tie.Need-overflow-add-x invariant-loop decreases-loop
-add-x c = omega (arith, room c.before.before)
+overflow_add-x : tie.Need-overflow_add-x invariant-loop decreases-loop
+overflow_add-x c = omega (arith, room c.before.before)
 
-loop-again : tie.Need-loop-preserved invariant-loop decreases-loop
-loop-again c =
+loop-i-preserved : tie.Need-loop-i-preserved invariant-loop decreases-loop
+loop-i-preserved c =
     let l = c.before.before.before in
-    let a = l.before.before.args in
-    let i = l.loop.i in
+    let a = l.args in
+    let i = l.loop-i.i in
     let at : a.at + (a.width - (i + 1)) + 1 ≡ a.at + (a.width - i) = omega arith in
     (omega arith, simp (read_more i a.bytes.now (a.at + (a.width - (i + 1))), at) (omega arith))
 
 returns : tie.Need-returns invariant-loop decreases-loop
 returns c =
     let l = c.before in
-    let a = l.before.before.args in
-    let i : l.loop.i ≡ a.width = omega arith in
-    let at : a.at + (a.width - l.loop.i) ≡ a.at = omega arith in
-    l.loop.invariant.1 ∙ (λ k. unsigned_at (i k) a.bytes.now (at k))
+    let a = l.args in
+    let i : l.loop-i.i ≡ a.width = omega arith in
+    let at : a.at + (a.width - l.loop-i.i) ≡ a.at = omega arith in
+    l.loop-i.invariant.1 ∙ (λ k. unsigned_at (i k) a.bytes.now (at k))
 
-pub number-spec : {M : Type 1} → statement M
-number-spec =
+pub number_spec : {M : Type 1} → statement M
+number_spec =
     tie.close
     (tie.spec
     invariant-loop
     decreases-loop
-    loop-holds
+    loop-i-init
     (λ c. omega arith)
     (λ c. omega arith)
-    mul-x
+    overflow_mul-x
     (λ c. omega arith)
     (λ c. omega arith)
     (λ c κs. tt)
-    add-x
+    overflow_add-x
     (λ c. omega arith)
-    loop-again
+    loop-i-preserved
     returns)
