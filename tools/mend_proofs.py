@@ -42,6 +42,28 @@ class Names:
     def place(self, name):
         return self.index.get(norm(name))
 
+    def is_new(self, i):
+        """Whether the older check had no such place."""
+        return self.places[i][2][0].startswith("way_told")
+
+    def was_at(self, i):
+        while i is not None and self.is_new(i):
+            i = self.parent[i]
+        return i
+
+    def anchor(self, i):
+        """The place that has what place i had: i, or the arm that took it in."""
+        a = self.d["arms"][i]
+        if a and not self.final(i):
+            for j in range(len(self.places)):
+                if self.final(j) and self.d["arms"][j][0] == a[0] and i in self.chain(j):
+                    return j
+        return i
+
+    def step_back(self, i):
+        i = self.parent[self.was_at(i)]
+        return None if i is None else self.was_at(i)
+
     def chain(self, i):
         out = []
         while i is not None:
@@ -98,7 +120,7 @@ def opening(text, i):
     return -1
 
 
-PLAIN = {"args", "ranges", "well_formed", "lifetimes", "type_inv"}
+PLAIN = {"args", "ranges", "fits", "good", "well-formed", "type-inv", "well_formed", "lifetimes", "type_inv"}
 FIELDS = {"pre": "requires", "inv": "invariant", "taken": "true", "left": "false", "last": "new", "kept": "auto", "post": "ensures", "came": "branch-raw", "branch": "branch-raw", "type-inv": "type_inv", "well-formed": "well_formed"}
 # what a step has: a name before one of these is a step's, whatever stands before it
 STEP = {"given", "ensures", "result", "invariant", "inv", "true", "false", "taken", "left", "auto", "new", "last", "kept", "type-inv", "type_inv", "lifetimes", "branch", "came", "is", "told"}
@@ -121,19 +143,21 @@ class File:
         self.kinds = {}  # local names whose result is a place
         self.params = {}  # local names: places of their first arguments
 
-    def field(self, place, rest):
-        """rest, the parts behind a context at an old place, in today's names."""
+    def field(self, place, rest, here=None):
+        """rest, the parts behind a context at an old place, in today's names; here is the place that it is at now."""
         n = self.n
         if not rest:
             return rest
         f = rest[0]
         if f in PLAIN or f in ("requires", "pre"):
-            return ["requires" if f == "pre" else f] + rest[1:]
-        start = n.chain(place) if place is not None else range(len(n.places))
+            return [{"pre": "requires", "fits": "ranges", "good": "well_formed", "well-formed": "well_formed", "type-inv": "type_inv"}.get(f, f)] + rest[1:]
+        start = n.chain(place) if place is not None else list(range(len(n.places)))
+        if here is not None:
+            start = start + [i for i in n.chain(here) if i not in start]
         hit = None
         for i in start:
             p = n.places[i]
-            if norm(p[2][0]) == norm(f) and f:
+            if norm(p[2][0]) == norm(f).lower() and f:
                 hit = i
                 break
             if norm(p[2][1]) == norm(f) and f:
@@ -142,7 +166,7 @@ class File:
             return rest
         # an arm that is one step now
         if place is not None:
-            for i in n.chain(place):
+            for i in n.chain(place if here is None else here):
                 a = n.d["arms"][i]
                 if a and n.final(i) and hit in self.folded(i):
                     for part, step, path in a[2]:
@@ -183,14 +207,34 @@ class File:
         chain = self.n.new_chain(place)
         if target in chain:
             return chain.index(target)
+        t = self.n.anchor(target)
+        if t in chain:
+            return chain.index(t)
         for t in self.n.new_chain(target)[1:]:
             if t in chain:
                 self.log("a place inside an arm: " + self.n.by_name[target])
                 return chain.index(t)
         return None
 
-    def rewrite(self, text, env):
-        """The paths of text, with env the old places of variables."""
+    def moved(self, pair, k):
+        """The pair of places, old and new, k times .before behind a pair."""
+        old, new = pair
+        at = old
+        for _ in range(k):
+            b = self.n.step_back(at)
+            if b is None:
+                self.log("too many .before")
+                break
+            at = b
+        if k == 0:
+            return pair
+        b = self.back(new, at)
+        if b is None:
+            return (at, at)
+        return (at, self.n.new_chain(new)[b])
+
+    def rewrite(self, text, env, target=None):
+        """The paths of text, with env the places of variables; target is the place that all of it is to be."""
         out, i = [], 0
         path = re.compile(r"\.(" + WORD + ")")
         head = re.compile(WORD)
@@ -221,8 +265,20 @@ class File:
                         break
                     parts.append(k[1])
                     e = k.end()
+                if all(x == "before" for x in parts) and env.get(w) and env[w][0] != "step":
+                    q = re.search(rf"({WORD}) $", "".join(out[-8:]))
+                    want = self.params.get(q[1], [None])[0] if q else None
+                    if want is None and target is not None and text.strip() == text[i:e]:
+                        want = target
+                    if want is not None:
+                        chain = self.n.new_chain(env[w][1])
+                        if self.n.anchor(want) in chain:
+                            out.append(w + ".before" * chain.index(self.n.anchor(want)))
+                            i = e
+                            continue
+                        self.log("not before " + self.n.by_name[env[w][1]] + ": " + self.n.by_name[want])
                 if parts and w not in ("tie",):
-                    place = env.get(w, self.kinds.get(w) if w not in self.params else None)
+                    place = env.get(w, self.pair(self.kinds.get(w)) if w not in self.params else None)
                     out.append(w + self.tail(place, parts))
                     i = e
                     continue
@@ -248,15 +304,17 @@ class File:
                 elif rest[0] in ("pre", "inv", "type-inv"):
                     rest = [FIELDS[rest[0]]] + rest[1:]
             return "".join("." + p for p in parts[:k] + rest)
-        at = place
+        if place[0] == "step":
+            return "".join("." + p for p in self.inner(place[1], parts))
+        at = place[0]
         for _ in range(k):
-            if self.n.parent[at] is None:
+            if self.n.step_back(at) is None:
                 self.log("too many .before")
                 break
-            at = self.n.parent[at]
+            at = self.n.step_back(at)
         if rest:
-            return "".join("." + p for p in self.field(at, rest))
-        b = self.back(place, at)
+            return "".join("." + p for p in self.field(at, rest, place[1]))
+        b = self.back(place[1], at)
         if b is None:
             self.log("no way back")
             b = k
@@ -265,26 +323,43 @@ class File:
     def known(self, f):
         return any(norm(p[2][0]) == norm(f) for p in self.n.places if p[2][0])
 
+    def pair(self, i):
+        return None if i is None else (i, self.n.anchor(i))
+
     def kind_of(self, text, env):
         """The old place of a term, if it is one of a context."""
         text = text.strip()
         while text.startswith("(") and matching(text, 0) == len(text) - 1:
             text = text[1:-1].strip()
-        m = re.match(rf"^({WORD})((?:\.before)*)$", text)
+        m = re.match(rf"^({WORD})((?:\.{WORD})*)$", text)
         if m:
-            place = env.get(m[1], self.kinds.get(m[1]))
-            for _ in range(m[2].count(".before")):
-                place = self.n.parent[place] if place is not None else None
-            return place
+            pair = env.get(m[1], self.pair(self.kinds.get(m[1])) if m[1] not in self.params else None)
+            return self.walk(pair, m[2])
         m = re.match(rf"^({WORD}) ", text)
-        if m and m[1] in self.kinds:
-            return self.kinds[m[1]]
-        m = re.match(r"^\((.*)\)((?:\.before)+)$", text, re.S)
-        if m and matching(text, 0) == len(text) - len(m[2]) - 1:
-            place = self.kind_of(m[1], env)
-            for _ in range(m[2].count(".before")):
-                place = self.n.parent[place] if place is not None else None
-            return place
+        if m and m[1] in self.kinds and m[1] in self.params:
+            return self.pair(self.kinds[m[1]])
+        if text.startswith("("):
+            e = matching(text, 0)
+            if re.match(rf"^((?:\.{WORD})+)$", text[e + 1 :]):
+                return self.walk(self.kind_of(text[1:e], env), text[e + 1 :])
+        return None
+
+    def walk(self, pair, path):
+        parts = path.split(".")[1:]
+        if pair is None or pair[0] == "step" and parts:
+            return None
+        k = 0
+        while k < len(parts) and parts[k] == "before":
+            k += 1
+        pair = self.moved(pair, k) if k else pair
+        if k == len(parts):
+            return pair
+        if k == len(parts) - 1:
+            for i in self.n.chain(pair[0]):
+                if self.n.places[i][2][0] and norm(self.n.places[i][2][0]) == norm(parts[k]).lower():
+                    if any(self.n.final(j) and i in self.folded(j) for j in range(len(self.n.places))):
+                        return None
+                    return ("step", i)
         return None
 
     def turn(self):
@@ -339,7 +414,10 @@ class File:
         for b in blocks:
             out.append(self.block(b, {}, decl))
         t = "\n".join("\n".join(b) for b in out)
-        t = self.spec(t, needs)
+        t = self.branches(self.spec(t, needs))
+        if re.search(r"\brules\b", t) and not re.search(r"(?m)^use .*\brules\b", t):
+            t = "use borrow.Author.Rules.{rules}\n" + t
+        t = t.replace(".well-formed", ".well_formed").replace(".type-inv", ".type_inv")
         # own names
         own = {o: w for o, w in renamed.items() if o != w}
         for b in blocks:
@@ -373,7 +451,7 @@ class File:
 
     def need(self, name):
         n = norm(name)
-        for c in (n, re.sub(r"^(overflow|nonzero)_", "", n), n.replace("loop_again", "loop_preserved"), n.replace("loop_less", "loop_smaller")):
+        for c in (re.sub(r"^(overflow|nonzero)_", "", n), n, n.replace("loop_again", "loop_preserved"), n.replace("loop_less", "loop_smaller"), n.replace("slice_bounds_", "part_"), n.replace("slice_bounds_", "slice_aggregate_")):
             if c in self.n.needs:
                 return self.n.needs[c]
         m = re.match(r"same_length(?:_(\d+))?$", n)
@@ -397,7 +475,7 @@ class File:
                     return "tie." + kind + self.n.loops[norm(w[len(kind) :])]
             i = self.n.place(w)
             if i is not None:
-                return "tie." + self.n.by_name[i]
+                return "tie." + self.n.by_name[self.n.anchor(i)]
             return m[0]
 
         return re.sub(rf"(?<![\w.])tie\.({WORD})", one, text)
@@ -409,7 +487,7 @@ class File:
         if b[i].startswith("module "):
             inner = {}
             for m in re.finditer(rf"\(({WORD}) : tie\.({WORD})", b[i]):
-                inner[m[1]] = self.n.place(m[2])
+                inner[m[1]] = self.pair(self.n.place(m[2]))
             head = b[: i] + [self.types(b[i])]
             sub, cur = [], []
             d = re.compile(rf"^  ((?:abbrev |pub |unfoldable )*)({WORD}) : (.*)$")
@@ -433,7 +511,7 @@ class File:
         if env:
             # inside a module a name of the module needs no argument
             for k in self.kinds:
-                local.setdefault(k, self.kinds[k])
+                local.setdefault(k, self.pair(self.kinds[k]))
         q = re.match(r"tie\.Need-(\S+)", typ)
         args = []
         if q:
@@ -453,8 +531,8 @@ class File:
         senv = dict(local)
         for a in re.finditer(rf"\(((?:{WORD} )+): tie\.({WORD})", typ):
             for v in a[1].split():
-                senv[v] = self.n.place(a[2])
-        new_sig = m[1] + name + " : " + self.rewrite(self.types(typ), senv)
+                senv[v] = self.pair(self.n.place(a[2]))
+        new_sig = m[1] + name + " : " + self.body(typ, senv)
         head = b[:i] + [indent + new_sig]
         body = "\n".join(b[i + 1 :])
         # clauses
@@ -470,21 +548,53 @@ class File:
             cenv = dict(local)
             for v, pl in zip(pats, args):
                 if pl is not None:
-                    cenv[v] = pl
+                    cenv[v] = (pl, pl) if q else self.pair(pl)
                 else:
                     cenv.pop(v, None)
             for v in pats[len(args) :]:
                 cenv.pop(v, None)
-            res += parts[k] + rest[: e.end()] + self.body(rest[e.end() :], cenv)
+            res += parts[k] + rest[: e.end()] + self.body(rest[e.end() :], cenv, self.kinds.get(name))
         return head + res.split("\n") if body or len(b) > i + 1 else head
+
+    def branches(self, t):
+        """What a branch tells has names now."""
+        joins = {}
+        for m in re.finditer(r"pub record By-\d+-(Joined\S+?)-((?:then|else)-\S+) : Type 0 where\n((?: +pub .*\n(?: {14,}.*\n)*)*)", self.lts):
+            fs = re.findall(r"(?m)^ +pub (\S+)-is :", m[3])
+            joins.setdefault(m[1], fs)
+        for i, p in enumerate(self.n.places):
+            if not re.match(r"Joined\d+", p[0]):
+                continue
+            step, fs = p[2][1], joins.get(self.n.by_name[i], joins.get(p[0], []))
+            pos = 0
+            while True:
+                k = t.find("." + step + ".branch-raw", pos)
+                if k < 0:
+                    break
+                pos = k + 1
+                e = re.search(r"\n(?=\S)|$", t[k:])
+                seg = t[k : k + e.start()]
+                new = re.sub(r"\b([a-z])\.0\.(taken|true)\b", rf"\1.{step}.true", seg)
+                new = re.sub(r"\b([a-z])\.0\.(left|false)\b", rf"\1.{step}.false", new)
+                new = re.sub(r"\b([a-z])\.0\.(fact)\b", rf"\1.{step}.true", new)
+                for v in set(re.findall(r"λ ([a-z])\. ", seg)):
+                    if len(fs) == 1:
+                        new = re.sub(rf"\b{v}\.1(?![.\d])", f"{v}.{fs[0]}-is", new)
+                    else:
+                        for j, f in enumerate(fs):
+                            pat = "1" + ".1" * j + ("" if j == len(fs) - 1 else ".0")
+                            new = re.sub(rf"\b{v}\.{re.escape(pat)}(?![.\d])", f"{v}.{f}-is", new)
+                t = t[:k] + new + t[k + e.start() :]
+        return t
 
     def shape_place(self, shape):
         return None
 
-    def body(self, text, env):
+    def body(self, text, env, target=None):
         """A term: `let x = path in` gives x a place."""
         env = dict(env)
         res, pos = "", 0
+        cut = []
         let = re.compile(rf"\blet ({WORD}) = ")
         for m in let.finditer(text):
             # up to the ` in`
@@ -497,13 +607,21 @@ class File:
                 elif depth == 0 and re.match(r"\sin\b", text[j:]):
                     break
                 j += 1
-            kind = self.kind_of(text[m.end() : j], env)
+            term = text[m.end() : j]
+            kind = self.kind_of(term, env)
             if kind is not None:
                 env[m[1]] = kind
+                q = re.match(rf"^({WORD})((?:\.before)+)$", term.strip())
+                if q and env.get(q[1]) and env[q[1]][0] != "step" and kind[0] != "step":
+                    # a context has all that was before it
+                    env[m[1]] = (kind[0], env[q[1]][1])
+                    cut.append((m.end(), j, q[1]))
+        for a, b, v in reversed(cut):
+            text = text[:a] + v + text[b:]
         # binders with a type
         for a in re.finditer(rf"λ \(({WORD}) : tie\.({WORD})", text):
-            env[a[1]] = self.n.place(a[2])
-        return self.rewrite(self.types(text), env)
+            env[a[1]] = self.pair(self.n.place(a[2]))
+        return self.rewrite(self.types(text), env, target)
 
     def spec(self, t, needs):
         m = re.search(r"tie\.close\s*\(?\s*\(?tie\.spec", t)
@@ -561,7 +679,7 @@ class File:
                 _, at = self.n.needs.get(norm(y), (None, None))
                 q = re.match(r"^\(λ (\S+?)(?: (κs))?\. ", x)
                 if q and at:
-                    x = self.body(x, {q[1]: self.n.place(at)})
+                    x = self.body(x, {q[1]: (self.n.place(at), self.n.place(at))})
                 if y in self.kappa and q and not q[2]:
                     x = x.replace("λ c.", "λ c κs.", 1)
                 if y not in self.kappa and q and q[2]:
@@ -594,7 +712,7 @@ def main(argv):
         except OSError:
             print("nothing generated for", rel)
             continue
-        m = re.search(r"pub spec :\n(.*?)\n  spec =", tie, re.S)
+        m = re.search(r"pub spec :\s(.*?)\n  spec =", tie, re.S)
         spec_args = re.findall(r"\(answer : Need-(\S+?)(?: [^()]*)?\)", m[1]) if m else []
         kappa = set()
         for a in spec_args:
@@ -605,7 +723,12 @@ def main(argv):
             elif a.endswith("-requires") or re.search(r"-requires-\d+$|-requires-", a):
                 kappa.add(a)
         notes = []
+        if not spec_args:
+            print(rel + ": no goals are left, so no file")
+            os.remove(p)
+            continue
         f = File(text, Names(d[key]), spec_args, kappa, notes.append)
+        f.lts = lts
         try:
             new = f.turn()
         except Exception as e:

@@ -24,5 +24,6 @@ returns s e =
     let f = and_e (there a) (there b) g.0 in
     (other_bits w64 (neqb→ne _ _ f.0), other_bits w64 (neqb→ne _ _ f.1), other_bits w64 (neqb→ne _ _ g.1), other_bits w64 (neqb→ne _ _ h.1))
 
-pub all-there-spec : {M : Type 1} → statement M
-all-there-spec = tie.close (tie.spec returns)
+pub all_there_spec : {M : Type 1} → statement M
+all_there_spec = tie.close (tie.spec
+    returns)

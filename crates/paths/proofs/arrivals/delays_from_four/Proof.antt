@@ -15,21 +15,21 @@ use Rattle.paths.proofs.Lanes.{lane_room, lane-length}
 use Rattle.paths.proofs.Propagating.{pushable, Going, going_start, near, onward, ended}
 use Rattle.paths.proofs.Starting.{one_started, one_propagated}
 
-abbrev invariant-loop : tie.invariant-loop
+abbrev invariant-loop : tie.invariant-loop-p
 invariant-loop table order chain i f₀ n p₀ f p = (p ≤ n) × (length f ≡ length f₀) × (drop (n * 4) f ≡ drop (n * 4) f₀) × EachLane (λ l. Going n table order chain (lane n l f₀) (lane n l f) p)
 
-abbrev decreases-loop : tie.decreases-loop
+abbrev decreases-loop : tie.decreases-loop-p
 decreases-loop table order chain i f₀ n p₀ f p = n - p
 
-start-four-requires : tie.Need-start-four-requires invariant-loop decreases-loop
-start-four-requires c κs = let s = c.before.before in (s.requires.1.1.1, s.requires.1.1.0)
+start_four-requires : tie.Need-start_four-requires invariant-loop decreases-loop
+start_four-requires c κs = let s = c in (s.requires.1.1.1, s.requires.1.1.0)
 
-loop-holds : tie.Need-loop-init invariant-loop decreases-loop
-loop-holds c = (omega arith, refl, refl, λ l h. going_start _ _ _ _ _)
+loop-p-init : tie.Need-loop-p-init invariant-loop decreases-loop
+loop-p-init c = (omega arith, refl, refl, λ l h. going_start _ _ _ _ _)
 
 -- the lanes when the signals have started
-module _ (h : tie.At-loop invariant-loop decreases-loop) where
-  abbrev k : tie.After-start-four invariant-loop decreases-loop
+module _ (h : tie.At-loop-p invariant-loop decreases-loop) where
+  abbrev k : tie.After-start_four invariant-loop decreases-loop
   k = h.before.before
 
   abbrev s : tie.Start invariant-loop decreases-loop
@@ -42,130 +42,130 @@ module _ (h : tie.At-loop invariant-loop decreases-loop) where
   t = s.args.table.now
 
   abbrev f₀ : List ℤ
-  f₀ = k.start-four.last.0
+  f₀ = k.start_four.new.f
 
   few : n ≤ 90
-  few = s.pre.0.checked.lent.sized.few
+  few = s.requires.0.checked.lent.sized.few
 
   room : n * n ≤ length t
-  room = s.pre.0.checked.lent.room
+  room = s.requires.0.checked.lent.room
 
-  long : n * 4 ≤ length h.loop.f
-  long = omega (arith, s.pre.1.1.1, k.start-four.kept.0, h.loop.inv.1)
+  long : n * 4 ≤ length h.loop-p.f
+  long = omega (arith, s.requires.1.1.1, k.start_four.auto.f, h.loop-p.invariant.1)
 
   module _ (l : ℕ) (m : l < 4) where
     source : s.args.i + l < n
-    source = omega (arith, s.pre.1.1.0)
+    source = omega (arith, s.requires.1.1.0)
 
     space : n ≤ length (lane n l s.args.f.now)
-    space = omega (arith, lane-length n l s.args.f.now (lane_room n l 4 s.args.f.now m s.pre.1.1.1))
+    space = omega (arith, lane-length n l s.args.f.now (lane_room n l 4 s.args.f.now m s.requires.1.1.1))
 
     started : Started s.args.board t s.args.order.now (lane n l f₀)
-    started = subst (Started s.args.board t s.args.order.now) (sym (k.start-four.ensures.0 l m)) (one_started s.pre.0 (s.args.i + l) source (lane n l s.args.f.now) space)
+    started = subst (Started s.args.board t s.args.order.now) (sym (k.start_four.ensures.0 l m)) (one_started s.requires.0 (s.args.i + l) source (lane n l s.args.f.now) space)
 
 -- a turn
-module _ (i : tie.In-loop invariant-loop decreases-loop) where
-  abbrev h : tie.At-loop invariant-loop decreases-loop
+module _ (i : tie.In-loop-p invariant-loop decreases-loop) where
+  abbrev h : tie.At-loop-p invariant-loop decreases-loop
   h = i.before
 
   abbrev u : ℕ
-  u = get_or (s h).args.order.now h.loop.p 0
+  u = get_or (s h).args.order.now h.loop-p.p 0
 
   vertex : u < n h
-  vertex = ((s h).pre.0.order.vertex h.loop.p i.loop-test.taken).0
+  vertex = ((s h).requires.0.order.vertex h.loop-p.p i.loop-p-test.true).0
 
   row : n h * u + n h ≤ n h * n h
   row = row_in (n h) u vertex
 
-element-copy-out-u : tie.Need-element-copy-out-u invariant-loop decreases-loop
-element-copy-out-u c = omega (arith, c.loop-test.true, few (h c))
+bounds-order-p : tie.Need-bounds-order-p invariant-loop decreases-loop
+bounds-order-p c = omega (arith, c.loop-p-test.true, few (h c.before))
 
-cast-u : tie.Need-overflow-cast-u invariant-loop decreases-loop
-cast-u c = let i = c.before in omega (arith, vertex i, few (h i))
+overflow_cast-u : tie.Need-overflow_cast-u invariant-loop decreases-loop
+overflow_cast-u c = let i = c in omega (arith, vertex i.before.before, few (h i.before.before))
 
-mul_at : tie.Need-overflow-mul-at invariant-loop decreases-loop
-mul_at c = let i = c.before in omega (arith, row i, room (h i), vertex i, (s (h i)).good)
+overflow_mul-at : tie.Need-overflow_mul-at invariant-loop decreases-loop
+overflow_mul-at c = let i = c in omega (arith, row i.before.before, room (h i.before.before), vertex i.before.before, (s (h i.before.before)).well_formed)
 
-mul-push-each : tie.Need-overflow-mul-push-each invariant-loop decreases-loop
-mul-push-each c = let i = c.before in omega (arith, row i, room (h i), vertex i, (s (h i)).good)
+offset_bounds-table-at : tie.Need-offset_bounds-table-at invariant-loop decreases-loop
+offset_bounds-table-at c = let i = c in omega (arith, row i.before.before, room (h i.before.before), vertex i.before.before, (s (h i.before.before)).well_formed)
 
-sub-push-each : tie.Need-overflow-sub-push-each invariant-loop decreases-loop
-sub-push-each c = let i = c.before in omega (arith, row i, room (h i), vertex i)
+slice_bounds-push_each-count : tie.Need-slice_bounds-push_each-count invariant-loop decreases-loop
+slice_bounds-push_each-count c = let i = c in omega (arith, row i.before.before, room (h i.before.before), vertex i.before.before)
 
-part-push-each-start : tie.Need-slice-bounds-push-each-start invariant-loop decreases-loop
-part-push-each-start c = let i = c.before in omega (arith, row i, room (h i), vertex i)
+slice_bounds-push_each-start : tie.Need-slice_bounds-push_each-start invariant-loop decreases-loop
+slice_bounds-push_each-start c = let i = c in omega (arith, row i.before.before, room (h i.before.before), vertex i.before.before)
 
-sub-push-each-2 : tie.Need-overflow-sub-push-each-2 invariant-loop decreases-loop
-sub-push-each-2 c = let i = c.before.before in omega (arith, row i, (s (h i)).pre.1.0.room)
+slice_bounds-push_each-count-in-loop-p : tie.Need-slice_bounds-push_each-count-in-loop-p invariant-loop decreases-loop
+slice_bounds-push_each-count-in-loop-p c = let i = c in omega (arith, row i.before.before.before, (s (h i.before.before.before)).requires.1.0.room)
 
-part-push-each-start-2 : tie.Need-slice-bounds-push-each-start-2 invariant-loop decreases-loop
-part-push-each-start-2 c = let i = c.before.before in omega (arith, row i, (s (h i)).pre.1.0.room)
+slice_bounds-push_each-start-in-loop-p : tie.Need-slice_bounds-push_each-start-in-loop-p invariant-loop decreases-loop
+slice_bounds-push_each-start-in-loop-p c = let i = c in omega (arith, row i.before.before.before, (s (h i.before.before.before)).requires.1.0.room)
 
-push-each-requires : tie.Need-push-each-requires invariant-loop decreases-loop
-push-each-requires c κs =
-    let i = c.before.before.before.before in
-    let a = h i in
+push_each-requires : tie.Need-push_each-requires invariant-loop decreases-loop
+push_each-requires c κs =
+    let i = c in
+    let a = h i.before.before.before.before.before in
     let b = s a in (
-      pushable b.pre.0 b.pre.1.0 (u i) (vertex i) a.loop.f (omega (arith, long a)),
-      (vertex i, (long a, λ l m. near (started a l m) b.pre.1.0 (a.loop.inv.3 l m) i.loop-test.true)),
+      pushable b.requires.0 b.requires.1.0 (u i.before.before.before.before.before) (vertex i.before.before.before.before.before) a.loop-p.f (omega (arith, long a)),
+      (vertex i.before.before.before.before.before, (long a, λ l m. near (started a l m) b.requires.1.0 (a.loop-p.invariant.3 l m) i.loop-p-test.true)),
     )
 
-abbrev turn-of : tie.After-f2 invariant-loop decreases-loop → tie.In-loop invariant-loop decreases-loop
-turn-of c = c.before.before.before.before.before.before
+abbrev turn_of : tie.After-f-in-loop-p-1 invariant-loop decreases-loop → tie.In-loop-p invariant-loop decreases-loop
+turn_of c = c.before.before.before.before.before.before.before
 
-add-p : tie.Need-overflow-add-p invariant-loop decreases-loop
-add-p c = let i = turn-of c in omega (arith, i.loop-test.taken, few (h i))
+overflow_add-p : tie.Need-overflow_add-p invariant-loop decreases-loop
+overflow_add-p c = let i = turn_of c in omega (arith, i.loop-p-test.true, few (h i))
 
-loop-less : tie.Need-loop-smaller invariant-loop decreases-loop
-loop-less c = let i = turn-of c in omega (arith, i.loop-test.taken)
+loop-p-smaller : tie.Need-loop-p-smaller invariant-loop decreases-loop
+loop-p-smaller c = let i = turn_of c in omega (arith, i.loop-p-test.true)
 
-loop-again : tie.Need-loop-preserved invariant-loop decreases-loop
-loop-again c =
-    let i = turn-of c in
+loop-p-preserved : tie.Need-loop-p-preserved invariant-loop decreases-loop
+loop-p-preserved c =
+    let i = turn_of c in
     let a = h i in
-    let q = c.before.push-each in
-    let f' = q.new.1.1.0 in (
-      omega (arith, i.loop-test.taken),
-      q.auto.1.1.0 ∙ a.loop.inv.1,
-      q.ensures.1 ∙ a.loop.inv.2,
-      λ l m. onward (started a l m) (s a).pre.1.0 (a.loop.inv.3 l m) i.loop-test.taken (lane (n a) l f')
-          (lane-length (n a) l f' (lane_room (n a) l 4 f' m (omega (arith, long a, q.auto.1.1.0))) ∙ sym (lane-length (n a) l a.loop.f (lane_room (n a) l 4 a.loop.f m (long a)))) (q.ensures.0 l m),
+    let q = c.push_each in
+    let f' = q.new.f in (
+      omega (arith, i.loop-p-test.true),
+      q.auto.f ∙ a.loop-p.invariant.1,
+      q.ensures.1 ∙ a.loop-p.invariant.2,
+      λ l m. onward (started a l m) (s a).requires.1.0 (a.loop-p.invariant.3 l m) i.loop-p-test.true (lane (n a) l f')
+          (lane-length (n a) l f' (lane_room (n a) l 4 f' m (omega (arith, long a, q.auto.f))) ∙ sym (lane-length (n a) l a.loop-p.f (lane_room (n a) l 4 a.loop-p.f m (long a)))) (q.ensures.0 l m),
     )
 
-same_length : tie.Need-same-length invariant-loop decreases-loop
-same_length c = c.before.loop.invariant.1 ∙ (k c.before).start-four.kept.0
+shape_of-f : tie.Need-shape_of-f invariant-loop decreases-loop
+shape_of-f c = c.loop-p.invariant.1 ∙ (k c.before).start_four.auto.f
 
 returns : tie.Need-returns invariant-loop decreases-loop
 returns c =
-    let a = c.before in
-    let b = s a in (
-      λ l m. ended (started a l m) b.pre.1.0 (a.loop.invariant.3 l m) (omega (arith, a.loop.invariant.0, c.loop-test.false))
-          ∙ ap (λ (x : List ℤ). filled (n a) (propagated (n a) (graph_of (n a) (t a)) (arrival_in x)) x) ((k a).start-four.ensures.0 l m)
-          ∙ one_propagated b.pre.0 (b.args.i + l) (source a l m) (lane (n a) l b.args.f.now) (space a l m),
-      a.loop.invariant.2 ∙ (k a).start-four.ensures.1,
+    let a = c in
+    let b = s a.before in (
+      λ l m. ended (started a.before l m) b.requires.1.0 (a.loop-p.invariant.3 l m) (omega (arith, a.loop-p.invariant.0, c.loop-p-test.false))
+          ∙ ap (λ (x : List ℤ). filled (n a.before) (propagated (n a.before) (graph_of (n a.before) (t a.before)) (arrival_in x)) x) ((k a.before).start_four.ensures.0 l m)
+          ∙ one_propagated b.requires.0 (b.args.i + l) (source a.before l m) (lane (n a.before) l b.args.f.now) (space a.before l m),
+      a.loop-p.invariant.2 ∙ (k a.before).start_four.ensures.1,
     )
 
-pub delays-from-four-spec : {M : Type 1} → statement M
-delays-from-four-spec =
+pub delays_from_four_spec : {M : Type 1} → statement M
+delays_from_four_spec =
     tie.close
     (tie.spec
     invariant-loop
     decreases-loop
-    start-four-requires
-    loop-holds
-    element-copy-out-u
-    cast-u
-    mul_at
-    mul-push-each
-    sub-push-each
-    part-push-each-start
+    start_four-requires
+    loop-p-init
+    bounds-order-p
+    overflow_cast-u
+    overflow_mul-at
+    offset_bounds-table-at
+    slice_bounds-push_each-count
+    slice_bounds-push_each-start
     (λ c. omega arith)
-    sub-push-each-2
-    part-push-each-start-2
+    slice_bounds-push_each-count-in-loop-p
+    slice_bounds-push_each-start-in-loop-p
     (λ c. omega arith)
-    push-each-requires
-    add-p
-    loop-less
-    loop-again
-    same_length
+    push_each-requires
+    overflow_add-p
+    loop-p-smaller
+    loop-p-preserved
+    shape_of-f
     returns)

@@ -10,13 +10,17 @@ use Rattle.timing.specs.Limits.{absent_wide}
 use Rattle.paths.proofs.arrivals.from_list.Statement.{statement}
 use Rattle.paths.proofs.arrivals.from_list.Tie as tie
 
+returns-then-v-inputs : tie.Need-returns-then-v-inputs
+returns-then-v-inputs c = let s = c in sym (ap (λ (b : Bool). cond b (get_or s.args.inputs.now s.args.v (pos 0)) absent_wide) (le-ltb _ _ c.if-v-inputs.true))
+
 returns : tie.Need-returns
-returns c = let s = c.before in sym (ap (λ (b : Bool). cond b (get_or s.args.inputs.now s.args.v (pos 0)) absent_wide) (le-ltb _ _ c.if1.true))
+returns c =
+    let s = c in
+    back w64 _ c.result-1.given ∙ sym (ap (λ (b : Bool). cond b (get_or s.args.inputs.now s.args.v (pos 0)) absent_wide) (lt-ltb _ _ c.if-v-inputs.false))
 
-returns-2 : tie.Need-returns-2
-returns-2 c =
-    let s = c.before.before in
-    back w64 _ c.result.given ∙ sym (ap (λ (b : Bool). cond b (get_or s.args.inputs.now s.args.v (pos 0)) absent_wide) (lt-ltb _ _ c.before.if1.false))
-
-pub from-list-spec : {M : Type 1} → statement M
-from-list-spec = tie.close (tie.spec returns (λ c. search rules) (λ c. search rules) returns-2)
+pub from_list_spec : {M : Type 1} → statement M
+from_list_spec = tie.close (tie.spec
+    returns-then-v-inputs
+    (λ c. search rules)
+    (λ c. search rules)
+    returns)

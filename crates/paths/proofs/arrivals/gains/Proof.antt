@@ -8,13 +8,13 @@ use Rattle.paths.proofs.Later.{sum_fits, compared}
 use Rattle.paths.proofs.arrivals.gains.Statement.{statement}
 use Rattle.paths.proofs.arrivals.gains.Tie as tie
 
-cast-result : tie.Need-overflow-cast-result
-cast-result s =
+overflow_cast-result : tie.Need-overflow_cast-result
+overflow_cast-result s =
     let f = s.ranges.cell in
     simp to_z-of_z (omega zneeds)
 
-add-result : tie.Need-overflow-add-result
-add-result s =
+overflow_add-result : tie.Need-overflow_add-result
+overflow_add-result s =
     let fa = s.ranges.a in
     let fd = s.ranges.cell in
     simp (to_z-of_z, widens) (sum_fits s.args.a s.args.cell s.requires.0 s.requires.1.1 s.requires.1.0)
@@ -25,5 +25,8 @@ returns s =
     let e = sum_back s.ranges.a s.ranges.cell (sum_fits s.args.a s.args.cell s.requires.0 s.requires.1.1 s.requires.1.0) in
     subst (Gains s.args.best s.args.a s.args.cell) (sym (ap₂ lt_z (to_z-of_z fb) e)) (compared s.args.a s.args.cell s.requires.0 s.requires.1.1 s.requires.1.0 s.args.best)
 
-pub gains-spec : {M : Type 1} → statement M
-gains-spec = tie.close (tie.spec cast-result add-result returns)
+pub gains_spec : {M : Type 1} → statement M
+gains_spec = tie.close (tie.spec
+    overflow_cast-result
+    overflow_add-result
+    returns)

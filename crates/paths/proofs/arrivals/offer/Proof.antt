@@ -17,15 +17,15 @@ use Rattle.paths.proofs.Later.{sum_fits}
 use Rattle.paths.proofs.arrivals.offer.Statement.{statement}
 use Rattle.paths.proofs.arrivals.offer.Tie as tie
 
-mul-gains : tie.Need-overflow-mul-gains
-mul-gains s = omega (arith, s.requires.0, s.well-formed)
+offset_bounds-f-x : tie.Need-offset_bounds-f-x
+offset_bounds-f-x s = omega (arith, s.requires.0, s.well_formed)
 
-slice-copy-out-gains : tie.Need-slice-copy-out-gains
-slice-copy-out-gains s = s.requires.0
+slice_copy_out-gains : tie.Need-slice_copy_out-gains
+slice_copy_out-gains s = s.requires.0
 
 gains-requires : tie.Need-gains-requires
 gains-requires c κs =
-    let s = c.before in (
+    let s = c in (
       subst Reached (sym (to_z-of_z s.ranges.a)) s.requires.1.0,
       (subst (λ (z : ℤ). z ≢ absent_cell) (sym (to_z-of_z s.ranges.cell)) s.requires.1.1.0, subst (λ (z : ℤ). T (fits delay_limit (read_cell absent_cell z))) (sym (to_z-of_z s.ranges.cell)) s.requires.1.1.1),
     )
@@ -34,53 +34,53 @@ sum : (s : tie.Start) → SFits w64 (s.args.a +ℤ s.args.cell)
 sum s = sum_fits s.args.a s.args.cell s.requires.1.0 s.requires.1.1.1 s.requires.1.1.0
 
 -- what the call says, of the numbers themselves
-said : (c : tie.After-gains) → let s = c.before.before in Gains (get_or s.args.f.now s.args.x (pos 0)) s.args.a s.args.cell c.gains.result
+said : (c : tie.After-gains) → let s = c in Gains (get_or s.args.f.now s.args.x (pos 0)) s.args.a s.args.cell c.gains.result
 said c =
-    let s = c.before.before in
-    subst (λ (z : ℤ). Gains z s.args.a s.args.cell c.gains.result) (back w64 _ c.before.gains-arg.given)
+    let s = c in
+    subst (λ (z : ℤ). Gains z s.args.a s.args.cell c.gains.result) (back w64 _ c.gains-arg-1.given)
     (subst (λ (z : ℤ). Gains (to_z w64 (of_z w64 (get_or s.args.f.now s.args.x (pos 0)))) z s.args.cell c.gains.result) (to_z-of_z s.ranges.a)
     (subst (λ (z : ℤ). Gains (to_z w64 (of_z w64 (get_or s.args.f.now s.args.x (pos 0)))) (to_z w64 (of_z w64 s.args.a)) z c.gains.result) (to_z-of_z s.ranges.cell) c.gains.ensures))
 
-cast_f : tie.Need-overflow-cast-f
-cast_f c = let s = c.before.before.before in subst (SFits w64) (sym (to_z-of_z s.ranges.cell)) (widens s.ranges.cell)
+overflow_cast-f : tie.Need-overflow_cast-f
+overflow_cast-f c = let s = c in subst (SFits w64) (sym (to_z-of_z s.ranges.cell)) (widens s.ranges.cell)
 
-add-f : tie.Need-overflow-add-f
-add-f c =
-    let s = c.before.before.before in
+overflow_add-f : tie.Need-overflow_add-f
+overflow_add-f c =
+    let s = c in
     let fa = s.ranges.a in
     let fd = s.ranges.cell in
-    simp (to_z-of_z, widens) (sum s)
+    simp (to_z-of_z, widens) (sum s.before.before.before)
 
-mul-t11 : tie.Need-overflow-mul-t11
-mul-t11 c = let s = c.before.before.before in omega (arith, s.requires.0, s.well-formed)
+offset_bounds-f-x-then-gains : tie.Need-offset_bounds-f-x-then-gains
+offset_bounds-f-x-then-gains c = let s = c in omega (arith, s.requires.0, s.well_formed)
 
-slice-set-from-f : tie.Need-slice-set-from-f
-slice-set-from-f c = c.before.before.before.requires.0
+bounds-f-x : tie.Need-bounds-f-x
+bounds-f-x c = c.requires.0
 
-same_length : tie.Need-same-length
-same_length c = search rules
+shape_of-f : tie.Need-shape_of-f
+shape_of-f c = search rules
 
-returns : tie.Need-returns
-returns c =
-    let s = c.before.before.before in record {
-      here = ap (read_cell absent_wide) (get_or-set_same s.args.f.now s.args.x _ (pos 0) s.requires.0 ∙ sum_back s.ranges.a s.ranges.cell (sum s)) ∙ ((said c.before).later c.if1.true).1;
+returns-then-gains : tie.Need-returns-then-gains
+returns-then-gains c =
+    let s = c in record {
+      here = ap (read_cell absent_wide) (get_or-set_same s.args.f.now s.args.x _ (pos 0) s.requires.0 ∙ sum_back s.ranges.a s.ranges.cell (sum s.before.before.before)) ∙ ((said c.before).later c.if-gains.true).1;
       others = λ y ne. get_or-set_other s.args.f.now s.args.x y _ (pos 0) ne;
     }
 
-returns-2 : tie.Need-returns-2
-returns-2 c = record { here = (said c.before).not_later c.if1.false; others = λ y ne. refl }
+returns-else-gains : tie.Need-returns-else-gains
+returns-else-gains c = record { here = (said c.before).not_later c.if-gains.false; others = λ y ne. refl }
 
-pub offer-spec : {M : Type 1} → statement M
-offer-spec =
+pub offer_spec : {M : Type 1} → statement M
+offer_spec =
     tie.close
     (tie.spec
-    mul-gains
-    slice-copy-out-gains
+    offset_bounds-f-x
+    slice_copy_out-gains
     gains-requires
-    cast_f
-    add-f
-    mul-t11
-    slice-set-from-f
-    same_length
-    returns
-    returns-2)
+    overflow_cast-f
+    overflow_add-f
+    offset_bounds-f-x-then-gains
+    bounds-f-x
+    shape_of-f
+    returns-then-gains
+    returns-else-gains)

@@ -8,17 +8,17 @@ use lib.ListN.{length, get_or}
 use Rattle.laws.proofs.Grid.{row_in}
 use Rattle.paths.proofs.Propagating.{pushable, Going, going_start, x_in, near, onward, ended}
 
-abbrev invariant-loop : tie.invariant-loop
+abbrev invariant-loop : tie.invariant-loop-p
 invariant-loop table list chain f₀ n p₀ f p = Going n table list chain f₀ f p
 
-abbrev decreases-loop : tie.decreases-loop
+abbrev decreases-loop : tie.decreases-loop-p
 decreases-loop table list chain f₀ n p₀ f p = n - p
 
-loop-holds : tie.Need-loop-init invariant-loop decreases-loop
-loop-holds c = going_start _ _ _ _ _
+loop-p-init : tie.Need-loop-p-init invariant-loop decreases-loop
+loop-p-init c = going_start _ _ _ _ _
 
 -- a turn
-module _ (c : tie.In-loop invariant-loop decreases-loop) where
+module _ (c : tie.In-loop-p invariant-loop decreases-loop) where
   abbrev start : tie.Start invariant-loop decreases-loop
   start = c.before.before.before
 
@@ -29,95 +29,95 @@ module _ (c : tie.In-loop invariant-loop decreases-loop) where
   t = start.args.table.now
 
   abbrev u : ℕ
-  u = get_or start.args.order.now c.before.loop.p 0
+  u = get_or start.args.order.now c.loop-p.p 0
 
   few : n ≤ 90
-  few = start.pre.0.passable.checked.lent.sized.few
+  few = start.requires.0.passable.checked.lent.sized.few
 
   room : n * n ≤ length t
-  room = start.pre.0.passable.checked.lent.room
+  room = start.requires.0.passable.checked.lent.room
 
   vertex : u < n
-  vertex = x_in start.pre.0 start.pre.1 c.before.loop.invariant c.loop-test.true
+  vertex = x_in start.requires.0 start.requires.1 c.loop-p.invariant c.loop-p-test.true
 
   row : n * u + n ≤ n * n
   row = row_in n u vertex
 
-element-copy-out-u : tie.Need-element-copy-out-u invariant-loop decreases-loop
-element-copy-out-u c = omega (arith, few c)
+bounds-order-p : tie.Need-bounds-order-p invariant-loop decreases-loop
+bounds-order-p c = omega (arith, few c.before)
 
-cast-u : tie.Need-overflow-cast-u invariant-loop decreases-loop
-cast-u c = omega (arith, vertex c.before, few c.before)
+overflow_cast-u : tie.Need-overflow_cast-u invariant-loop decreases-loop
+overflow_cast-u c = omega (arith, vertex c.before.before, few c.before.before)
 
-mul_at : tie.Need-overflow-mul-at invariant-loop decreases-loop
-mul_at c = let i = c.before in omega (arith, row i, room i, vertex i, (start i).well-formed)
+overflow_mul-at : tie.Need-overflow_mul-at invariant-loop decreases-loop
+overflow_mul-at c = let i = c in omega (arith, row i.before.before, room i.before.before, vertex i.before.before, (start i.before.before).well_formed)
 
-mul-push-from : tie.Need-overflow-mul-push-from invariant-loop decreases-loop
-mul-push-from c = let i = c.before in omega (arith, row i, room i, vertex i)
+offset_bounds-table-at : tie.Need-offset_bounds-table-at invariant-loop decreases-loop
+offset_bounds-table-at c = let i = c in omega (arith, row i.before.before, room i.before.before, vertex i.before.before)
 
-sub-push-from : tie.Need-overflow-sub-push-from invariant-loop decreases-loop
-sub-push-from c = let i = c.before in omega (arith, row i, room i, vertex i)
+slice_bounds-push_from-count : tie.Need-slice_bounds-push_from-count invariant-loop decreases-loop
+slice_bounds-push_from-count c = let i = c in omega (arith, row i.before.before, room i.before.before, vertex i.before.before)
 
-part-push-from-start : tie.Need-slice-bounds-push-from-start invariant-loop decreases-loop
-part-push-from-start c = let i = c.before in omega (arith, row i, room i, vertex i)
+slice_bounds-push_from-start : tie.Need-slice_bounds-push_from-start invariant-loop decreases-loop
+slice_bounds-push_from-start c = let i = c in omega (arith, row i.before.before, room i.before.before, vertex i.before.before)
 
-sub-push-from-2 : tie.Need-overflow-sub-push-from-2 invariant-loop decreases-loop
-sub-push-from-2 c = let i = c.before.before in omega (arith, row i, (start i).requires.1.room)
+slice_bounds-push_from-count-in-loop-p : tie.Need-slice_bounds-push_from-count-in-loop-p invariant-loop decreases-loop
+slice_bounds-push_from-count-in-loop-p c = let i = c in omega (arith, row i.before.before.before, (start i.before.before.before).requires.1.room)
 
-part-push-from-start-2 : tie.Need-slice-bounds-push-from-start-2 invariant-loop decreases-loop
-part-push-from-start-2 c = let i = c.before.before in omega (arith, row i, (start i).requires.1.room)
+slice_bounds-push_from-start-in-loop-p : tie.Need-slice_bounds-push_from-start-in-loop-p invariant-loop decreases-loop
+slice_bounds-push_from-start-in-loop-p c = let i = c in omega (arith, row i.before.before.before, (start i.before.before.before).requires.1.room)
 
-push-from-requires : tie.Need-push-from-requires invariant-loop decreases-loop
-push-from-requires c κs =
-    let i = c.before.before.before.before in
-    let s = start i in
-    let l = i.before in (
-      pushable s.pre.0.passable s.pre.1 (u i) (vertex i) l.loop.f (omega (arith, l.loop.invariant.size, s.pre.0.room)),
-      (vertex i, near s.pre.0 s.pre.1 l.loop.invariant i.loop-test.true),
+push_from-requires : tie.Need-push_from-requires invariant-loop decreases-loop
+push_from-requires c κs =
+    let i = c in
+    let s = start i.before.before.before.before.before in
+    let l = i in (
+      pushable s.requires.0.passable s.requires.1 (u i.before.before.before.before.before) (vertex i.before.before.before.before.before) l.loop-p.f (omega (arith, l.loop-p.invariant.size, s.requires.0.room)),
+      (vertex i.before.before.before.before.before, near s.requires.0 s.requires.1 l.loop-p.invariant i.loop-p-test.true),
     )
 
-abbrev turn-of : tie.After-f invariant-loop decreases-loop → tie.In-loop invariant-loop decreases-loop
-turn-of c = c.before.before.before.before.before.before
+abbrev turn_of : tie.After-f-1 invariant-loop decreases-loop → tie.In-loop-p invariant-loop decreases-loop
+turn_of c = c.before.before.before.before.before.before.before
 
-add-p : tie.Need-overflow-add-p invariant-loop decreases-loop
-add-p c = let i = turn-of c in omega (arith, i.loop-test.taken, few i)
+overflow_add-p : tie.Need-overflow_add-p invariant-loop decreases-loop
+overflow_add-p c = let i = turn_of c in omega (arith, i.loop-p-test.true, few i)
 
-loop-less : tie.Need-loop-smaller invariant-loop decreases-loop
-loop-less c = let i = turn-of c in omega (arith, i.loop-test.taken)
+loop-p-smaller : tie.Need-loop-p-smaller invariant-loop decreases-loop
+loop-p-smaller c = let i = turn_of c in omega (arith, i.loop-p-test.true)
 
-loop-again : tie.Need-loop-preserved invariant-loop decreases-loop
-loop-again c =
-    let i = turn-of c in
+loop-p-preserved : tie.Need-loop-p-preserved invariant-loop decreases-loop
+loop-p-preserved c =
+    let i = turn_of c in
     let s = start i in
-    let k = c.before.push-from in
-    onward s.pre.0 s.pre.1 i.before.loop.inv i.loop-test.taken k.new.1.1.0 k.auto.1.1.0 k.ensures
+    let k = c.push_from in
+    onward s.requires.0 s.requires.1 i.loop-p.invariant i.loop-p-test.true k.new.f k.auto.f k.ensures
 
-same_length : tie.Need-same-length invariant-loop decreases-loop
-same_length c = c.before.loop.invariant.size
+shape_of-f : tie.Need-shape_of-f invariant-loop decreases-loop
+shape_of-f c = c.loop-p.invariant.size
 
 returns : tie.Need-returns invariant-loop decreases-loop
-returns c = ended c.before.before.before.requires.0 c.before.before.before.requires.1 c.before.loop.invariant (omega (arith, c.before.loop.invariant.upto, c.loop-test.false))
+returns c = ended c.requires.0 c.requires.1 c.loop-p.invariant (omega (arith, c.loop-p.invariant.upto, c.loop-p-test.false))
 
-pub propagate-spec : {M : Type 1} → statement M
-propagate-spec =
+pub propagate_spec : {M : Type 1} → statement M
+propagate_spec =
     tie.close
     (tie.spec
     invariant-loop
     decreases-loop
-    loop-holds
-    element-copy-out-u
-    cast-u
-    mul_at
-    mul-push-from
-    sub-push-from
-    part-push-from-start
+    loop-p-init
+    bounds-order-p
+    overflow_cast-u
+    overflow_mul-at
+    offset_bounds-table-at
+    slice_bounds-push_from-count
+    slice_bounds-push_from-start
     (λ c. omega arith)
-    sub-push-from-2
-    part-push-from-start-2
+    slice_bounds-push_from-count-in-loop-p
+    slice_bounds-push_from-start-in-loop-p
     (λ c. omega arith)
-    push-from-requires
-    add-p
-    loop-less
-    loop-again
-    same_length
+    push_from-requires
+    overflow_add-p
+    loop-p-smaller
+    loop-p-preserved
+    shape_of-f
     returns)

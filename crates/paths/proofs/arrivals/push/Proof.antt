@@ -24,142 +24,142 @@ use Rattle.paths.proofs.Walked.{walked_is, walked_there, walked-first}
 use Rattle.paths.proofs.Chaining.{along_start, along_turn, along_keep}
 use Rattle.paths.proofs.Offering.{idle, Offering, all_offered}
 
-abbrev invariant-loop : tie.invariant-loop
+abbrev invariant-loop : tie.invariant-loop-v
 invariant-loop row chain a f₀ n v₀ f v = Offering n row chain (to_z w64 a) f₀ f v
 
-abbrev decreases-loop : tie.decreases-loop
+abbrev decreases-loop : tie.decreases-loop-v
 decreases-loop row chain a f₀ n v₀ f v = n - v
 
-shared-slice-read-v : tie.Need-shared-slice-read-v invariant-loop decreases-loop
-shared-slice-read-v c = let p = c.before.before.requires.1 in omega (arith, p.some, p.chain_room)
+bounds-chain-0 : tie.Need-bounds-chain-0 invariant-loop decreases-loop
+bounds-chain-0 c = let p = c.requires.1 in omega (arith, p.some, p.chain_room)
 
-cast-v : tie.Need-overflow-cast-v invariant-loop decreases-loop
-cast-v c = let p = c.before.before.requires.1 in omega (arith, (p.chain.on 0 p.some).1, p.few)
+overflow_cast-v : tie.Need-overflow_cast-v invariant-loop decreases-loop
+overflow_cast-v c = let p = c.requires.1 in omega (arith, (p.chain.on 0 p.some).1, p.few)
 
-loop-holds : tie.Need-loop-init invariant-loop decreases-loop
-loop-holds c =
-    let b = c.before.before in
+loop-v-init : tie.Need-loop-v-init invariant-loop decreases-loop
+loop-v-init c =
+    let b = c in
     along_start b.requires.1.chain b.args.f.now (idle (walked_at b.args.row.now b.args.chain.now) _ b.args.f.now b.args.n) b.requires.1.some (walked-first b.requires.1.chain (cell_at b.args.row.now) b.requires.1.some)
 
 -- a turn
-module _ (t : tie.In-loop invariant-loop decreases-loop) where
-  abbrev head : tie.At-loop invariant-loop decreases-loop
+module _ (t : tie.In-loop-v invariant-loop decreases-loop) where
+  abbrev head : tie.At-loop-v invariant-loop decreases-loop
   head = t.before
 
   abbrev s : tie.Start invariant-loop decreases-loop
   s = head.before.before.before
 
   abbrev v : ℕ
-  v = head.loop.v
+  v = head.loop-v.v
 
-  in-n : v < 90
-  in-n = omega (arith, t.loop-test.taken, s.pre.1.few)
+  in_n : v < 90
+  in_n = omega (arith, t.loop-v-test.true, s.requires.1.few)
 
-  in_f : v < length head.loop.f
-  in_f = omega (arith, t.loop-test.taken, s.pre.1.room, head.loop.inv.stored.size)
+  in_f : v < length head.loop-v.f
+  in_f = omega (arith, t.loop-v-test.true, s.requires.1.room, head.loop-v.invariant.stored.size)
 
   abbrev row : ℕ → Delay
   row = walked_at s.args.row.now s.args.chain.now
 
   -- the arc is in the row
   row_is : row v ≡ cell_at s.args.row.now v
-  row_is = walked_is (λ j. get_or s.args.chain.now j 0) (cell_at s.args.row.now) v (head.loop.inv.arc t.loop-test.taken)
+  row_is = walked_is (λ j. get_or s.args.chain.now j 0) (cell_at s.args.row.now) v (head.loop-v.invariant.arc t.loop-v-test.true)
 
-  cell-there : get_or s.args.row.now v (pos 0) ≢ absent_cell
-  cell-there = walked_there (λ j. get_or s.args.chain.now j 0) s.args.row.now v (head.loop.inv.arc t.loop-test.taken)
+  cell_there : get_or s.args.row.now v (pos 0) ≢ absent_cell
+  cell_there = walked_there (λ j. get_or s.args.chain.now j 0) s.args.row.now v (head.loop-v.invariant.arc t.loop-v-test.true)
 
-mul-d : tie.Need-overflow-mul-d invariant-loop decreases-loop
-mul-d c = omega (arith, in-n c)
+offset_bounds-row-v : tie.Need-offset_bounds-row-v invariant-loop decreases-loop
+offset_bounds-row-v c = omega (arith, in_n c)
 
-shared-slice-copy-out-d : tie.Need-shared-slice-copy-out-d invariant-loop decreases-loop
-shared-slice-copy-out-d c = omega (arith, c.loop-test.true, (s c).requires.1.row_room)
+bounds-row-v : tie.Need-bounds-row-v invariant-loop decreases-loop
+bounds-row-v c = omega (arith, c.loop-v-test.true, (s c).requires.1.row_room)
 
-mul-gains : tie.Need-overflow-mul-gains invariant-loop decreases-loop
-mul-gains c = omega (arith, in-n c.before)
+offset_bounds-f-v : tie.Need-offset_bounds-f-v invariant-loop decreases-loop
+offset_bounds-f-v c = omega (arith, in_n c.before)
 
-slice-copy-out-gains : tie.Need-slice-copy-out-gains invariant-loop decreases-loop
-slice-copy-out-gains c = in_f c.before
+slice_copy_out-gains : tie.Need-slice_copy_out-gains invariant-loop decreases-loop
+slice_copy_out-gains c = in_f c.before
 
-module _ (g : tie.After-gains-arg invariant-loop decreases-loop) where
-  abbrev t : tie.In-loop invariant-loop decreases-loop
+module _ (g : tie.After-gains-arg-1 invariant-loop decreases-loop) where
+  abbrev t : tie.In-loop-v invariant-loop decreases-loop
   t = g.before.before
 
   abbrev cell : ℤ
   cell = get_or (s t).args.row.now (v t) (pos 0)
 
-  fits-d : SFits w32 cell
-  fits-d = record { sfits = g.before.d.given }
+  fits_d : SFits w32 cell
+  fits_d = record { sfits = g.d-1.given }
 
-  cell-is : to_z w32 (of_z w32 cell) ≡ cell
-  cell-is = to_z-of_z fits-d
+  cell_is : to_z w32 (of_z w32 cell) ≡ cell
+  cell_is = to_z-of_z fits_d
 
-  cell64-is : to_z w64 (of_z w64 (to_z w32 (of_z w32 cell))) ≡ cell
-  cell64-is = ap (λ (z : ℤ). to_z w64 (of_z w64 z)) cell-is ∙ to_z-of_z (widens fits-d)
+  cell64_is : to_z w64 (of_z w64 (to_z w32 (of_z w32 cell))) ≡ cell
+  cell64_is = ap (λ (z : ℤ). to_z w64 (of_z w64 z)) cell_is ∙ to_z-of_z (widens fits_d)
 
-  best-is : to_z w64 (of_z w64 (get_or (head t).loop.f (v t) (pos 0))) ≡ get_or (s t).args.f.now (v t) (pos 0)
-  best-is = back w64 _ g.gains-arg.given ∙ (head t).loop.inv.stored.left (v t) (omega arith)
+  best_is : to_z w64 (of_z w64 (get_or (head t).loop-v.f (v t) (pos 0))) ≡ get_or (s t).args.f.now (v t) (pos 0)
+  best_is = back w64 _ g.gains-arg-1.given ∙ (head t).loop-v.invariant.stored.left (v t) (omega arith)
 
   abbrev from : ℤ
   from = to_z w64 (of_z w64 (s t).args.a)
 
 gains-requires : tie.Need-gains-requires invariant-loop decreases-loop
 gains-requires c κs =
-    let u = t c in (subst Reached (sym (to_z-of_z (s u).fits.a)) (s u).pre.0, (subst (λ (z : ℤ). z ≢ absent_cell) (sym (cell-is c)) (cell-there u), subst (λ (z : ℤ). T (fits delay_limit (read_cell absent_cell z))) (sym (cell-is c)) ((s u).pre.1.near (v u) u.loop-test.taken)))
+    let u = t c in (subst Reached (sym (to_z-of_z (s u).ranges.a)) (s u).requires.0, (subst (λ (z : ℤ). z ≢ absent_cell) (sym (cell_is c)) (cell_there u), subst (λ (z : ℤ). T (fits delay_limit (read_cell absent_cell z))) (sym (cell_is c)) ((s u).requires.1.near (v u) u.loop-v-test.true)))
 
 -- what the call says, of the cells themselves
-said : (c : tie.After-gains invariant-loop decreases-loop) → let g = c.before in Gains (get_or (s (t g)).args.f.now (v (t g)) (pos 0)) (from g) (cell g) c.gains.result
+said : (c : tie.After-gains invariant-loop decreases-loop) → let g = c in Gains (get_or (s (t g.before)).args.f.now (v (t g.before)) (pos 0)) (from g.before) (cell g.before) c.gains.result
 said c =
-    let g = c.before in
-    subst (λ (z : ℤ). Gains z (from g) (cell g) c.gains.result) (best-is g)
-    (subst (λ (z : ℤ). Gains (to_z w64 (of_z w64 (get_or (head (t g)).loop.f (v (t g)) (pos 0)))) (from g) z c.gains.result) (cell-is g) c.gains.ensures)
+    let g = c in
+    subst (λ (z : ℤ). Gains z (from g.before) (cell g.before) c.gains.result) (best_is g.before)
+    (subst (λ (z : ℤ). Gains (to_z w64 (of_z w64 (get_or (head (t g.before)).loop-v.f (v (t g.before)) (pos 0)))) (from g.before) z c.gains.result) (cell_is g.before) c.gains.ensures)
 
-cast_f : tie.Need-overflow-cast-f invariant-loop decreases-loop
-cast_f c = let g = c.before.before in subst (SFits w64) (sym (cell-is g)) (widens (fits-d g))
+overflow_cast-f : tie.Need-overflow_cast-f invariant-loop decreases-loop
+overflow_cast-f c = let g = c in subst (SFits w64) (sym (cell_is g.before.before)) (widens (fits_d g.before.before))
 
-add-f : tie.Need-overflow-add-f invariant-loop decreases-loop
-add-f c = let g = c.before.before in subst (λ (z : ℤ). SFits w64 (from g +ℤ z)) (sym (cell64-is g)) ((said c.before).later c.if1.true).0
+overflow_add-f : tie.Need-overflow_add-f invariant-loop decreases-loop
+overflow_add-f c = let g = c in subst (λ (z : ℤ). SFits w64 (from g.before.before +ℤ z)) (sym (cell64_is g.before.before)) ((said c.before).later c.if-gains.true).0
 
-mul-t19 : tie.Need-overflow-mul-t19 invariant-loop decreases-loop
-mul-t19 c = omega (arith, in-n (t c.before.before))
+offset_bounds-f-v-then-gains : tie.Need-offset_bounds-f-v-then-gains invariant-loop decreases-loop
+offset_bounds-f-v-then-gains c = omega (arith, in_n (t c.before.before))
 
-slice-set-from-f : tie.Need-slice-set-from-f invariant-loop decreases-loop
-slice-set-from-f c = in_f (t c.before.before)
+bounds-f-v : tie.Need-bounds-f-v invariant-loop decreases-loop
+bounds-f-v c = in_f (t c.before.before)
 
-abbrev turn-of : tie.After-shared-slice-known3 invariant-loop decreases-loop → tie.In-loop invariant-loop decreases-loop
-turn-of c = t c.before.before.before
+abbrev turn_of : tie.After-shared_slice_known-in-loop-v-1 invariant-loop decreases-loop → tie.In-loop-v invariant-loop decreases-loop
+turn_of c = t c.before.before.before
 
-shared-slice-read-v-2 : tie.Need-shared-slice-read-v-2 invariant-loop decreases-loop
-shared-slice-read-v-2 c = let u = turn-of c in omega (arith, u.loop-test.taken, (s u).pre.1.chain_room)
+bounds-chain-v : tie.Need-bounds-chain-v invariant-loop decreases-loop
+bounds-chain-v c = let u = t c.before.before.before in omega (arith, u.loop-v-test.true, (s u).requires.1.chain_room)
 
-cast-v-2 : tie.Need-overflow-cast-v-2 invariant-loop decreases-loop
-cast-v-2 c = let u = turn-of c in omega (arith, ((s u).pre.1.chain.on (v u) u.loop-test.taken).1, (s u).pre.1.few)
+overflow_cast-v-in-loop-v : tie.Need-overflow_cast-v-in-loop-v invariant-loop decreases-loop
+overflow_cast-v-in-loop-v c = let u = turn_of c in omega (arith, ((s u).requires.1.chain.on (v u) u.loop-v-test.true).1, (s u).requires.1.few)
 
-loop-less : tie.Need-loop-smaller invariant-loop decreases-loop
-loop-less c = let u = turn-of c in omega (arith, u.loop-test.taken, (s u).pre.1.chain.on (v u) u.loop-test.taken)
+loop-v-smaller : tie.Need-loop-v-smaller invariant-loop decreases-loop
+loop-v-smaller c = let u = turn_of c in omega (arith, u.loop-v-test.true, (s u).requires.1.chain.on (v u) u.loop-v-test.true)
 
-loop-again : tie.Need-loop-preserved invariant-loop decreases-loop
-loop-again c =
-    let a = c.before.before in
-    let g = a.before in
-    let u = t g in
+loop-v-preserved : tie.Need-loop-v-preserved invariant-loop decreases-loop
+loop-v-preserved c =
+    let a = c in
+    let g = a in
+    let u = t g.before.before.before in
     let f₀ = (s u).args.f.now in
-    let still = idle (row u) (from g) f₀ (s u).args.n in
-    let on = ap (λ (d : Delay). arrival_in f₀ (v u) ⋓ (read_cell absent_wide (from g) ⊕ d)) (sym (row_is u)) in
+    let still = idle (row u) (from g.before.before.before) f₀ (s u).args.n in
+    let on = ap (λ (d : Delay). arrival_in f₀ (v u) ⋓ (read_cell absent_wide (from g.before.before.before) ⊕ d)) (sym (row_is u)) in
     let next = get_or (s u).args.chain.now (v u) 0 in
-    split c.before.if1.branch
-    (λ w. let y = (said a).later w.0.taken in
-    subst (λ (l : List ℤ). Offering (s u).args.n (s u).args.row.now (s u).args.chain.now (from g) f₀ l next) (sym w.1)
-    (along_turn (s u).pre.1.chain f₀ still (head u).loop.inv u.loop-test.taken (s u).pre.1.room _ (ap (read_cell absent_wide) (ap (λ (z : ℤ). to_z w64 (of_z w64 (from g +ℤ z))) (cell64-is g) ∙ to_z-of_z y.0) ∙ y.1 ∙ on)))
-    (λ w. subst (λ (l : List ℤ). Offering (s u).args.n (s u).args.row.now (s u).args.chain.now (from g) f₀ l next) (sym w.1)
-    (along_keep (s u).pre.1.chain f₀ still (head u).loop.inv u.loop-test.taken ((said a).not_later w.0.left ∙ on)))
+    split c.if-gains.branch-raw
+    (λ w. let y = (said a.before.before).later w.if-gains.true in
+    subst (λ (l : List ℤ). Offering (s u).args.n (s u).args.row.now (s u).args.chain.now (from g.before.before.before) f₀ l next) (sym w.f-is)
+    (along_turn (s u).requires.1.chain f₀ still (head u).loop-v.invariant u.loop-v-test.true (s u).requires.1.room _ (ap (read_cell absent_wide) (ap (λ (z : ℤ). to_z w64 (of_z w64 (from g.before.before.before +ℤ z))) (cell64_is g.before.before.before) ∙ to_z-of_z y.0) ∙ y.1 ∙ on)))
+    (λ w. subst (λ (l : List ℤ). Offering (s u).args.n (s u).args.row.now (s u).args.chain.now (from g.before.before.before) f₀ l next) (sym w.f-is)
+    (along_keep (s u).requires.1.chain f₀ still (head u).loop-v.invariant u.loop-v-test.true ((said a.before.before).not_later w.if-gains.false ∙ on)))
 
-same_length : tie.Need-same-length invariant-loop decreases-loop
-same_length c = c.before.loop.invariant.stored.size
+shape_of-f : tie.Need-shape_of-f invariant-loop decreases-loop
+shape_of-f c = c.loop-v.invariant.stored.size
 
 returns : tie.Need-returns invariant-loop decreases-loop
 returns c =
-    let l = c.before in
-    all_offered l.loop.invariant c.loop-test.false (to_z-of_z l.before.before.before.ranges.a)
+    let l = c in
+    all_offered l.loop-v.invariant c.loop-v-test.false (to_z-of_z l.ranges.a)
 
 pub push_spec : {M : Type 1} → statement M
 push_spec =
@@ -167,21 +167,21 @@ push_spec =
     (tie.spec
     invariant-loop
     decreases-loop
-    shared-slice-read-v
-    cast-v
-    loop-holds
-    mul-d
-    shared-slice-copy-out-d
-    mul-gains
-    slice-copy-out-gains
+    bounds-chain-0
+    overflow_cast-v
+    loop-v-init
+    offset_bounds-row-v
+    bounds-row-v
+    offset_bounds-f-v
+    slice_copy_out-gains
     gains-requires
-    cast_f
-    add-f
-    mul-t19
-    slice-set-from-f
-    shared-slice-read-v-2
-    cast-v-2
-    loop-less
-    loop-again
-    same_length
+    overflow_cast-f
+    overflow_add-f
+    offset_bounds-f-v-then-gains
+    bounds-f-v
+    bounds-chain-v
+    overflow_cast-v-in-loop-v
+    loop-v-smaller
+    loop-v-preserved
+    shape_of-f
     returns)

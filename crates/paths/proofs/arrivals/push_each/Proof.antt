@@ -22,10 +22,10 @@ use Rattle.paths.proofs.Propagating.{pushable_on, reached}
 abbrev From : ℕ → List ℤ → List ℕ → ℕ → ℕ → List ℤ → List ℤ → Type 0
 From n row c u l f₀ f = Pushed n row c (get_or f₀ u (pos 0)) f₀ f
 
-abbrev invariant-loop : tie.invariant-loop
+abbrev invariant-loop : tie.invariant-loop-l
 invariant-loop row chain f₀ u n a b c d l₀ f l = (l ≤ 4) × Lanes n (From n row chain u) f₀ f l
 
-abbrev decreases-loop : tie.decreases-loop
+abbrev decreases-loop : tie.decreases-loop-l
 decreases-loop row chain f₀ u n a b c d l₀ f l = 4 - l
 
 -- the four places
@@ -40,62 +40,62 @@ module _ (s : tie.Start invariant-loop decreases-loop) where
   f = s.args.f.now
 
   few : n ≤ 90
-  few = s.pre.0.few
+  few = s.requires.0.few
 
-  in-n : u < n
-  in-n = s.pre.1.0
+  in_n : u < n
+  in_n = s.requires.1.0
 
   room : n * 4 ≤ length f
-  room = s.pre.1.1.0
+  room = s.requires.1.1.0
 
   -- what is read there
   value : {z : ℤ} (l x : ℕ) → z ≡ get_or f x (pos 0) → x ≡ n * l + u → z ≡ get_or (lane n l f) u (pos 0)
-  value l x q e = q ∙ ap (λ (y : ℕ). get_or f y (pos 0)) e ∙ sym (lane_cell n l f u in-n)
+  value l x q e = q ∙ ap (λ (y : ℕ). get_or f y (pos 0)) e ∙ sym (lane_cell n l f u in_n)
 
   reach : (z : ℤ) (l : ℕ) → l < 4 → z ≡ get_or (lane n l f) u (pos 0) → z ≢ absent_wide → Reached z
-  reach z l h e ne = reached z ne (subst (λ (y : ℤ). T (fits reached_limit (read_cell absent_wide y))) (sym e) (s.pre.1.1.1 l h))
+  reach z l h e ne = reached z ne (subst (λ (y : ℤ). T (fits reached_limit (read_cell absent_wide y))) (sym e) (s.requires.1.1.1 l h))
 
-mul-a : tie.Need-overflow-mul-a invariant-loop decreases-loop
-mul-a c = let s = c.before in omega (arith, in-n s, few s)
+offset_bounds-f-u : tie.Need-offset_bounds-f-u invariant-loop decreases-loop
+offset_bounds-f-u c = let s = c in omega (arith, in_n s.before, few s.before)
 
-slice-copy-out-a : tie.Need-slice-copy-out-a invariant-loop decreases-loop
-slice-copy-out-a c = let s = c.before in omega (arith, in-n s, room s)
+slice_copy_out-a : tie.Need-slice_copy_out-a invariant-loop decreases-loop
+slice_copy_out-a c = let s = c in omega (arith, in_n s.before, room s.before)
 
-add-b : tie.Need-overflow-add-b invariant-loop decreases-loop
-add-b c = let s = c.before.before in omega (arith, in-n s, few s)
+overflow_add-b : tie.Need-overflow_add-b invariant-loop decreases-loop
+overflow_add-b c = let s = c in omega (arith, in_n s.before.before, few s.before.before)
 
-mul-b : tie.Need-overflow-mul-b invariant-loop decreases-loop
-mul-b c = let s = c.before.before in omega (arith, in-n s, few s)
+offset_bounds-f-n : tie.Need-offset_bounds-f-n invariant-loop decreases-loop
+offset_bounds-f-n c = let s = c in omega (arith, in_n s.before.before, few s.before.before)
 
-slice-copy-out-b : tie.Need-slice-copy-out-b invariant-loop decreases-loop
-slice-copy-out-b c = let s = c.before.before in omega (arith, in-n s, room s)
+slice_copy_out-b : tie.Need-slice_copy_out-b invariant-loop decreases-loop
+slice_copy_out-b c = let s = c in omega (arith, in_n s.before.before, room s.before.before)
 
-mul-c : tie.Need-overflow-mul-c invariant-loop decreases-loop
-mul-c c = let s = c.before.before.before in omega (arith, in-n s, few s)
+overflow_mul-c : tie.Need-overflow_mul-c invariant-loop decreases-loop
+overflow_mul-c c = let s = c in omega (arith, in_n s.before.before.before, few s.before.before.before)
 
-add-c : tie.Need-overflow-add-c invariant-loop decreases-loop
-add-c c = let s = c.before.before.before in omega (arith, in-n s, few s)
+overflow_add-c : tie.Need-overflow_add-c invariant-loop decreases-loop
+overflow_add-c c = let s = c in omega (arith, in_n s.before.before.before, few s.before.before.before)
 
-mul-c-2 : tie.Need-overflow-mul-c-2 invariant-loop decreases-loop
-mul-c-2 c = let s = c.before.before.before in omega (arith, in-n s, few s)
+offset_bounds-f-n-2 : tie.Need-offset_bounds-f-n-2 invariant-loop decreases-loop
+offset_bounds-f-n-2 c = let s = c in omega (arith, in_n s.before.before.before, few s.before.before.before)
 
-slice-copy-out-c : tie.Need-slice-copy-out-c invariant-loop decreases-loop
-slice-copy-out-c c = let s = c.before.before.before in omega (arith, in-n s, room s)
+slice_copy_out-c : tie.Need-slice_copy_out-c invariant-loop decreases-loop
+slice_copy_out-c c = let s = c in omega (arith, in_n s.before.before.before, room s.before.before.before)
 
-mul-d : tie.Need-overflow-mul-d invariant-loop decreases-loop
-mul-d c = let s = c.before.before.before.before in omega (arith, in-n s, few s)
+overflow_mul-d : tie.Need-overflow_mul-d invariant-loop decreases-loop
+overflow_mul-d c = let s = c in omega (arith, in_n s.before.before.before.before, few s.before.before.before.before)
 
-add-d : tie.Need-overflow-add-d invariant-loop decreases-loop
-add-d c = let s = c.before.before.before.before in omega (arith, in-n s, few s)
+overflow_add-d : tie.Need-overflow_add-d invariant-loop decreases-loop
+overflow_add-d c = let s = c in omega (arith, in_n s.before.before.before.before, few s.before.before.before.before)
 
-mul-d-2 : tie.Need-overflow-mul-d-2 invariant-loop decreases-loop
-mul-d-2 c = let s = c.before.before.before.before in omega (arith, in-n s, few s)
+offset_bounds-f-n-3 : tie.Need-offset_bounds-f-n-3 invariant-loop decreases-loop
+offset_bounds-f-n-3 c = let s = c in omega (arith, in_n s.before.before.before.before, few s.before.before.before.before)
 
-slice-copy-out-d : tie.Need-slice-copy-out-d invariant-loop decreases-loop
-slice-copy-out-d c = let s = c.before.before.before.before in omega (arith, in-n s, room s)
+slice_copy_out-d : tie.Need-slice_copy_out-d invariant-loop decreases-loop
+slice_copy_out-d c = let s = c in omega (arith, in_n s.before.before.before.before, room s.before.before.before.before)
 
 -- the four values
-module _ (c : tie.After-d invariant-loop decreases-loop) where
+module _ (c : tie.After-d-1 invariant-loop decreases-loop) where
   abbrev s : tie.Start invariant-loop decreases-loop
   s = c.before.before.before.before.before
 
@@ -103,143 +103,143 @@ module _ (c : tie.After-d invariant-loop decreases-loop) where
   read x = to_z w64 (of_z w64 (get_or (f s) x (pos 0)))
 
   first : read (u s) ≡ get_or (lane (n s) 0 (f s)) (u s) (pos 0)
-  first = value s 0 (u s) (back w64 _ c.before.before.before.a.given) (omega arith)
+  first = value s 0 (u s) (back w64 _ c.a-1.given) (omega arith)
 
   second : read (n s + u s) ≡ get_or (lane (n s) 1 (f s)) (u s) (pos 0)
-  second = value s 1 (n s + u s) (back w64 _ c.before.before.b.given) (omega arith)
+  second = value s 1 (n s + u s) (back w64 _ c.b-1.given) (omega arith)
 
   third : read (2 * n s + u s) ≡ get_or (lane (n s) 2 (f s)) (u s) (pos 0)
-  third = value s 2 (2 * n s + u s) (back w64 _ c.before.c.given) (omega arith)
+  third = value s 2 (2 * n s + u s) (back w64 _ c.c-1.given) (omega arith)
 
   fourth : read (3 * n s + u s) ≡ get_or (lane (n s) 3 (f s)) (u s) (pos 0)
-  fourth = value s 3 (3 * n s + u s) (back w64 _ c.d.given) (omega arith)
+  fourth = value s 3 (3 * n s + u s) (back w64 _ c.d-1.given) (omega arith)
 
-push-four-requires : tie.Need-push-four-requires invariant-loop decreases-loop
-push-four-requires c κs =
-    let k = c.before in
-    let d = k.before.before in
-    let w = s d in
-    let there = k.before.All-there.ensures k.if1.true in (
-      reach w (read d (u w)) 0 (omega arith) (first d) there.0,
-      (reach w (read d (n w + u w)) 1 (omega arith) (second d) there.1, (reach w (read d (2 * n w + u w)) 2 (omega arith) (third d) there.2, (reach w (read d (3 * n w + u w)) 3 (omega arith) (fourth d) there.3, (w.pre.0, room w)))),
+push_four-requires : tie.Need-push_four-requires invariant-loop decreases-loop
+push_four-requires c κs =
+    let k = c in
+    let d = k in
+    let w = s d.before.before.before in
+    let there = k.all_there.ensures k.if-all_there.true in (
+      reach w (read d.before.before.before (u w)) 0 (omega arith) (first d.before.before.before) there.0,
+      (reach w (read d.before.before.before (n w + u w)) 1 (omega arith) (second d.before.before.before) there.1, (reach w (read d.before.before.before (2 * n w + u w)) 2 (omega arith) (third d.before.before.before) there.2, (reach w (read d.before.before.before (3 * n w + u w)) 3 (omega arith) (fourth d.before.before.before) there.3, (w.requires.0, room w)))),
     )
 
-same_length : tie.Need-same-length invariant-loop decreases-loop
-same_length c = c.before.push-four.auto.1.1.1.1.1.1.0
+shape_of-f-then-all_there : tie.Need-shape_of-f-then-all_there invariant-loop decreases-loop
+shape_of-f-then-all_there c = c.push_four.auto.f
 
-returns : tie.Need-returns invariant-loop decreases-loop
-returns c =
-    let p = c.before in
-    let d = p.before.before.before.before in
-    let w = s d in
-    let f' = p.push-four.new.1.1.1.1.1.1.0 in
-    let e = p.push-four.ensures in
+returns-then-all_there : tie.Need-returns-then-all_there invariant-loop decreases-loop
+returns-then-all_there c =
+    let p = c in
+    let d = p in
+    let w = s d.before.before.before.before.before in
+    let f' = p.push_four.new.f in
+    let e = p.push_four.ensures in
     let on : (l : ℕ) (z : ℤ) → z ≡ get_or (lane (n w) l (f w)) (u w) (pos 0) → Pushed (n w) w.args.row.now w.args.chain.now z (lane (n w) l (f w)) (lane (n w) l f') → From (n w) w.args.row.now w.args.chain.now (u w) l (lane (n w) l (f w)) (lane (n w) l f')
     = λ l z q h. subst (λ (y : ℤ). Pushed (n w) w.args.row.now w.args.chain.now y (lane (n w) l (f w)) (lane (n w) l f')) q h in (
       each (λ l. From (n w) w.args.row.now w.args.chain.now (u w) l (lane (n w) l (f w)) (lane (n w) l f'))
-          (on 0 _ (first d) e.0) (on 1 _ (second d) e.1.0) (on 2 _ (third d) e.1.1.0) (on 3 _ (fourth d) e.1.1.1.0),
+          (on 0 _ (first d.before.before.before.before.before) e.0) (on 1 _ (second d.before.before.before.before.before) e.1.0) (on 2 _ (third d.before.before.before.before.before) e.1.1.0) (on 3 _ (fourth d.before.before.before.before.before) e.1.1.1.0),
       e.1.1.1.1,
     )
 
-loop-holds : tie.Need-loop-init invariant-loop decreases-loop
-loop-holds c = (omega arith, lanes_start _ _ _)
+loop-l-init : tie.Need-loop-l-init invariant-loop decreases-loop
+loop-l-init c = (omega arith, lanes_start _ _ _)
 
 -- a turn
-module _ (t : tie.In-loop invariant-loop decreases-loop) where
-  abbrev h : tie.At-loop invariant-loop decreases-loop
+module _ (t : tie.In-loop-l invariant-loop decreases-loop) where
+  abbrev h : tie.At-loop-l invariant-loop decreases-loop
   h = t.before
 
   abbrev b : tie.Start invariant-loop decreases-loop
   b = s h.before.before.before
 
-  space : n b * h.loop.l + n b ≤ length (f b)
-  space = lane_room (n b) h.loop.l 4 (f b) t.loop-test.taken (room b)
+  space : n b * h.loop-l.l + n b ≤ length (f b)
+  space = lane_room (n b) h.loop-l.l 4 (f b) t.loop-l-test.true (room b)
 
-  part : length (lane (n b) h.loop.l (f b)) ≡ n b
-  part = lane-length (n b) h.loop.l (f b) space
+  part : length (lane (n b) h.loop-l.l (f b)) ≡ n b
+  part = lane-length (n b) h.loop-l.l (f b) space
 
-mul_at : tie.Need-overflow-mul-at invariant-loop decreases-loop
-mul_at c = omega (arith, space c, (b c).well-formed)
+overflow_mul-at : tie.Need-overflow_mul-at invariant-loop decreases-loop
+overflow_mul-at c = omega (arith, space c, (b c).well_formed)
 
-add-end : tie.Need-overflow-add-end invariant-loop decreases-loop
-add-end c = omega (arith, space c, (b c).well-formed)
+overflow_add-end : tie.Need-overflow_add-end invariant-loop decreases-loop
+overflow_add-end c = omega (arith, space c, (b c).well_formed)
 
-mul-push-from : tie.Need-overflow-mul-push-from invariant-loop decreases-loop
-mul-push-from c = omega (arith, space c, (b c).well-formed)
+offset_bounds-f-at : tie.Need-offset_bounds-f-at invariant-loop decreases-loop
+offset_bounds-f-at c = omega (arith, space c, (b c).well_formed)
 
-part-push-from-end : tie.Need-slice-bounds-push-from-end invariant-loop decreases-loop
-part-push-from-end c = omega (arith, space c, (h c).loop.invariant.1.size)
+slice_bounds-push_from-end : tie.Need-slice_bounds-push_from-end invariant-loop decreases-loop
+slice_bounds-push_from-end c = omega (arith, space c, (h c).loop-l.invariant.1.size)
 
-push-from-requires : tie.Need-push-from-requires invariant-loop decreases-loop
-push-from-requires c κs =
-    let t = c.before in
-    let L = (h t).loop.invariant.1 in (
-      pushable_on (b t).requires.0 _ (omega (arith, ap length (lanes_part L), part t)),
-      (in-n (b t), subst (λ (x : List ℤ). T (fits reached_limit (arrival_in x (u (b t))))) (sym (lanes_part L)) ((b t).requires.1.1.1 (h t).loop.l t.loop-test.true)),
+push_from-requires : tie.Need-push_from-requires invariant-loop decreases-loop
+push_from-requires c κs =
+    let t = c in
+    let L = (h t.before).loop-l.invariant.1 in (
+      pushable_on (b t.before).requires.0 _ (omega (arith, ap length (lanes_part L), part t.before)),
+      (in_n (b t.before), subst (λ (x : List ℤ). T (fits reached_limit (arrival_in x (u (b t.before))))) (sym (lanes_part L)) ((b t.before).requires.1.1.1 (h t.before).loop-l.l t.loop-l-test.true)),
     )
 
-add-l : tie.Need-overflow-add-l invariant-loop decreases-loop
-add-l c = omega (arith, c.before.before.before.loop-test.true)
+overflow_add-l : tie.Need-overflow_add-l invariant-loop decreases-loop
+overflow_add-l c = omega (arith, c.loop-l-test.true)
 
-loop-less : tie.Need-loop-smaller invariant-loop decreases-loop
-loop-less c = omega (arith, c.before.before.before.loop-test.true)
+loop-l-smaller : tie.Need-loop-l-smaller invariant-loop decreases-loop
+loop-l-smaller c = omega (arith, c.loop-l-test.true)
 
-loop-again : tie.Need-loop-preserved invariant-loop decreases-loop
-loop-again c =
-    let k = c.before in
-    let t = k.before.before in
-    let w = b t in
-    let L = (h t).loop.invariant.1 in
-    let ys = k.push-from.new.1.1.0 in (
-      omega (arith, t.loop-test.true),
-      lanes_turn L (space t) ys (k.push-from.auto.1.1.0 ∙ ap length (lanes_part L) ∙ part t)
-          (subst (λ (x : List ℤ). From (n w) w.args.row.now w.args.chain.now (u w) (h t).loop.l x ys) (lanes_part L) k.push-from.ensures),
+loop-l-preserved : tie.Need-loop-l-preserved invariant-loop decreases-loop
+loop-l-preserved c =
+    let k = c in
+    let t = k in
+    let w = b t.before.before.before in
+    let L = (h t.before.before.before).loop-l.invariant.1 in
+    let ys = k.push_from.new.f in (
+      omega (arith, t.loop-l-test.true),
+      lanes_turn L (space t.before.before.before) ys (k.push_from.auto.f ∙ ap length (lanes_part L) ∙ part t.before.before.before)
+          (subst (λ (x : List ℤ). From (n w) w.args.row.now w.args.chain.now (u w) (h t.before.before.before).loop-l.l x ys) (lanes_part L) k.push_from.ensures),
     )
 
-same-length-2 : tie.Need-same-length-2 invariant-loop decreases-loop
-same-length-2 c = c.before.loop.invariant.1.size
+shape_of-f : tie.Need-shape_of-f invariant-loop decreases-loop
+shape_of-f c = c.loop-l.invariant.1.size
 
-returns-2 : tie.Need-returns-2 invariant-loop decreases-loop
-returns-2 c =
-    let l = c.before in
-    let w = s l.before.before.before in
-    let e : l.loop.l ≡ 4 = omega (arith, l.loop.invariant.0, c.loop-test.false) in
-    let L = subst (λ (k : ℕ). Lanes (n w) (From (n w) w.args.row.now w.args.chain.now (u w)) (f w) l.loop.f k) e l.loop.invariant.1 in
+returns : tie.Need-returns invariant-loop decreases-loop
+returns c =
+    let l = c in
+    let w = s l.before.before.before.before in
+    let e : l.loop-l.l ≡ 4 = omega (arith, l.loop-l.invariant.0, c.loop-l-test.false) in
+    let L = subst (λ (k : ℕ). Lanes (n w) (From (n w) w.args.row.now w.args.chain.now (u w)) (f w) l.loop-l.f k) e l.loop-l.invariant.1 in
     (L.done, lanes_past L)
 
-pub push-each-spec : {M : Type 1} → statement M
-push-each-spec =
+pub push_each_spec : {M : Type 1} → statement M
+push_each_spec =
     tie.close
     (tie.spec
     invariant-loop
     decreases-loop
-    mul-a
-    slice-copy-out-a
-    add-b
-    mul-b
-    slice-copy-out-b
-    mul-c
-    add-c
-    mul-c-2
-    slice-copy-out-c
-    mul-d
-    add-d
-    mul-d-2
-    slice-copy-out-d
+    offset_bounds-f-u
+    slice_copy_out-a
+    overflow_add-b
+    offset_bounds-f-n
+    slice_copy_out-b
+    overflow_mul-c
+    overflow_add-c
+    offset_bounds-f-n-2
+    slice_copy_out-c
+    overflow_mul-d
+    overflow_add-d
+    offset_bounds-f-n-3
+    slice_copy_out-d
     (λ c κs. tt)
-    push-four-requires
-    same_length
-    returns
-    loop-holds
-    mul_at
-    add-end
-    mul-push-from
+    push_four-requires
+    shape_of-f-then-all_there
+    returns-then-all_there
+    loop-l-init
+    overflow_mul-at
+    overflow_add-end
+    offset_bounds-f-at
     (λ c. omega arith)
     (λ c. omega arith)
-    part-push-from-end
-    push-from-requires
-    add-l
-    loop-less
-    loop-again
-    same-length-2
-    returns-2)
+    slice_bounds-push_from-end
+    push_from-requires
+    overflow_add-l
+    loop-l-smaller
+    loop-l-preserved
+    shape_of-f
+    returns)

@@ -10,30 +10,36 @@ use Rattle.paths.proofs.Propagating.{reached, pushed_none}
 use Rattle.paths.proofs.arrivals.push_from.Statement.{statement}
 use Rattle.paths.proofs.arrivals.push_from.Tie as tie
 
-mul-a : tie.Need-overflow-mul-a
-mul-a c = let s = c.before in omega (arith, s.requires.0.few, s.requires.1.0)
+offset_bounds-f-u : tie.Need-offset_bounds-f-u
+offset_bounds-f-u c = let s = c in omega (arith, s.requires.0.few, s.requires.1.0)
 
-slice-copy-out-a : tie.Need-slice-copy-out-a
-slice-copy-out-a c = let s = c.before in omega (arith, s.requires.0.room, s.requires.1.0)
+slice_copy_out-a : tie.Need-slice_copy_out-a
+slice_copy_out-a c = let s = c in omega (arith, s.requires.0.room, s.requires.1.0)
 
 push-requires : tie.Need-push-requires
 push-requires c κs =
-    let k = c.before in
-    let s = k.before.before.before in
-    (subst Reached (sym (back w64 _ k.before.a.given)) (reached _ (other_bits w64 k.if1.true) s.requires.1.1), s.requires.0)
+    let k = c in
+    let s = k in
+    (subst Reached (sym (back w64 _ k.a-1.given)) (reached _ (other_bits w64 k.if-a.true) s.requires.1.1), s.requires.0)
 
-same_length : tie.Need-same-length
-same_length c = c.before.push.auto.1.1.1.0
+shape_of-f : tie.Need-shape_of-f
+shape_of-f c = c.push.auto.f
 
-returns : tie.Need-returns
-returns c =
-    let p = c.before in
-    let a = p.before.before.before in
-    let s = a.before.before in
-    subst (λ (z : ℤ). Pushed s.args.n s.args.row.now s.args.chain.now z s.args.f.now p.push.new.1.1.1.0) (back w64 _ a.a.given) p.push.ensures
+returns-then-a : tie.Need-returns-then-a
+returns-then-a c =
+    let p = c in
+    let a = p in
+    let s = a in
+    subst (λ (z : ℤ). Pushed s.args.n s.args.row.now s.args.chain.now z s.args.f.now p.push.new.f) (back w64 _ a.a-1.given) p.push.ensures
 
-returns-2 : tie.Need-returns-2
-returns-2 c = pushed_none _ _ _ _ _ (same_bits {w = w64} {b = absent_wide} (record { sfits = c.before.a.given }) (sfits_lit tt) c.if1.false)
+returns-else-a : tie.Need-returns-else-a
+returns-else-a c = pushed_none _ _ _ _ _ (same_bits {w = w64} {b = absent_wide} (record { sfits = c.a-1.given }) (sfits_lit tt) c.if-a.false)
 
-pub push-from-spec : {M : Type 1} → statement M
-push-from-spec = tie.close (tie.spec mul-a slice-copy-out-a push-requires same_length returns returns-2)
+pub push_from_spec : {M : Type 1} → statement M
+push_from_spec = tie.close (tie.spec
+    offset_bounds-f-u
+    slice_copy_out-a
+    push-requires
+    shape_of-f
+    returns-then-a
+    returns-else-a)

@@ -30,9 +30,14 @@ signal n i f l =
 
 returns : tie.Need-returns
 returns c =
-    let k = c.before in
-    let s = k.before.before in
+    let k = c in
+    let s = k in
     ap (λ (x : List ℤ). set x s.args.i (pos 0)) k.start_none.ensures ∙ signal s.args.n s.args.i s.args.f.now s.requires.1
 
-pub start-at-spec : {M : Type 1} → statement M
-start-at-spec = tie.close (tie.spec (λ c κs. search rules) (λ c. search rules) (λ c. search rules) (λ c. search rules) returns)
+pub start_at_spec : {M : Type 1} → statement M
+start_at_spec = tie.close (tie.spec
+    (λ c κs. search rules)
+    (λ c. search rules)
+    (λ c. search rules)
+    (λ c. search rules)
+    returns)

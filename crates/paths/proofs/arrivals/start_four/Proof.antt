@@ -12,92 +12,92 @@ use Rattle.paths.proofs.Lanes.{Lanes, lane_room, lane-length, lanes_start, lanes
 abbrev Started : ℕ → ℕ → ℕ → List ℤ → List ℤ → Type 0
 Started n i l f₀ f = f ≡ stored n (only_at (i + l)) f₀
 
-abbrev invariant-loop : tie.invariant-loop
+abbrev invariant-loop : tie.invariant-loop-l
 invariant-loop f₀ n i l₀ f l = (l ≤ 4) × Lanes n (Started n i) f₀ f l
 
-abbrev decreases-loop : tie.decreases-loop
+abbrev decreases-loop : tie.decreases-loop-l
 decreases-loop f₀ n i l₀ f l = 4 - l
 
-loop-holds : tie.Need-loop-init invariant-loop decreases-loop
-loop-holds c = (omega arith, lanes_start _ _ _)
+loop-l-init : tie.Need-loop-l-init invariant-loop decreases-loop
+loop-l-init c = (omega arith, lanes_start _ _ _)
 
 -- a turn
-module _ (t : tie.In-loop invariant-loop decreases-loop) where
-  abbrev h : tie.At-loop invariant-loop decreases-loop
+module _ (t : tie.In-loop-l invariant-loop decreases-loop) where
+  abbrev h : tie.At-loop-l invariant-loop decreases-loop
   h = t.before
 
   abbrev s : tie.Start invariant-loop decreases-loop
   s = h.before
 
-  room : s.args.n * h.loop.l + s.args.n ≤ length s.args.f.now
-  room = lane_room s.args.n h.loop.l 4 s.args.f.now t.loop-test.taken s.pre.0
+  room : s.args.n * h.loop-l.l + s.args.n ≤ length s.args.f.now
+  room = lane_room s.args.n h.loop-l.l 4 s.args.f.now t.loop-l-test.true s.requires.0
 
-  part : length (lane s.args.n h.loop.l s.args.f.now) ≡ s.args.n
-  part = lane-length s.args.n h.loop.l s.args.f.now room
+  part : length (lane s.args.n h.loop-l.l s.args.f.now) ≡ s.args.n
+  part = lane-length s.args.n h.loop-l.l s.args.f.now room
 
-mul_at : tie.Need-overflow-mul-at invariant-loop decreases-loop
-mul_at c = omega (arith, room c, (s c).well-formed)
+overflow_mul-at : tie.Need-overflow_mul-at invariant-loop decreases-loop
+overflow_mul-at c = omega (arith, room c, (s c).well_formed)
 
-add-end : tie.Need-overflow-add-end invariant-loop decreases-loop
-add-end c = omega (arith, room c, (s c).well-formed)
+overflow_add-end : tie.Need-overflow_add-end invariant-loop decreases-loop
+overflow_add-end c = omega (arith, room c, (s c).well_formed)
 
-mul-start-at : tie.Need-overflow-mul-start-at invariant-loop decreases-loop
-mul-start-at c = omega (arith, room c, (s c).well-formed)
+offset_bounds-f-at : tie.Need-offset_bounds-f-at invariant-loop decreases-loop
+offset_bounds-f-at c = omega (arith, room c, (s c).well_formed)
 
-part-start-at-end : tie.Need-slice-bounds-start-at-end invariant-loop decreases-loop
-part-start-at-end c = omega (arith, room c, (h c).loop.invariant.1.size)
+slice_bounds-start_at-end : tie.Need-slice_bounds-start_at-end invariant-loop decreases-loop
+slice_bounds-start_at-end c = omega (arith, room c, (h c).loop-l.invariant.1.size)
 
-add-start-at : tie.Need-overflow-add-start-at invariant-loop decreases-loop
-add-start-at c = let t = c.before in omega (arith, t.loop-test.true, (s t).requires.1, (s t).ranges.n)
+overflow_add-i : tie.Need-overflow_add-i invariant-loop decreases-loop
+overflow_add-i c = let t = c in omega (arith, t.loop-l-test.true, (s t.before).requires.1, (s t.before).ranges.n)
 
-start-at-requires : tie.Need-start-at-requires invariant-loop decreases-loop
-start-at-requires c κs = let t = c.before in (omega (arith, ap length (lanes_part (h t).loop.invariant.1), part t), omega (arith, t.loop-test.true, (s t).requires.1))
+start_at-requires : tie.Need-start_at-requires invariant-loop decreases-loop
+start_at-requires c κs = let t = c in (omega (arith, ap length (lanes_part (h t.before).loop-l.invariant.1), part t.before), omega (arith, t.loop-l-test.true, (s t.before).requires.1))
 
-add-l : tie.Need-overflow-add-l invariant-loop decreases-loop
-add-l c = omega (arith, c.before.before.before.loop-test.true)
+overflow_add-l : tie.Need-overflow_add-l invariant-loop decreases-loop
+overflow_add-l c = omega (arith, c.loop-l-test.true)
 
-loop-less : tie.Need-loop-smaller invariant-loop decreases-loop
-loop-less c = omega (arith, c.before.before.before.loop-test.true)
+loop-l-smaller : tie.Need-loop-l-smaller invariant-loop decreases-loop
+loop-l-smaller c = omega (arith, c.loop-l-test.true)
 
-loop-again : tie.Need-loop-preserved invariant-loop decreases-loop
-loop-again c =
-    let k = c.before in
-    let t = k.before.before in
-    let L = (h t).loop.invariant.1 in
-    let n = (s t).args.n in (
-      omega (arith, t.loop-test.true),
-      lanes_turn L (room t) k.start-at.new.0 (k.start-at.auto.0 ∙ ap length (lanes_part L) ∙ part t)
-          (k.start-at.ensures ∙ ap (λ (x : List ℤ). stored n (only_at ((s t).args.i + (h t).loop.l)) x) (lanes_part L)),
+loop-l-preserved : tie.Need-loop-l-preserved invariant-loop decreases-loop
+loop-l-preserved c =
+    let k = c in
+    let t = k in
+    let L = (h t.before.before.before).loop-l.invariant.1 in
+    let n = (s t.before.before.before).args.n in (
+      omega (arith, t.loop-l-test.true),
+      lanes_turn L (room t.before.before.before) k.start_at.new.f (k.start_at.auto.f ∙ ap length (lanes_part L) ∙ part t.before.before.before)
+          (k.start_at.ensures ∙ ap (λ (x : List ℤ). stored n (only_at ((s t.before.before.before).args.i + (h t.before.before.before).loop-l.l)) x) (lanes_part L)),
     )
 
-same_length : tie.Need-same-length invariant-loop decreases-loop
-same_length c = c.before.loop.invariant.1.size
+shape_of-f : tie.Need-shape_of-f invariant-loop decreases-loop
+shape_of-f c = c.loop-l.invariant.1.size
 
 returns : tie.Need-returns invariant-loop decreases-loop
 returns c =
-    let l = c.before in
-    let s = l.before in
-    let e : l.loop.l ≡ 4 = omega (arith, l.loop.invariant.0, c.loop-test.false) in
-    let L = subst (λ (k : ℕ). Lanes s.args.n (Started s.args.n s.args.i) s.args.f.now l.loop.f k) e l.loop.invariant.1 in
+    let l = c in
+    let s = l in
+    let e : l.loop-l.l ≡ 4 = omega (arith, l.loop-l.invariant.0, c.loop-l-test.false) in
+    let L = subst (λ (k : ℕ). Lanes s.args.n (Started s.args.n s.args.i) s.args.f.now l.loop-l.f k) e l.loop-l.invariant.1 in
     (L.done, lanes_past L)
 
-pub start-four-spec : {M : Type 1} → statement M
-start-four-spec =
+pub start_four_spec : {M : Type 1} → statement M
+start_four_spec =
     tie.close
     (tie.spec
     invariant-loop
     decreases-loop
-    loop-holds
-    mul_at
-    add-end
-    mul-start-at
+    loop-l-init
+    overflow_mul-at
+    overflow_add-end
+    offset_bounds-f-at
     (λ c. omega arith)
     (λ c. omega arith)
-    part-start-at-end
-    add-start-at
-    start-at-requires
-    add-l
-    loop-less
-    loop-again
-    same_length
+    slice_bounds-start_at-end
+    overflow_add-i
+    start_at-requires
+    overflow_add-l
+    loop-l-smaller
+    loop-l-preserved
+    shape_of-f
     returns)

@@ -8,46 +8,46 @@ use Rattle.laws.proofs.Filling.{fill_none, fill_turn}
 use Rattle.timing.specs.Limits.{absent_wide}
 use Rattle.paths.specs.Arrivals.{stored}
 
-abbrev invariant-loop : tie.invariant-loop
+abbrev invariant-loop : tie.invariant-loop-v
 invariant-loop f₀ n v₀ f v = (v ≤ n) × (length f ≡ length f₀) × (f ≡ stored v (λ _. absent_wide) f₀)
 
-abbrev decreases-loop : tie.decreases-loop
+abbrev decreases-loop : tie.decreases-loop-v
 decreases-loop f₀ n v₀ f v = n - v
 
-loop-holds : tie.Need-loop-init invariant-loop decreases-loop
-loop-holds c = (omega arith, refl, fill_none _ _)
+loop-v-init : tie.Need-loop-v-init invariant-loop decreases-loop
+loop-v-init c = (omega arith, refl, fill_none _ _)
 
-mul-f : tie.Need-overflow-mul-f invariant-loop decreases-loop
-mul-f c = omega (arith, c.before.before.well-formed.0)
+offset_bounds-f-v : tie.Need-offset_bounds-f-v invariant-loop decreases-loop
+offset_bounds-f-v c = omega (arith, c.well_formed.0)
 
-loop-again : tie.Need-loop-preserved invariant-loop decreases-loop
-loop-again c =
-    let l = c.before in
-    let s = l.before in (
+loop-v-preserved : tie.Need-loop-v-preserved invariant-loop decreases-loop
+loop-v-preserved c =
+    let l = c in
+    let s = l in (
       omega arith,
-      simp length-set l.loop.invariant.1,
-      fill_turn (λ _. absent_wide) s.args.f.now l.loop.f l.loop.v _ (omega arith) l.loop.invariant.2 refl,
+      simp length-set l.loop-v.invariant.1,
+      fill_turn (λ _. absent_wide) s.args.f.now l.loop-v.f l.loop-v.v _ (omega arith) l.loop-v.invariant.2 refl,
     )
 
-same_length : tie.Need-same-length invariant-loop decreases-loop
-same_length c = c.before.loop.invariant.1
+shape_of-f : tie.Need-shape_of-f invariant-loop decreases-loop
+shape_of-f c = c.loop-v.invariant.1
 
 returns : tie.Need-returns invariant-loop decreases-loop
 returns c =
-    let e : c.before.loop.v ≡ c.before.before.args.n = omega arith in
-    rw e at c.before.loop.invariant.2
+    let e : c.loop-v.v ≡ c.args.n = omega arith in
+    rw e at c.loop-v.invariant.2
 
-pub start-none-spec : {M : Type 1} → statement M
-start-none-spec =
+pub start_none_spec : {M : Type 1} → statement M
+start_none_spec =
     tie.close
     (tie.spec
     invariant-loop
     decreases-loop
-    loop-holds
-    mul-f
+    loop-v-init
+    offset_bounds-f-v
     (λ c. omega arith)
     (λ c. omega arith)
     (λ c. omega arith)
-    loop-again
-    same_length
+    loop-v-preserved
+    shape_of-f
     returns)

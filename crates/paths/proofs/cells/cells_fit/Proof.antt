@@ -21,77 +21,77 @@ use Rattle.paths.proofs.Rows.{lent, lent_cell, lent_long}
 abbrev right : Delay → Bool
 right d = fits delay_limit d
 
-abbrev invariant-loop : tie.invariant-loop
+abbrev invariant-loop : tie.invariant-loop-u
 invariant-loop table n u₀ u = (u ≤ n) × (every u (λ x. every n (λ v. right (graph_of n table x v))) ≡ true)
 
-abbrev decreases-loop : tie.decreases-loop
+abbrev decreases-loop : tie.decreases-loop-u
 decreases-loop table n u₀ u = n - u
 
-loop-holds : tie.Need-loop-init invariant-loop decreases-loop
-loop-holds c = (omega arith, every_none _)
+loop-u-init : tie.Need-loop-u-init invariant-loop decreases-loop
+loop-u-init c = (omega arith, every_none _)
 
-module _ (c : tie.In-loop invariant-loop decreases-loop) where
-  abbrev head : tie.At-loop invariant-loop decreases-loop
+module _ (c : tie.In-loop-u invariant-loop decreases-loop) where
+  abbrev head : tie.At-loop-u invariant-loop decreases-loop
   head = c.before
 
   abbrev n : ℕ
-  n = head.before.args.board.vertices
+  n = head.args.board.vertices
 
   abbrev t : List ℤ
-  t = head.before.args.table.now
+  t = head.args.table.now
 
-  row : n * head.loop.u + n ≤ n * n
-  row = row_in n head.loop.u c.loop-test.true
+  row : n * head.loop-u.u + n ≤ n * n
+  row = row_in n head.loop-u.u c.loop-u-test.true
 
-mul_at : tie.Need-overflow-mul-at invariant-loop decreases-loop
-mul_at c = omega (arith, row c, c.before.before.requires.room)
+overflow_mul-at : tie.Need-overflow_mul-at invariant-loop decreases-loop
+overflow_mul-at c = omega (arith, row c, c.requires.room)
 
-mul-row-fits : tie.Need-overflow-mul-row-fits invariant-loop decreases-loop
-mul-row-fits c = omega (arith, row c, c.before.before.requires.room)
+offset_bounds-table-at : tie.Need-offset_bounds-table-at invariant-loop decreases-loop
+offset_bounds-table-at c = omega (arith, row c, c.requires.room)
 
-sub-row-fits : tie.Need-overflow-sub-row-fits invariant-loop decreases-loop
-sub-row-fits c = omega (arith, row c, c.before.before.requires.room)
+slice_bounds-row_fits-count : tie.Need-slice_bounds-row_fits-count invariant-loop decreases-loop
+slice_bounds-row_fits-count c = omega (arith, row c, c.requires.room)
 
-part-row-fits-start : tie.Need-slice-bounds-row-fits-start invariant-loop decreases-loop
-part-row-fits-start c = omega (arith, row c, c.before.before.requires.room)
+slice_bounds-row_fits-start : tie.Need-slice_bounds-row_fits-start invariant-loop decreases-loop
+slice_bounds-row_fits-start c = omega (arith, row c, c.requires.room)
 
-row-fits-requires : tie.Need-row-fits-requires invariant-loop decreases-loop
-row-fits-requires c κs = let i = c.before in omega (arith, lent_long (n i) (t i) (head i).loop.u (head i).before.requires.room i.loop-test.true)
+row_fits-requires : tie.Need-row_fits-requires invariant-loop decreases-loop
+row_fits-requires c κs = let i = c in omega (arith, lent_long (n i.before) (t i.before) (head i.before).loop-u.u (head i.before).requires.room i.loop-u-test.true)
 
-said : (c : tie.After-row-fits invariant-loop decreases-loop) → let i = c.before.before in every (n i) (λ v. right (graph_of (n i) (t i) (head i).loop.u v)) ≡ c.row-fits.result
+said : (c : tie.After-row_fits invariant-loop decreases-loop) → let i = c in every (n i.before.before) (λ v. right (graph_of (n i.before.before) (t i.before.before) (head i.before.before).loop-u.u v)) ≡ c.row_fits.result
 said c =
-    let i = c.before.before in
-    sym (c.row-fits.ensures ∙ every_same (n i) (λ v. right (cell_at (lent (n i) (t i) (head i).loop.u (head i).before.requires.room i.loop-test.true) v)) (λ v. right (graph_of (n i) (t i) (head i).loop.u v))
-    (λ v l. ap right (lent_cell (n i) (t i) (head i).loop.u (head i).before.requires.room i.loop-test.true v l)))
+    let i = c in
+    sym (c.row_fits.ensures ∙ every_same (n i.before.before) (λ v. right (cell_at (lent (n i.before.before) (t i.before.before) (head i.before.before).loop-u.u (head i.before.before).requires.room i.loop-u-test.true) v)) (λ v. right (graph_of (n i.before.before) (t i.before.before) (head i.before.before).loop-u.u v))
+    (λ v l. ap right (lent_cell (n i.before.before) (t i.before.before) (head i.before.before).loop-u.u (head i.before.before).requires.room i.loop-u-test.true v l)))
+
+returns-then-not-row_fits : tie.Need-returns-then-not-row_fits invariant-loop decreases-loop
+unfolding cells_fit
+returns-then-not-row_fits c = let i = c in sym (every_broken _ _ (head i.before.before.before).loop-u.u i.loop-u-test.true (said c.before ∙ not-true _ c.if-not-row_fits.true-raw))
+
+loop-u-preserved : tie.Need-loop-u-preserved invariant-loop decreases-loop
+loop-u-preserved c = let i = c in (omega (arith, i.loop-u-test.true), every_more _ _ (head i.before.before.before).loop-u.invariant.1 (said c.before ∙ not-false _ c.if-not-row_fits.false-raw))
 
 returns : tie.Need-returns invariant-loop decreases-loop
 unfolding cells_fit
-returns c = let i = c.before.before.before in sym (every_broken _ _ (head i).loop.u i.loop-test.true (said c.before ∙ not-true _ c.if1.true))
+returns c =
+    let e : c.loop-u.u ≡ c.args.board.vertices = omega arith in
+    sym (rw e at c.loop-u.invariant.1)
 
-loop-again : tie.Need-loop-preserved invariant-loop decreases-loop
-loop-again c = let i = c.before.before.before in (omega (arith, i.loop-test.true), every_more _ _ (head i).loop.invariant.1 (said c.before ∙ not-false _ c.if1.false))
-
-returns-2 : tie.Need-returns-2 invariant-loop decreases-loop
-unfolding cells_fit
-returns-2 c =
-    let e : c.before.loop.u ≡ c.before.before.args.board.vertices = omega arith in
-    sym (rw e at c.before.loop.invariant.1)
-
-pub cells-fit-spec : {M : Type 1} → statement M
-cells-fit-spec =
+pub cells_fit_spec : {M : Type 1} → statement M
+cells_fit_spec =
     tie.close
     (tie.spec
     invariant-loop
     decreases-loop
-    loop-holds
-    mul_at
-    mul-row-fits
-    sub-row-fits
-    part-row-fits-start
+    loop-u-init
+    overflow_mul-at
+    offset_bounds-table-at
+    slice_bounds-row_fits-count
+    slice_bounds-row_fits-start
     (λ c. omega arith)
-    row-fits-requires
-    returns
+    row_fits-requires
+    returns-then-not-row_fits
     (λ c. omega arith)
     (λ c. omega arith)
-    loop-again
-    returns-2)
+    loop-u-preserved
+    returns)

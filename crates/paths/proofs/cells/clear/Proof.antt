@@ -9,25 +9,25 @@ use Rattle.timing.specs.Limits.{absent_cell}
 use Rattle.paths.proofs.cells.clear.Statement.{statement}
 use Rattle.paths.proofs.cells.clear.Tie as tie
 
-abbrev invariant-loop : tie.invariant-loop
+abbrev invariant-loop : tie.invariant-loop-v
 invariant-loop row₀ v₀ row v = (v ≤ length row₀) × (length row ≡ length row₀) × (row ≡ tabulate v (λ _. absent_cell) ++ drop v row₀)
 
-abbrev decreases-loop : tie.decreases-loop
+abbrev decreases-loop : tie.decreases-loop-v
 decreases-loop row₀ v₀ row v = length row₀ - v
 
-loop-holds : tie.Need-loop-init invariant-loop decreases-loop
-loop-holds c = (omega arith, refl, fill_none _ _)
+loop-v-init : tie.Need-loop-v-init invariant-loop decreases-loop
+loop-v-init c = (omega arith, refl, fill_none _ _)
 
-loop-again : tie.Need-loop-preserved invariant-loop decreases-loop
-loop-again c =
-    let l = c.before in
-    (omega arith, simp length-set l.loop.invariant.1, fill_turn (λ _. absent_cell) l.before.args.row.now l.loop.row l.loop.v _ (omega arith) l.loop.invariant.2 refl)
+loop-v-preserved : tie.Need-loop-v-preserved invariant-loop decreases-loop
+loop-v-preserved c =
+    let l = c in
+    (omega arith, simp length-set l.loop-v.invariant.1, fill_turn (λ _. absent_cell) l.args.row.now l.loop-v.row l.loop-v.v _ (omega arith) l.loop-v.invariant.2 refl)
 
-same_length : tie.Need-same-length invariant-loop decreases-loop
-same_length c = c.before.loop.invariant.1
+shape_of-row : tie.Need-shape_of-row invariant-loop decreases-loop
+shape_of-row c = c.loop-v.invariant.1
 
 returns : tie.Need-returns invariant-loop decreases-loop
-returns c = c.before.loop.invariant.2 ∙ fill_all _ _ c.before.loop.v (omega arith)
+returns c = c.loop-v.invariant.2 ∙ fill_all _ _ c.loop-v.v (omega arith)
 
 pub clear_spec : {M : Type 1} → statement M
 clear_spec =
@@ -35,11 +35,11 @@ clear_spec =
     (tie.spec
     invariant-loop
     decreases-loop
-    loop-holds
+    loop-v-init
     (λ c. omega arith)
     (λ c. omega arith)
     (λ c. omega arith)
     (λ c. omega arith)
-    loop-again
-    same_length
+    loop-v-preserved
+    shape_of-row
     returns)

@@ -22,58 +22,58 @@ use Rattle.paths.proofs.ReadCells.{bit_of}
 abbrev bit_at : List ℤ → ℕ → ℕ → ℕ → ℕ
 bit_at t from stride i = bit (cell_at t (from + stride * i))
 
-abbrev invariant-loop : tie.invariant-loop
+abbrev invariant-loop : tie.invariant-loop-i
 invariant-loop table from stride times total₀ i₀ total i = (i ≤ times) × (total ≤ i) × (total ≡ sum i (bit_at table from stride))
 
-abbrev decreases-loop : tie.decreases-loop
+abbrev decreases-loop : tie.decreases-loop-i
 decreases-loop table from stride times total₀ i₀ total i = times - i
 
-loop-holds : tie.Need-loop-init invariant-loop decreases-loop
+loop-i-init : tie.Need-loop-i-init invariant-loop decreases-loop
 unfolding sum
-loop-holds c = (omega arith, omega arith, refl)
+loop-i-init c = (omega arith, omega arith, refl)
 
 -- in a turn the product is small
-small : (c : tie.In-loop invariant-loop decreases-loop) → c.before.before.args.stride * c.before.loop.i ≤ 90 * c.before.loop.i
+small : (c : tie.In-loop-i invariant-loop decreases-loop) → c.args.stride * c.loop-i.i ≤ 90 * c.loop-i.i
 small c =
-    let h : c.before.loop.i ≤ c.before.loop.i = omega arith in
-    mul-le-mul c.before.before.requires.near h
+    let h : c.loop-i.i ≤ c.loop-i.i = omega arith in
+    mul-le-mul c.requires.near h
 
-mul_at : tie.Need-overflow-mul-at invariant-loop decreases-loop
-mul_at c = omega (arith, small c)
+overflow_mul-at : tie.Need-overflow_mul-at invariant-loop decreases-loop
+overflow_mul-at c = omega (arith, small c)
 
-add_at : tie.Need-overflow-add-at invariant-loop decreases-loop
-add_at c = omega (arith, small c, c.before.before.requires.low)
+overflow_add-at : tie.Need-overflow_add-at invariant-loop decreases-loop
+overflow_add-at c = omega (arith, small c, c.requires.low)
 
-mul-is-arc : tie.Need-overflow-mul-is-arc invariant-loop decreases-loop
-mul-is-arc c = omega (arith, small c, c.before.before.requires.low)
+offset_bounds-table-at : tie.Need-offset_bounds-table-at invariant-loop decreases-loop
+offset_bounds-table-at c = omega (arith, small c, c.requires.low)
 
-shared-slice-copy-out-is-arc : tie.Need-shared-slice-copy-out-is-arc invariant-loop decreases-loop
-shared-slice-copy-out-is-arc c = c.before.before.requires.inside _ c.loop-test.true
+bounds-table-at : tie.Need-bounds-table-at invariant-loop decreases-loop
+bounds-table-at c = c.requires.inside _ c.loop-i-test.true
 
-said : (c : tie.After-is-arc invariant-loop decreases-loop) → let l = c.before.before.before in let s = l.before in present (cell_at s.args.table.now (s.args.from + s.args.stride * l.loop.i)) ≡ c.is-arc.result
-said c = sym (c.is-arc.ensures ∙ ap (λ (z : ℤ). present (read_cell absent_cell z)) (back w32 _ c.before.is-arc-arg.given))
+said : (c : tie.After-is_arc invariant-loop decreases-loop) → let l = c in let s = l in present (cell_at s.args.table.now (s.args.from + s.args.stride * l.loop-i.i)) ≡ c.is_arc.result
+said c = sym (c.is_arc.ensures ∙ ap (λ (z : ℤ). present (read_cell absent_cell z)) (back w32 _ c.is_arc-arg-1.given))
 
 -- the byte has room: fewer than `times` cells have been looked at
-add_total : tie.Need-overflow-add-total invariant-loop decreases-loop
-add_total c = omega arith
+overflow_add-total : tie.Need-overflow_add-total invariant-loop decreases-loop
+overflow_add-total c = omega arith
 
-loop-again : tie.Need-loop-preserved invariant-loop decreases-loop
-loop-again c =
-    let a = c.before in
-    let l = a.before.before.before in
-    let s = l.before in
-    let more = sum_more (bit_at s.args.table.now s.args.from s.args.stride) l.loop.i in
-    split c.if1.branch
-    (λ w. let e = bit_of (cell_at s.args.table.now (s.args.from + s.args.stride * l.loop.i)) true (said a ∙ w.0.taken) in (omega arith, omega (arith, w.1), omega (arith, w.1, e, more, l.loop.invariant.2)))
-    (λ w. let e = bit_of (cell_at s.args.table.now (s.args.from + s.args.stride * l.loop.i)) false (said a ∙ w.0.left) in (omega arith, omega (arith, w.1), omega (arith, w.1, e, more, l.loop.invariant.2)))
+loop-i-preserved : tie.Need-loop-i-preserved invariant-loop decreases-loop
+loop-i-preserved c =
+    let a = c in
+    let l = a in
+    let s = l in
+    let more = sum_more (bit_at s.args.table.now s.args.from s.args.stride) l.loop-i.i in
+    split c.if-is_arc.branch-raw
+    (λ w. let e = bit_of (cell_at s.args.table.now (s.args.from + s.args.stride * l.loop-i.i)) true (said a.before ∙ w.if-is_arc.true) in (omega arith, omega (arith, w.total-is), omega (arith, w.total-is, e, more, l.loop-i.invariant.2)))
+    (λ w. let e = bit_of (cell_at s.args.table.now (s.args.from + s.args.stride * l.loop-i.i)) false (said a.before ∙ w.if-is_arc.false) in (omega arith, omega (arith, w.total-is), omega (arith, w.total-is, e, more, l.loop-i.invariant.2)))
 
-cast-result : tie.Need-overflow-cast-result invariant-loop decreases-loop
-cast-result c = omega (arith, c.before.loop.invariant.1, c.before.loop.invariant.0, c.before.before.requires.few)
+overflow_cast-result : tie.Need-overflow_cast-result invariant-loop decreases-loop
+overflow_cast-result c = omega (arith, c.loop-i.invariant.1, c.loop-i.invariant.0, c.requires.few)
 
 returns : tie.Need-returns invariant-loop decreases-loop
 returns c =
-    let e : c.before.loop.i ≡ c.before.before.args.times = omega arith in
-    rw e at c.before.loop.invariant.2
+    let e : c.loop-i.i ≡ c.args.times = omega arith in
+    rw e at c.loop-i.invariant.2
 
 pub count_spec : {M : Type 1} → statement M
 count_spec =
@@ -81,15 +81,15 @@ count_spec =
     (tie.spec
     invariant-loop
     decreases-loop
-    loop-holds
-    mul_at
-    add_at
-    mul-is-arc
-    shared-slice-copy-out-is-arc
+    loop-i-init
+    overflow_mul-at
+    overflow_add-at
+    offset_bounds-table-at
+    bounds-table-at
     (λ c κs. tt)
-    add_total
+    overflow_add-total
     (λ c. omega arith)
     (λ c. omega arith)
-    loop-again
-    cast-result
+    loop-i-preserved
+    overflow_cast-result
     returns)

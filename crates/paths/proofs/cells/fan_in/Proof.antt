@@ -34,9 +34,11 @@ count-requires c κs = record {
 returns : tie.Need-returns
 unfolding fan_in
 returns c =
-    let s = c.before in
-    c.count.ensures ∙ sum_eq (n s) (λ i. bit (cell_at (t s) (v s + n s * i))) (λ i. bit (graph_of (n s) (t s) i (v s)))
-    (λ i l. ap bit (ap (cell_at (t s)) (add_comm (v s) (n s * i)) ∙ sym (graph_of_at (n s) (t s) i (v s) l s.requires.1)))
+    let s = c in
+    c.count.ensures ∙ sum_eq (n s.before) (λ i. bit (cell_at (t s.before) (v s.before + n s.before * i))) (λ i. bit (graph_of (n s.before) (t s.before) i (v s.before)))
+    (λ i l. ap bit (ap (cell_at (t s.before)) (add_comm (v s.before) (n s.before * i)) ∙ sym (graph_of_at (n s.before) (t s.before) i (v s.before) l s.requires.1)))
 
-pub fan-in-spec : {M : Type 1} → statement M
-fan-in-spec = tie.close (tie.spec count-requires returns)
+pub fan_in_spec : {M : Type 1} → statement M
+fan_in_spec = tie.close (tie.spec
+    count-requires
+    returns)

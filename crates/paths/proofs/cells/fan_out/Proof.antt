@@ -26,8 +26,8 @@ module _ (c : tie.Start) where
   row : n * u + n ≤ n * n
   row = row_in n u c.requires.1
 
-mul-count : tie.Need-overflow-mul-count
-mul-count c = omega (arith, row c, c.requires.0.room)
+overflow_mul-n : tie.Need-overflow_mul-n
+overflow_mul-n c = omega (arith, row c, c.requires.0.room)
 
 count-requires : tie.Need-count-requires
 count-requires c κs = record {
@@ -40,12 +40,15 @@ count-requires c κs = record {
 returns : tie.Need-returns
 unfolding fan_out
 returns c =
-    let s = c.before in
-    c.count.ensures ∙ sum_eq (n s) (λ i. bit (cell_at (t s) (n s * u s + 1 * i))) (λ i. bit (graph_of (n s) (t s) (u s) i))
-    (λ i l. ap bit (ap (λ (x : ℕ). cell_at (t s) (n s * u s + x)) (once i) ∙ sym (graph_of_at (n s) (t s) (u s) i s.requires.1 l)))
+    let s = c in
+    c.count.ensures ∙ sum_eq (n s.before) (λ i. bit (cell_at (t s.before) (n s.before * u s.before + 1 * i))) (λ i. bit (graph_of (n s.before) (t s.before) (u s.before) i))
+    (λ i l. ap bit (ap (λ (x : ℕ). cell_at (t s.before) (n s.before * u s.before + x)) (once i) ∙ sym (graph_of_at (n s.before) (t s.before) (u s.before) i s.requires.1 l)))
   where
     once : (i : ℕ) → 1 * i ≡ i
     once i = omega arith
 
-pub fan-out-spec : {M : Type 1} → statement M
-fan-out-spec = tie.close (tie.spec mul-count count-requires returns)
+pub fan_out_spec : {M : Type 1} → statement M
+fan_out_spec = tie.close (tie.spec
+    overflow_mul-n
+    count-requires
+    returns)

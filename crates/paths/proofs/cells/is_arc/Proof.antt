@@ -8,11 +8,13 @@ use Rattle.timing.proofs.Table.{read_absent, read_at}
 use Rattle.paths.proofs.cells.is_arc.Statement.{statement}
 use Rattle.paths.proofs.cells.is_arc.Tie as tie
 
+returns-then-x-eq-ABSENT : tie.Need-returns-then-x-eq-ABSENT
+returns-then-x-eq-ABSENT c = sym (ap present (read_absent absent_cell c.args.x (same_bits {w = w32} {b = absent_cell} c.ranges.x (sfits_lit tt) c.if-x-eq-ABSENT.true)))
+
 returns : tie.Need-returns
-returns c = sym (ap present (read_absent absent_cell c.before.args.x (same_bits {w = w32} {b = absent_cell} c.before.ranges.x (sfits_lit tt) c.if1.true)))
+returns c = sym (ap present (read_at absent_cell c.args.x (other_bits w32 c.if-x-eq-ABSENT.false)))
 
-returns-2 : tie.Need-returns-2
-returns-2 c = sym (ap present (read_at absent_cell c.before.args.x (other_bits w32 c.if1.false)))
-
-pub is-arc-spec : {M : Type 1} → statement M
-is-arc-spec = tie.close (tie.spec returns returns-2)
+pub is_arc_spec : {M : Type 1} → statement M
+is_arc_spec = tie.close (tie.spec
+    returns-then-x-eq-ABSENT
+    returns)

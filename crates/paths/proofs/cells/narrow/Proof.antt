@@ -14,11 +14,13 @@ small c =
     let hi = b.1 in
     omega zneeds
 
-cast-result : tie.Need-overflow-cast-result
-cast-result c = let f = c.ranges.x in simp to_z-of_z (small c)
+overflow_cast-result : tie.Need-overflow_cast-result
+overflow_cast-result c = let f = c.ranges.x in simp to_z-of_z (small c)
 
 returns : tie.Need-returns
 returns c = let f = c.ranges.x in let h = small c in simp to_z-of_z
 
-pub narrow-spec : {M : Type 1} → statement M
-narrow-spec = tie.close (tie.spec cast-result returns)
+pub narrow_spec : {M : Type 1} → statement M
+narrow_spec = tie.close (tie.spec
+    overflow_cast-result
+    returns)

@@ -16,16 +16,16 @@ use Rattle.paths.proofs.ReadCells.{bit_of}
 use Rattle.paths.proofs.cells.next_before.Statement.{statement}
 use Rattle.paths.proofs.cells.next_before.Tie as tie
 
-abbrev invariant-loop : tie.invariant-loop
+abbrev invariant-loop : tie.invariant-loop-u
 invariant-loop table v from to n u₀ u = (from ≤ u) × (u ≤ to) × Passed (graph_of n table) v from u
 
-abbrev decreases-loop : tie.decreases-loop
+abbrev decreases-loop : tie.decreases-loop-u
 decreases-loop table v from to n u₀ u = to - u
 
-loop-holds : tie.Need-loop-init invariant-loop decreases-loop
-loop-holds c = (omega arith, c.requires.1.1.0, λ k a b. absurd (omega arith))
+loop-u-init : tie.Need-loop-u-init invariant-loop decreases-loop
+loop-u-init c = (omega arith, c.requires.1.1.0, λ k a b. absurd (omega arith))
 
-module _ (c : tie.In-loop invariant-loop decreases-loop) where
+module _ (c : tie.In-loop-u invariant-loop decreases-loop) where
   abbrev start : tie.Start invariant-loop decreases-loop
   start = c.before.before
 
@@ -39,61 +39,61 @@ module _ (c : tie.In-loop invariant-loop decreases-loop) where
   v = start.args.v
 
   abbrev u : ℕ
-  u = c.before.loop.u
+  u = c.loop-u.u
 
   below : u < n
-  below = omega (arith, c.loop-test.true, start.pre.1.1.1)
+  below = omega (arith, c.loop-u-test.true, start.requires.1.1.1)
 
   row : n * u + n ≤ n * n
   row = row_in n u below
 
-mul_at : tie.Need-overflow-mul-at invariant-loop decreases-loop
-mul_at c = omega (arith, row c, (start c).requires.0.room)
+overflow_mul-at : tie.Need-overflow_mul-at invariant-loop decreases-loop
+overflow_mul-at c = omega (arith, row c, (start c).requires.0.room)
 
-add_at : tie.Need-overflow-add-at invariant-loop decreases-loop
-add_at c = omega (arith, row c, (start c).requires.0.room, (start c).requires.1.0)
+overflow_add-at : tie.Need-overflow_add-at invariant-loop decreases-loop
+overflow_add-at c = omega (arith, row c, (start c).requires.0.room, (start c).requires.1.0)
 
-mul-is-arc : tie.Need-overflow-mul-is-arc invariant-loop decreases-loop
-mul-is-arc c = omega (arith, row c, (start c).requires.0.room, (start c).requires.1.0)
+offset_bounds-table-at : tie.Need-offset_bounds-table-at invariant-loop decreases-loop
+offset_bounds-table-at c = omega (arith, row c, (start c).requires.0.room, (start c).requires.1.0)
 
-shared-slice-copy-out-is-arc : tie.Need-shared-slice-copy-out-is-arc invariant-loop decreases-loop
-shared-slice-copy-out-is-arc c = omega (arith, row c, (start c).requires.0.room, (start c).requires.1.0)
+bounds-table-at : tie.Need-bounds-table-at invariant-loop decreases-loop
+bounds-table-at c = omega (arith, row c, (start c).requires.0.room, (start c).requires.1.0)
 
-said : (c : tie.After-is-arc invariant-loop decreases-loop) → let i = c.before.before in present (graph_of (n i) (t i) (u i) (v i)) ≡ c.is-arc.result
+said : (c : tie.After-is_arc invariant-loop decreases-loop) → let i = c in present (graph_of (n i.before.before) (t i.before.before) (u i.before.before) (v i.before.before)) ≡ c.is_arc.result
 said c =
-    let i = c.before.before in
-    ap present (graph_of_at (n i) (t i) (u i) (v i) (below i) (start i).requires.1.0)
-    ∙ sym (c.is-arc.ensures ∙ ap (λ (z : ℤ). present (read_cell absent_cell z)) (back w32 _ c.before.is-arc-arg.given))
+    let i = c in
+    ap present (graph_of_at (n i.before.before) (t i.before.before) (u i.before.before) (v i.before.before) (below i.before.before) (start i.before.before).requires.1.0)
+    ∙ sym (c.is_arc.ensures ∙ ap (λ (z : ℤ). present (read_cell absent_cell z)) (back w32 _ c.is_arc-arg-1.given))
+
+returns-then-is_arc : tie.Need-returns-then-is_arc invariant-loop decreases-loop
+returns-then-is_arc c =
+    let i = c in
+    let l = i.loop-u in
+    record { past = l.invariant.0; upto = l.invariant.1; none = l.invariant.2; arc = λ _. bit_of (graph_of (n i.before.before.before) (t i.before.before.before) (u i.before.before.before) (v i.before.before.before)) true (said c.before ∙ c.if-is_arc.true) }
+
+loop-u-preserved : tie.Need-loop-u-preserved invariant-loop decreases-loop
+loop-u-preserved c =
+    let i = c in
+    let l = i.loop-u in
+    (omega (arith, l.invariant.0), omega (arith, i.loop-u-test.true), passed_more (graph_of (n i.before.before.before) (t i.before.before.before)) (v i.before.before.before) (start i.before.before.before).args.from (u i.before.before.before) l.invariant.2 (bit_of (graph_of (n i.before.before.before) (t i.before.before.before) (u i.before.before.before) (v i.before.before.before)) false (said c.before ∙ c.if-is_arc.false)))
 
 returns : tie.Need-returns invariant-loop decreases-loop
-returns c =
-    let i = c.before.before.before in
-    let l = i.before.loop in
-    record { past = l.invariant.0; upto = l.invariant.1; none = l.invariant.2; arc = λ _. bit_of (graph_of (n i) (t i) (u i) (v i)) true (said c.before ∙ c.if1.true) }
+returns c = let l = c.loop-u in record { past = l.invariant.0; upto = l.invariant.1; none = l.invariant.2; arc = λ h. absurd (omega (arith, c.loop-u-test.false)) }
 
-loop-again : tie.Need-loop-preserved invariant-loop decreases-loop
-loop-again c =
-    let i = c.before.before.before in
-    let l = i.before.loop in
-    (omega (arith, l.invariant.0), omega (arith, i.loop-test.true), passed_more (graph_of (n i) (t i)) (v i) (start i).args.from (u i) l.invariant.2 (bit_of (graph_of (n i) (t i) (u i) (v i)) false (said c.before ∙ c.if1.false)))
-
-returns-2 : tie.Need-returns-2 invariant-loop decreases-loop
-returns-2 c = let l = c.before.loop in record { past = l.invariant.0; upto = l.invariant.1; none = l.invariant.2; arc = λ h. absurd (omega (arith, c.loop-test.false)) }
-
-pub next-before-spec : {M : Type 1} → statement M
-next-before-spec =
+pub next_before_spec : {M : Type 1} → statement M
+next_before_spec =
     tie.close
     (tie.spec
     invariant-loop
     decreases-loop
-    loop-holds
-    mul_at
-    add_at
-    mul-is-arc
-    shared-slice-copy-out-is-arc
+    loop-u-init
+    overflow_mul-at
+    overflow_add-at
+    offset_bounds-table-at
+    bounds-table-at
     (λ c κs. tt)
-    returns
+    returns-then-is_arc
     (λ c. omega arith)
     (λ c. omega arith)
-    loop-again
-    returns-2)
+    loop-u-preserved
+    returns)

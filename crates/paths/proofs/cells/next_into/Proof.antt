@@ -21,19 +21,19 @@ use Rattle.paths.proofs.ReadCells.{bit_of}
 use Rattle.paths.proofs.cells.next_into.Statement.{statement}
 use Rattle.paths.proofs.cells.next_into.Tie as tie
 
-abbrev invariant-loop : tie.invariant-loop
+abbrev invariant-loop : tie.invariant-loop-u
 invariant-loop board table v from n last u₀ u = (from ≤ u) × (u ≤ n) × Passed (graph_of n table) v from u
 
-abbrev decreases-loop : tie.decreases-loop
+abbrev decreases-loop : tie.decreases-loop-u
 decreases-loop board table v from n last u₀ u = n - u
 
-sub-last : tie.Need-overflow-sub-last invariant-loop decreases-loop
-sub-last c = omega (arith, c.requires.0.sized.some_inputs, c.requires.0.sized.roles)
+overflow_sub-last : tie.Need-overflow_sub-last invariant-loop decreases-loop
+overflow_sub-last c = omega (arith, c.requires.0.sized.some_inputs, c.requires.0.sized.roles)
 
-loop-holds : tie.Need-loop-init invariant-loop decreases-loop
-loop-holds c = (omega arith, c.requires.1.1, λ k a b. absurd (omega arith))
+loop-u-init : tie.Need-loop-u-init invariant-loop decreases-loop
+loop-u-init c = (omega arith, c.requires.1.1, λ k a b. absurd (omega arith))
 
-module _ (c : tie.In-loop invariant-loop decreases-loop) where
+module _ (c : tie.In-loop-u invariant-loop decreases-loop) where
   abbrev start : tie.Start invariant-loop decreases-loop
   start = c.before.before
 
@@ -53,16 +53,16 @@ module _ (c : tie.In-loop invariant-loop decreases-loop) where
   from = start.args.from
 
   abbrev u : ℕ
-  u = c.before.loop.u
+  u = c.loop-u.u
 
   two : u + 1 < n
-  two = omega (arith, c.loop-test.true)
+  two = omega (arith, c.loop-u-test.true)
 
   inside : v < n
-  inside = start.pre.1.0
+  inside = start.requires.1.0
 
   room : n * n ≤ length t
-  room = start.pre.0.room
+  room = start.requires.0.room
 
   next : n * (u + 1) ≡ n * u + n
   next = ap (λ (k : ℕ). n * k) (add-one u) ∙ mul-suc n u
@@ -70,107 +70,107 @@ module _ (c : tie.In-loop invariant-loop decreases-loop) where
   row : n * (u + 1) + n ≤ n * n
   row = row_in n (u + 1) two
 
-mul_at : tie.Need-overflow-mul-at invariant-loop decreases-loop
-mul_at c = omega (arith, next c, row c, room c)
+overflow_mul-at : tie.Need-overflow_mul-at invariant-loop decreases-loop
+overflow_mul-at c = omega (arith, next c, row c, room c)
 
-add_at : tie.Need-overflow-add-at invariant-loop decreases-loop
-add_at c = omega (arith, next c, row c, room c, inside c)
+overflow_add-at : tie.Need-overflow_add-at invariant-loop decreases-loop
+overflow_add-at c = omega (arith, next c, row c, room c, inside c)
 
-mul-is-arc : tie.Need-overflow-mul-is-arc invariant-loop decreases-loop
-mul-is-arc c = omega (arith, next c, row c, room c, inside c)
+offset_bounds-table-at : tie.Need-offset_bounds-table-at invariant-loop decreases-loop
+offset_bounds-table-at c = omega (arith, next c, row c, room c, inside c)
 
-shared-slice-copy-out-is-arc : tie.Need-shared-slice-copy-out-is-arc invariant-loop decreases-loop
-shared-slice-copy-out-is-arc c = omega (arith, next c, row c, room c, inside c)
+bounds-table-at : tie.Need-bounds-table-at invariant-loop decreases-loop
+bounds-table-at c = omega (arith, next c, row c, room c, inside c)
 
 -- what the calls say of a turn's two cells
-said : (c : tie.After-is-arc invariant-loop decreases-loop) (b : Bool) → c.is-arc.result ≡ b → let i = c.before.before in bit (g i (u i) (v i)) ≡ cond b 1 0
+said : (c : tie.After-is_arc invariant-loop decreases-loop) (b : Bool) → c.is_arc.result ≡ b → let i = c in bit (g i.before.before (u i.before.before) (v i.before.before)) ≡ cond b 1 0
 said c b e =
     let i = c.before.before in
     bit_of (g i (u i) (v i)) b
     (ap present (graph_of_at (n i) (t i) (u i) (v i) (omega (arith, two i)) (inside i))
-    ∙ sym (c.is-arc.ensures ∙ ap (λ (z : ℤ). present (read_cell absent_cell z)) (back w32 _ c.before.is-arc-arg.given)) ∙ e)
+    ∙ sym (c.is_arc.ensures ∙ ap (λ (z : ℤ). present (read_cell absent_cell z)) (back w32 _ c.before.is_arc-arg-1.given)) ∙ e)
 
-said-2 : (c : tie.After-is-arc2 invariant-loop decreases-loop) (b : Bool) → c.is-arc2.result ≡ b → let i = c.before.before.before.before.before in bit (g i (u i + 1) (v i)) ≡ cond b 1 0
-said-2 c b e =
+said_2 : (c : tie.After-is_arc-in-loop-u invariant-loop decreases-loop) (b : Bool) → c.is_arc-in-loop-u.result ≡ b → let i = c in bit (g i.before.before.before.before.before (u i.before.before.before.before.before + 1) (v i.before.before.before.before.before)) ≡ cond b 1 0
+said_2 c b e =
     let i = c.before.before.before.before.before in
     let q : n i * (u i + 1) + v i ≡ n i * u i + v i + n i = omega (arith, next i) in
     bit_of (g i (u i + 1) (v i)) b
     (ap present (graph_of_at (n i) (t i) (u i + 1) (v i) (two i) (inside i)) ∙ ap (λ (x : ℕ). present (read_cell absent_cell (get_or (t i) x (pos 0)))) q
-    ∙ sym (c.is-arc2.ensures ∙ ap (λ (z : ℤ). present (read_cell absent_cell z)) (back w32 _ c.before.is-arc-arg2.given)) ∙ e)
+    ∙ sym (c.is_arc-in-loop-u.ensures ∙ ap (λ (z : ℤ). present (read_cell absent_cell z)) (back w32 _ c.before.is_arc-arg-in-loop-u-1.given)) ∙ e)
+
+returns-then-is_arc : tie.Need-returns-then-is_arc invariant-loop decreases-loop
+returns-then-is_arc c =
+    let i = c in
+    let l = i.loop-u in
+    record { past = l.invariant.0; upto = l.invariant.1; none = l.invariant.2; arc = λ _. said c.before true c.if-is_arc.true }
+
+overflow_add-at-in-loop-u : tie.Need-overflow_add-at-in-loop-u invariant-loop decreases-loop
+overflow_add-at-in-loop-u c = let i = c in omega (arith, next i.before.before.before, row i.before.before.before, room i.before.before.before, inside i.before.before.before)
+
+offset_bounds-table-at-in-loop-u : tie.Need-offset_bounds-table-at-in-loop-u invariant-loop decreases-loop
+offset_bounds-table-at-in-loop-u c = let i = c in omega (arith, next i.before.before.before, row i.before.before.before, room i.before.before.before, inside i.before.before.before)
+
+bounds-table-at-in-loop-u : tie.Need-bounds-table-at-in-loop-u invariant-loop decreases-loop
+bounds-table-at-in-loop-u c = let i = c in omega (arith, next i.before.before.before, row i.before.before.before, room i.before.before.before, inside i.before.before.before)
+
+-- the first of the two is passed
+first_passed : (c : tie.Else-is_arc invariant-loop decreases-loop) → let i = c in Passed (g i.before.before.before) (v i.before.before.before) (from i.before.before.before) (u i.before.before.before + 1)
+first_passed c =
+    let i = c in
+    passed_more (g i.before.before.before) (v i.before.before.before) (from i.before.before.before) (u i.before.before.before) i.loop-u.invariant.2 (said c.before false c.if-is_arc.false)
+
+overflow_add-result : tie.Need-overflow_add-result invariant-loop decreases-loop
+overflow_add-result c = let i = c in omega (arith, two i.before.before.before.before.before.before, (start i.before.before.before.before.before.before).requires.0.sized.few)
+
+returns-then-is_arc-2 : tie.Need-returns-then-is_arc-2 invariant-loop decreases-loop
+returns-then-is_arc-2 c =
+    let e = c in
+    let i = e in
+    record { past = omega (arith, i.loop-u.invariant.0); upto = omega (arith, two i.before.before.before.before.before.before); none = first_passed e.before.before.before; arc = λ _. said_2 c.before true c.if-is_arc-2.true }
+
+overflow_add-u : tie.Need-overflow_add-u invariant-loop decreases-loop
+overflow_add-u c = let i = c in omega (arith, two i.before.before.before.before.before.before, (start i.before.before.before.before.before.before).requires.0.sized.few)
+
+loop-u-smaller : tie.Need-loop-u-smaller invariant-loop decreases-loop
+loop-u-smaller c = let i = c in omega (arith, two i.before.before.before.before.before.before)
+
+loop-u-preserved : tie.Need-loop-u-preserved invariant-loop decreases-loop
+loop-u-preserved c =
+    let e = c in
+    let i = e in
+    let q : u i.before.before.before.before.before.before + 1 + 1 ≡ u i.before.before.before.before.before.before + 2 = omega arith in
+    (omega (arith, i.loop-u.invariant.0), omega (arith, two i.before.before.before.before.before.before), rw q at (passed_more (g i.before.before.before.before.before.before) (v i.before.before.before.before.before.before) (from i.before.before.before.before.before.before) (u i.before.before.before.before.before.before + 1) (first_passed e.before.before.before) (said_2 c.before false c.if-is_arc-2.false)))
+
+next_before-requires : tie.Need-next_before-requires invariant-loop decreases-loop
+next_before-requires c κs = let s = c in (s.requires.0, (s.requires.1.0, (c.loop-u.invariant.1, omega arith)))
 
 returns : tie.Need-returns invariant-loop decreases-loop
 returns c =
-    let i = c.before.before.before in
-    let l = i.before.loop in
-    record { past = l.invariant.0; upto = l.invariant.1; none = l.invariant.2; arc = λ _. said c.before true c.if1.true }
+    let l = c in
+    passed_on _ _ _ l.loop-u.u l.loop-u.invariant.2 _ _ l.loop-u.invariant.0 c.next_before.ensures
 
-add-is-arc : tie.Need-overflow-add-is-arc invariant-loop decreases-loop
-add-is-arc c = let i = c.before.before.before in omega (arith, next i, row i, room i, inside i)
-
-mul-is-arc-2 : tie.Need-overflow-mul-is-arc-2 invariant-loop decreases-loop
-mul-is-arc-2 c = let i = c.before.before.before in omega (arith, next i, row i, room i, inside i)
-
-shared-slice-copy-out-is-arc-2 : tie.Need-shared-slice-copy-out-is-arc-2 invariant-loop decreases-loop
-shared-slice-copy-out-is-arc-2 c = let i = c.before.before.before in omega (arith, next i, row i, room i, inside i)
-
--- the first of the two is passed
-first-passed : (c : tie.Else1 invariant-loop decreases-loop) → let i = c.before.before.before in Passed (g i) (v i) (from i) (u i + 1)
-first-passed c =
-    let i = c.before.before.before in
-    passed_more (g i) (v i) (from i) (u i) i.before.loop.invariant.2 (said c.before false c.if1.false)
-
-add-result : tie.Need-overflow-add-result invariant-loop decreases-loop
-add-result c = let i = c.before.before.before.before.before.before in omega (arith, two i, (start i).requires.0.sized.few)
-
-returns-2 : tie.Need-returns-2 invariant-loop decreases-loop
-returns-2 c =
-    let e = c.before.before.before in
-    let i = e.before.before.before in
-    record { past = omega (arith, i.before.loop.invariant.0); upto = omega (arith, two i); none = first-passed e; arc = λ _. said-2 c.before true c.if2.true }
-
-add-u : tie.Need-overflow-add-u invariant-loop decreases-loop
-add-u c = let i = c.before.before.before.before.before.before in omega (arith, two i, (start i).requires.0.sized.few)
-
-loop-less : tie.Need-loop-smaller invariant-loop decreases-loop
-loop-less c = let i = c.before.before.before.before.before.before in omega (arith, two i)
-
-loop-again : tie.Need-loop-preserved invariant-loop decreases-loop
-loop-again c =
-    let e = c.before.before.before in
-    let i = e.before.before.before in
-    let q : u i + 1 + 1 ≡ u i + 2 = omega arith in
-    (omega (arith, i.before.loop.invariant.0), omega (arith, two i), rw q at (passed_more (g i) (v i) (from i) (u i + 1) (first-passed e) (said-2 c.before false c.if2.false)))
-
-next-before-requires : tie.Need-next-before-requires invariant-loop decreases-loop
-next-before-requires c κs = let s = c.before.before in (s.requires.0, (s.requires.1.0, (c.before.loop.invariant.1, omega arith)))
-
-returns-3 : tie.Need-returns-3 invariant-loop decreases-loop
-returns-3 c =
-    let l = c.before.before in
-    passed_on _ _ _ l.loop.u l.loop.invariant.2 _ _ l.loop.invariant.0 c.next-before.ensures
-
-pub next-into-spec : {M : Type 1} → statement M
-next-into-spec =
+pub next_into_spec : {M : Type 1} → statement M
+next_into_spec =
     tie.close
     (tie.spec
     invariant-loop
     decreases-loop
-    sub-last
-    loop-holds
-    mul_at
-    add_at
-    mul-is-arc
-    shared-slice-copy-out-is-arc
+    overflow_sub-last
+    loop-u-init
+    overflow_mul-at
+    overflow_add-at
+    offset_bounds-table-at
+    bounds-table-at
     (λ c κs. tt)
-    returns
-    add-is-arc
-    mul-is-arc-2
-    shared-slice-copy-out-is-arc-2
+    returns-then-is_arc
+    overflow_add-at-in-loop-u
+    offset_bounds-table-at-in-loop-u
+    bounds-table-at-in-loop-u
     (λ c κs. tt)
-    add-result
-    returns-2
-    add-u
-    loop-less
-    loop-again
-    next-before-requires
-    returns-3)
+    overflow_add-result
+    returns-then-is_arc-2
+    overflow_add-u
+    loop-u-smaller
+    loop-u-preserved
+    next_before-requires
+    returns)

@@ -15,16 +15,16 @@ use Rattle.paths.specs.Cells.{cell_at}
 use Rattle.paths.proofs.Sizes.{board_area}
 use Rattle.paths.proofs.Inputs.{to_inputs, arc_found, none_found}
 
-abbrev invariant-loop : tie.invariant-loop
+abbrev invariant-loop : tie.invariant-loop-u
 invariant-loop table n m u₀ u = (u ≤ n) × ((k : ℕ) → k < u → to_inputs m n (graph_of n table) k ≡ 0)
 
-abbrev decreases-loop : tie.decreases-loop
+abbrev decreases-loop : tie.decreases-loop-u
 decreases-loop table n m u₀ u = n - u
 
-loop-holds : tie.Need-loop-init invariant-loop decreases-loop
-loop-holds c = (omega arith, below_none _)
+loop-u-init : tie.Need-loop-u-init invariant-loop decreases-loop
+loop-u-init c = (omega arith, below_none _)
 
-module _ (i : tie.In-loop invariant-loop decreases-loop) where
+module _ (i : tie.In-loop-u invariant-loop decreases-loop) where
   abbrev start : tie.Start invariant-loop decreases-loop
   start = i.before.before
 
@@ -38,13 +38,13 @@ module _ (i : tie.In-loop invariant-loop decreases-loop) where
   t = start.args.table.now
 
   abbrev u : ℕ
-  u = i.before.loop.u
+  u = i.loop-u.u
 
   row : n * u + n ≤ n * n
-  row = row_in n u i.loop-test.taken
+  row = row_in n u i.loop-u-test.true
 
-mul-count : tie.Need-overflow-mul-count invariant-loop decreases-loop
-mul-count c = omega (arith, row c, (start c).requires.room)
+overflow_mul-n : tie.Need-overflow_mul-n invariant-loop decreases-loop
+overflow_mul-n c = omega (arith, row c, (start c).requires.room)
 
 count-requires : tie.Need-count-requires invariant-loop decreases-loop
 count-requires c κs = record {
@@ -54,35 +54,35 @@ count-requires c κs = record {
   inside = λ i l. omega (arith, row c, (start c).requires.room, (start c).requires.sized.roles);
 }
 
-counted : (c : tie.After-count invariant-loop decreases-loop) → let i = c.before in c.count.result ≡ to_inputs (m i) (n i) (graph_of (n i) (t i)) (u i)
+counted : (c : tie.After-count invariant-loop decreases-loop) → let i = c in c.count.result ≡ to_inputs (m i.before) (n i.before) (graph_of (n i.before) (t i.before)) (u i.before)
 counted c =
-    let i = c.before in
-    c.count.ensures ∙ sum_eq (m i) (λ k. bit (cell_at (t i) (n i * u i + 1 * k))) (λ k. bit (graph_of (n i) (t i) (u i) k))
-    (λ k l. ap bit (ap (λ (x : ℕ). cell_at (t i) (n i * u i + x)) (once k) ∙ sym (graph_of_at (n i) (t i) (u i) k i.loop-test.true (omega (arith, (start i).requires.sized.roles)))))
+    let i = c in
+    c.count.ensures ∙ sum_eq (m i.before) (λ k. bit (cell_at (t i.before) (n i.before * u i.before + 1 * k))) (λ k. bit (graph_of (n i.before) (t i.before) (u i.before) k))
+    (λ k l. ap bit (ap (λ (x : ℕ). cell_at (t i.before) (n i.before * u i.before + x)) (once k) ∙ sym (graph_of_at (n i.before) (t i.before) (u i.before) k i.loop-u-test.true (omega (arith, (start i.before).requires.sized.roles)))))
   where
     once : (k : ℕ) → 1 * k ≡ k
     once k = omega arith
 
+returns-then-count-ne0 : tie.Need-returns-then-count-ne0 invariant-loop decreases-loop
+returns-then-count-ne0 c = let a = c in let i = a in sym (arc_found (m i.before.before) (n i.before.before) (graph_of (n i.before.before) (t i.before.before)) (u i.before.before) i.loop-u-test.true (λ e. c.if-count-ne0.true (counted a.before ∙ e)))
+
+loop-u-preserved : tie.Need-loop-u-preserved invariant-loop decreases-loop
+loop-u-preserved c = let a = c in let i = a in (omega (arith, i.loop-u-test.true), below_more _ _ i.loop-u.invariant.1 (sym (counted a.before) ∙ c.if-count-ne0.false))
+
 returns : tie.Need-returns invariant-loop decreases-loop
-returns c = let a = c.before in let i = a.before in sym (arc_found (m i) (n i) (graph_of (n i) (t i)) (u i) i.loop-test.true (λ e. c.if1.true (counted a ∙ e)))
+returns c = sym (none_found _ _ _ (λ k l. c.loop-u.invariant.1 k (omega arith)))
 
-loop-again : tie.Need-loop-preserved invariant-loop decreases-loop
-loop-again c = let a = c.before in let i = a.before in (omega (arith, i.loop-test.true), below_more _ _ i.before.loop.invariant.1 (sym (counted a) ∙ c.if1.false))
-
-returns-2 : tie.Need-returns-2 invariant-loop decreases-loop
-returns-2 c = sym (none_found _ _ _ (λ k l. c.before.loop.invariant.1 k (omega arith)))
-
-pub no-arc-into-input-spec : {M : Type 1} → statement M
-no-arc-into-input-spec =
+pub no_arc_into_input_spec : {M : Type 1} → statement M
+no_arc_into_input_spec =
     tie.close
     (tie.spec
     invariant-loop
     decreases-loop
-    loop-holds
-    mul-count
+    loop-u-init
+    overflow_mul-n
     count-requires
-    returns
+    returns-then-count-ne0
     (λ c. omega arith)
     (λ c. omega arith)
-    loop-again
-    returns-2)
+    loop-u-preserved
+    returns)

@@ -8,30 +8,35 @@ use Rattle.paths.proofs.Columns.{no_arc, one_says}
 use Rattle.paths.proofs.cells.one_into.Statement.{statement}
 use Rattle.paths.proofs.cells.one_into.Tie as tie
 
-next-into-requires : tie.Need-next-into-requires
-next-into-requires c κs = (c.requires.0, (c.requires.1, omega arith))
+next_into-u-requires : tie.Need-next_into-u-requires
+next_into-u-requires c κs = (c.requires.0, (c.requires.1, omega arith))
 
-returns : tie.Need-returns
-returns c =
-    let s = c.before.before in
+returns-then-u-n : tie.Need-returns-then-u-n
+returns-then-u-n c =
+    let s = c in
     let n = s.args.board.vertices in
     let g = graph_of n s.args.table.now in
-    let z : fan_in n g s.args.v ≡ 0 = no_arc n g s.args.v c.before.next-into.result c.before.next-into.ensures c.if1.true in
+    let z : fan_in n g s.args.v ≡ 0 = no_arc n g s.args.v c.next_into-u.result c.next_into-u.ensures c.if-u-n.true in
     sym (ne_eqb (fan_in n g s.args.v) 1 (λ e. omega (arith, z, e)))
 
 -- the first arc
-low : (c : tie.Else1) → c.before.next-into.result < c.before.before.args.board.vertices
-low c = let ne = c.if1.false in omega (arith, c.before.next-into.ensures.upto)
+low : (c : tie.Else-u-n) → c.next_into-u.result < c.args.board.vertices
+low c = let ne = c.if-u-n.false in omega (arith, c.next_into-u.ensures.upto)
 
-add-next-into : tie.Need-overflow-add-next-into
-add-next-into c = omega (arith, low c, c.before.before.requires.0.sized.few)
+overflow_add-u : tie.Need-overflow_add-u
+overflow_add-u c = omega (arith, low c, c.requires.0.sized.few)
 
-next-into-requires-2 : tie.Need-next-into-requires-2
-next-into-requires-2 c κs = (c.before.before.requires.0, (c.before.before.requires.1, omega (arith, low c)))
+next_into-requires : tie.Need-next_into-requires
+next_into-requires c κs = (c.requires.0, (c.requires.1, omega (arith, low c)))
 
-returns-2 : tie.Need-returns-2
-returns-2 c = one_says _ _ _ c.before.before.next-into.result c.before.before.next-into.ensures (low c.before) c.next-into2.result c.next-into2.ensures
+returns : tie.Need-returns
+returns c = one_says _ _ _ c.next_into-u.result c.next_into-u.ensures (low c.before) c.next_into.result c.next_into.ensures
 
-pub one-into-spec : {M : Type 1} → statement M
-one-into-spec =
-    tie.close (tie.spec next-into-requires returns add-next-into next-into-requires-2 returns-2)
+pub one_into_spec : {M : Type 1} → statement M
+one_into_spec =
+    tie.close (tie.spec
+    next_into-u-requires
+    returns-then-u-n
+    overflow_add-u
+    next_into-requires
+    returns)

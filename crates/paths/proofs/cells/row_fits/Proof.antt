@@ -12,7 +12,9 @@ limits absent = refl
 limits (at z) = refl
 
 returns : tie.Need-returns
-returns c = c.row_within.ensures ∙ every_same c.before.args.n _ _ (λ v _. limits (cell_at c.before.args.row.now v))
+returns c = c.row_within.ensures ∙ every_same c.args.n _ _ (λ v _. limits (cell_at c.args.row.now v))
 
-pub row-fits-spec : {M : Type 1} → statement M
-row-fits-spec = tie.close (tie.spec (λ c κs. c.requires) returns)
+pub row_fits_spec : {M : Type 1} → statement M
+row_fits_spec = tie.close (tie.spec
+    (λ c κs. c.requires)
+    returns)

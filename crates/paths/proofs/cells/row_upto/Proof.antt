@@ -15,28 +15,37 @@ use Rattle.paths.proofs.Rows.{every_next}
 use Rattle.paths.proofs.cells.row_upto.Statement.{statement}
 use Rattle.paths.proofs.cells.row_upto.Tie as tie
 
-abbrev invariant-loop : tie.invariant-loop
+abbrev invariant-loop : tie.invariant-loop-v
 invariant-loop row n high all₀ v₀ all v = (v ≤ n) × (all ≡ every v (λ k. le_z (get_or row k (pos 0)) (to_z w32 high)))
 
-abbrev decreases-loop : tie.decreases-loop
+abbrev decreases-loop : tie.decreases-loop-v
 decreases-loop row n high all₀ v₀ all v = n - v
 
-loop-holds : tie.Need-loop-init invariant-loop decreases-loop
-loop-holds c = (omega arith, sym (every_none _))
+loop-v-init : tie.Need-loop-v-init invariant-loop decreases-loop
+loop-v-init c = (omega arith, sym (every_none _))
 
-loop-again : tie.Need-loop-preserved invariant-loop decreases-loop
-loop-again c =
-    let l = c.before.before in
-    let high = to_z w32 (of_z w32 l.before.args.high) in
-    (omega arith, ap₂ ◌&&◌ l.loop.invariant.1 (ap (λ (z : ℤ). le_z z high) (back w32 (get_or l.before.args.row.now l.loop.v (pos 0)) c.all.given)) ∙ sym (every_next _ l.loop.v))
+loop-v-preserved : tie.Need-loop-v-preserved invariant-loop decreases-loop
+loop-v-preserved c =
+    let l = c in
+    let high = to_z w32 (of_z w32 l.args.high) in
+    (omega arith, ap₂ ◌&&◌ l.loop-v.invariant.1 (ap (λ (z : ℤ). le_z z high) (back w32 (get_or l.args.row.now l.loop-v.v (pos 0)) c.all-1.given)) ∙ sym (every_next _ l.loop-v.v))
 
 returns : tie.Need-returns invariant-loop decreases-loop
 returns c =
-    let s = c.before.before in
-    let e : c.before.loop.v ≡ s.args.n = omega arith in
-    rw (e, to_z-of_z {w = w32} s.ranges.high) at c.before.loop.invariant.1
+    let s = c in
+    let e : c.loop-v.v ≡ s.args.n = omega arith in
+    rw (e, to_z-of_z {w = w32} s.ranges.high) at c.loop-v.invariant.1
 
-pub row-upto-spec : {M : Type 1} → statement M
-row-upto-spec =
+pub row_upto_spec : {M : Type 1} → statement M
+row_upto_spec =
     tie.close
-    (tie.spec invariant-loop decreases-loop loop-holds (λ c. omega arith) (λ c. omega arith) (λ c. omega arith) (λ c. omega arith) loop-again returns)
+    (tie.spec
+    invariant-loop
+    decreases-loop
+    loop-v-init
+    (λ c. omega arith)
+    (λ c. omega arith)
+    (λ c. omega arith)
+    (λ c. omega arith)
+    loop-v-preserved
+    returns)

@@ -16,41 +16,41 @@ use Rattle.timing.specs.Table.{read_cell}
 use Rattle.paths.specs.Cells.{cell_at, between}
 use Rattle.paths.proofs.Rows.{every_next}
 
-abbrev invariant-loop : tie.invariant-loop
+abbrev invariant-loop : tie.invariant-loop-v
 invariant-loop row n low high all₀ v₀ all v = (v ≤ n) × (all ≡ every v (λ k. between (to_z w32 low) (to_z w32 high) (cell_at row k)))
 
-abbrev decreases-loop : tie.decreases-loop
+abbrev decreases-loop : tie.decreases-loop-v
 decreases-loop row n low high all₀ v₀ all v = n - v
 
-loop-holds : tie.Need-loop-init invariant-loop decreases-loop
-loop-holds c = (omega arith, sym (every_none _))
+loop-v-init : tie.Need-loop-v-init invariant-loop decreases-loop
+loop-v-init c = (omega arith, sym (every_none _))
 
 -- a turn's cell, with the bounds as the loop carries them
-said : (c : tie.After-within invariant-loop decreases-loop) → let l = c.before.before.before in let s = l.before in c.within.result ≡ between (to_z w32 (of_z w32 s.args.low)) (to_z w32 (of_z w32 s.args.high)) (cell_at s.args.row.now l.loop.v)
+said : (c : tie.After-within-all invariant-loop decreases-loop) → let l = c in let s = l in c.within-all.result ≡ between (to_z w32 (of_z w32 s.args.low)) (to_z w32 (of_z w32 s.args.high)) (cell_at s.args.row.now l.loop-v.v)
 said c =
-    let s = c.before.before.before.before in
-    c.within.ensures ∙ ap (λ (z : ℤ). between (to_z w32 (of_z w32 s.args.low)) (to_z w32 (of_z w32 s.args.high)) (read_cell absent_cell z)) (back w32 _ c.before.Within-arg.given)
+    let s = c in
+    c.within-all.ensures ∙ ap (λ (z : ℤ). between (to_z w32 (of_z w32 s.args.low)) (to_z w32 (of_z w32 s.args.high)) (read_cell absent_cell z)) (back w32 _ c.within-arg-1.given)
 
-loop-again : tie.Need-loop-preserved invariant-loop decreases-loop
-loop-again c = let l = c.before.before.before in (omega arith, ap₂ ◌&&◌ l.loop.invariant.1 (said c) ∙ sym (every_next _ l.loop.v))
+loop-v-preserved : tie.Need-loop-v-preserved invariant-loop decreases-loop
+loop-v-preserved c = let l = c in (omega arith, ap₂ ◌&&◌ l.loop-v.invariant.1 (said c) ∙ sym (every_next _ l.loop-v.v))
 
 returns : tie.Need-returns invariant-loop decreases-loop
 returns c =
-    let s = c.before.before in
-    let e : c.before.loop.v ≡ s.args.n = omega arith in
-    rw (e, to_z-of_z {w = w32} s.ranges.low, to_z-of_z {w = w32} s.ranges.high) at c.before.loop.invariant.1
+    let s = c in
+    let e : c.loop-v.v ≡ s.args.n = omega arith in
+    rw (e, to_z-of_z {w = w32} s.ranges.low, to_z-of_z {w = w32} s.ranges.high) at c.loop-v.invariant.1
 
-pub row-within-spec : {M : Type 1} → statement M
-row-within-spec =
+pub row_within_spec : {M : Type 1} → statement M
+row_within_spec =
     tie.close
     (tie.spec
     invariant-loop
     decreases-loop
-    loop-holds
+    loop-v-init
     (λ c. omega arith)
     (λ c. omega arith)
     (λ c κs. tt)
     (λ c. omega arith)
     (λ c. omega arith)
-    loop-again
+    loop-v-preserved
     returns)

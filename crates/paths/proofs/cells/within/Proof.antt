@@ -13,25 +13,29 @@ use Rattle.paths.proofs.cells.within.Statement.{statement}
 use Rattle.paths.proofs.cells.within.Tie as tie
 
 -- what the call says of the cell
-said : (c : tie.After-is-arc) → present (read_cell absent_cell c.before.args.x) ≡ c.is-arc.result
-said c = sym (c.is-arc.ensures ∙ ap (λ (z : ℤ). present (read_cell absent_cell z)) (to_z-of_z c.before.ranges.x))
+said : (c : tie.After-is_arc) → present (read_cell absent_cell c.args.x) ≡ c.is_arc.result
+said c = sym (c.is_arc.ensures ∙ ap (λ (z : ℤ). present (read_cell absent_cell z)) (to_z-of_z c.ranges.x))
 
-returns : tie.Need-returns
-returns c = let s = c.before.before in sym (ap (between s.args.low s.args.high) (absent_cell_lem s.args.x (said c.before ∙ not-true _ c.if1.true)))
+returns-then-not-is_arc : tie.Need-returns-then-not-is_arc
+returns-then-not-is_arc c = let s = c in sym (ap (between s.args.low s.args.high) (absent_cell_lem s.args.x (said c.before ∙ not-true _ c.if-not-is_arc.true-raw)))
 
 -- the cell has an arc
-arc : (c : tie.Else1) → read_cell absent_cell c.before.before.args.x ≡ at c.before.before.args.x
-arc c = arc_cell c.before.before.args.x (said c.before ∙ not-false _ c.if1.false)
+arc : (c : tie.Else-not-is_arc) → read_cell absent_cell c.args.x ≡ at c.args.x
+arc c = arc_cell c.args.x (said c.before ∙ not-false _ c.if-not-is_arc.false-raw)
 
-returns-2 : tie.Need-returns-2
-returns-2 c =
-    let s = c.before.before.before in
-    simp (arc c.before, le_not_lt s.args.x s.args.low _ (rw (to_z-of_z {w = w32} s.ranges.x, to_z-of_z {w = w32} s.ranges.low) at c.if2.true))
+returns-then-x-low : tie.Need-returns-then-x-low
+returns-then-x-low c =
+    let s = c in
+    simp (arc c.before, le_not_lt s.args.x s.args.low _ (rw (to_z-of_z {w = w32} s.ranges.x, to_z-of_z {w = w32} s.ranges.low) at c.if-x-low.true))
 
-returns-3 : tie.Need-returns-3
-returns-3 c =
-    let s = c.before.before.before in
-    simp (arc c.before, to_z-of_z {w = w32} s.ranges.x, to_z-of_z {w = w32} s.ranges.high, le_not_lt s.args.x s.args.low _ (rw (to_z-of_z {w = w32} s.ranges.x, to_z-of_z {w = w32} s.ranges.low) at c.if2.false))
+returns : tie.Need-returns
+returns c =
+    let s = c in
+    simp (arc c.before, to_z-of_z {w = w32} s.ranges.x, to_z-of_z {w = w32} s.ranges.high, le_not_lt s.args.x s.args.low _ (rw (to_z-of_z {w = w32} s.ranges.x, to_z-of_z {w = w32} s.ranges.low) at c.if-x-low.false))
 
-pub within-spec : {M : Type 1} → statement M
-within-spec = tie.close (tie.spec (λ c κs. tt) returns returns-2 returns-3)
+pub within_spec : {M : Type 1} → statement M
+within_spec = tie.close (tie.spec
+    (λ c κs. tt)
+    returns-then-not-is_arc
+    returns-then-x-low
+    returns)

@@ -38,156 +38,156 @@ module _ (s : tie.Start) where
   abbrev w : ℕ
   w = s.args.w
 
-  u-in : u < n
-  u-in = s.pre.1.0
+  u_in : u < n
+  u_in = s.requires.1.0
 
-  w-in : w < n
-  w-in = s.pre.1.1.0
+  w_in : w < n
+  w_in = s.requires.1.1.0
 
   size : length s.args.chain.now ≡ n
-  size = s.pre.1.1.1
+  size = s.requires.1.1.1
 
   room : n * n ≤ length t
-  room = s.pre.0.lent.room
+  room = s.requires.0.lent.room
 
   few : n ≤ 90
-  few = s.pre.0.lent.sized.few
+  few = s.requires.0.lent.sized.few
 
   row : n * u + n ≤ n * n
-  row = row_in n u u-in
+  row = row_in n u u_in
 
   next : n * w + n ≤ n * n
-  next = row_in n w w-in
+  next = row_in n w w_in
 
   area : n * n ≤ 8100
-  area = board_area s.args.board s.pre.0.lent.sized
+  area = board_area s.args.board s.requires.0.lent.sized
 
   near : (x : ℕ) (l : x < n) → Near (length s.args.chain.now) (lent n t x room l)
   near x l = record {
     room = omega (arith, size, lent_long n t x room l);
-    near = λ v h. subst (λ (d : Delay). T (fits delay_limit d)) (sym (lent_cell n t x room l v (omega (arith, size)))) (sound_fits s.pre.0.sound x v);
+    near = λ v h. subst (λ (d : Delay). T (fits delay_limit d)) (sym (lent_cell n t x room l v (omega (arith, size)))) (sound_fits s.requires.0.sound x v);
   }
 
   -- the arc to w
   abbrev d : ℤ
   d = get_or t (n * u + w) (pos 0)
 
-mul_at : tie.Need-overflow-mul-at
-mul_at c = let s = c.before in omega (arith, row s, area s, u-in s)
+overflow_mul-at : tie.Need-overflow_mul-at
+overflow_mul-at c = let s = c in omega (arith, row s.before, area s.before, u_in s.before)
 
-add-d : tie.Need-overflow-add-d
-add-d c = let s = c.before in omega (arith, row s, area s, w-in s)
+overflow_add-d : tie.Need-overflow_add-d
+overflow_add-d c = let s = c in omega (arith, row s.before, area s.before, w_in s.before)
 
-mul-d : tie.Need-overflow-mul-d
-mul-d c = let s = c.before in omega (arith, row s, area s, w-in s)
+offset_bounds-table-at : tie.Need-offset_bounds-table-at
+offset_bounds-table-at c = let s = c in omega (arith, row s.before, area s.before, w_in s.before)
 
-shared-slice-copy-out-d : tie.Need-shared-slice-copy-out-d
-shared-slice-copy-out-d c = let s = c.before in omega (arith, row s, room s, w-in s)
+bounds-table-at : tie.Need-bounds-table-at
+bounds-table-at c = let s = c in omega (arith, row s.before, room s.before, w_in s.before)
 
-abbrev start_of : tie.After-is-arc → tie.Start
+abbrev start_of : tie.After-is_arc → tie.Start
 start_of c = c.before.before.before
 
-mul-from : tie.Need-overflow-mul-from
-mul-from c = let s = start_of c.before in omega (arith, next s, area s, w-in s)
+overflow_mul-from : tie.Need-overflow_mul-from
+overflow_mul-from c = let s = start_of c.before in omega (arith, next s, area s, w_in s)
 
-mul-chain-row : tie.Need-overflow-mul-chain-row
-mul-chain-row c = let s = start_of c.before in omega (arith, row s, area s, u-in s)
+offset_bounds-table-at-then-is_arc : tie.Need-offset_bounds-table-at-then-is_arc
+offset_bounds-table-at-then-is_arc c = let s = start_of c.before in omega (arith, row s, area s, u_in s)
 
-sub-chain-row : tie.Need-overflow-sub-chain-row
-sub-chain-row c = let s = start_of c.before in omega (arith, row s, room s)
+slice_bounds-chain_row-count : tie.Need-slice_bounds-chain_row-count
+slice_bounds-chain_row-count c = let s = start_of c.before in omega (arith, row s, room s)
 
-part-chain-row-start : tie.Need-slice-bounds-chain-row-start
-part-chain-row-start c = let s = start_of c.before in omega (arith, row s, room s)
+slice_bounds-chain_row-start : tie.Need-slice_bounds-chain_row-start
+slice_bounds-chain_row-start c = let s = start_of c.before in omega (arith, row s, room s)
 
-mul-chain-row-2 : tie.Need-overflow-mul-chain-row-2
-mul-chain-row-2 c = let s = start_of c.before.before in omega (arith, next s, area s, w-in s)
+offset_bounds-table-from : tie.Need-offset_bounds-table-from
+offset_bounds-table-from c = let s = start_of c.before.before in omega (arith, next s, area s, w_in s)
 
-sub-chain-row-2 : tie.Need-overflow-sub-chain-row-2
-sub-chain-row-2 c = let s = start_of c.before.before in omega (arith, next s, room s)
+slice_bounds-chain_row-count-then-is_arc : tie.Need-slice_bounds-chain_row-count-then-is_arc
+slice_bounds-chain_row-count-then-is_arc c = let s = start_of c.before.before in omega (arith, next s, room s)
 
-part-chain-row-start-2 : tie.Need-slice-bounds-chain-row-start-2
-part-chain-row-start-2 c = let s = start_of c.before.before in omega (arith, next s, room s)
+slice_bounds-chain_row-start-then-is_arc : tie.Need-slice_bounds-chain_row-start-then-is_arc
+slice_bounds-chain_row-start-then-is_arc c = let s = start_of c.before.before in omega (arith, next s, room s)
 
 -- there is one
-module _ (k : tie.Then1) where
+module _ (k : tie.Then-is_arc) where
   abbrev s : tie.Start
   s = start_of k.before
 
   fit : SFits w32 (d s)
-  fit = record { sfits = k.before.before.d.given }
+  fit = record { sfits = k.d-1.given }
 
   arc : graph_of (n s) (t s) (u s) (w s) ≡ at (d s)
-  arc = graph_of_at (n s) (t s) (u s) (w s) (u-in s) (w-in s) ∙ arc_cell (d s) (ap (λ (z : ℤ). present (read_cell absent_cell z)) (sym (to_z-of_z fit)) ∙ sym k.before.is-arc.ensures ∙ k.if1.taken)
+  arc = graph_of_at (n s) (t s) (u s) (w s) (u_in s) (w_in s) ∙ arc_cell (d s) (ap (λ (z : ℤ). present (read_cell absent_cell z)) (sym (to_z-of_z fit)) ∙ sym k.is_arc.ensures ∙ k.if-is_arc.true)
 
   wide : to_z w64 (of_z w64 (to_z w32 (of_z w32 (d s)))) ≡ d s
   wide = ap (λ (z : ℤ). to_z w64 (of_z w64 z)) (to_z-of_z fit) ∙ to_z-of_z (widens fit)
 
-cast-chain-row : tie.Need-overflow-cast-chain-row
-cast-chain-row c = let k = c.before.before in subst (SFits w64) (sym (to_z-of_z (fit k))) (widens (fit k))
+overflow_cast-d : tie.Need-overflow_cast-d
+overflow_cast-d c = let k = c in subst (SFits w64) (sym (to_z-of_z (fit k.before.before))) (widens (fit k.before.before))
 
-chain-row-requires : tie.Need-chain-row-requires
-chain-row-requires c κs =
-    let k = c.before.before.before in
-    let b = s k in (
+chain_row-requires : tie.Need-chain_row-requires
+chain_row-requires c κs =
+    let k = c in
+    let b = s k.before.before.before in (
       omega (arith, size b, few b),
-      (near b (u b) (u-in b), (near b (w b) (w-in b), subst (λ (z : ℤ). T (fits delay_limit (at z))) (sym (wide k)) (subst (λ (x : Delay). T (fits delay_limit x)) (arc k) (sound_fits b.pre.0.sound (u b) (w b))))),
+      (near b (u b) (u_in b), (near b (w b) (w_in b), subst (λ (z : ℤ). T (fits delay_limit (at z))) (sym (wide k.before.before.before)) (subst (λ (x : Delay). T (fits delay_limit x)) (arc k.before.before.before) (sound_fits b.requires.0.sound (u b) (w b))))),
     )
 
-mul-plain-row : tie.Need-overflow-mul-plain-row
-mul-plain-row c = let s = start_of c.before in omega (arith, row s, area s, u-in s)
+offset_bounds-table-at-else-is_arc : tie.Need-offset_bounds-table-at-else-is_arc
+offset_bounds-table-at-else-is_arc c = let s = start_of c.before in omega (arith, row s, area s, u_in s)
 
-sub-plain-row : tie.Need-overflow-sub-plain-row
-sub-plain-row c = let s = start_of c.before in omega (arith, row s, room s)
+slice_bounds-plain_row-count : tie.Need-slice_bounds-plain_row-count
+slice_bounds-plain_row-count c = let s = start_of c.before in omega (arith, row s, room s)
 
-part-plain-row-start : tie.Need-slice-bounds-plain-row-start
-part-plain-row-start c = let s = start_of c.before in omega (arith, row s, room s)
+slice_bounds-plain_row-start : tie.Need-slice_bounds-plain_row-start
+slice_bounds-plain_row-start c = let s = start_of c.before in omega (arith, row s, room s)
 
-plain-row-requires : tie.Need-plain-row-requires
-plain-row-requires c κs = let b = start_of c.before.before.before in (omega (arith, size b, few b), (near b (u b) (u-in b)).room)
+plain_row-requires : tie.Need-plain_row-requires
+plain_row-requires c κs = let b = start_of c.before.before.before in (omega (arith, size b, few b), (near b (u b) (u_in b)).room)
 
-returns : tie.Need-returns
-returns c =
-    let r = c.before.before in
-    let k = r.before.before.before.before in
-    let b = s k in
-    let from = cell_at (lent (n b) (t b) (u b) (room b) (u-in b)) in
-    let on = cell_at (lent (n b) (t b) (w b) (room b) (w-in b)) in
-    let ys = r.chain-row.new.1.1.1.0 in
-    chained_by b.pre.0 (u b) (u-in b) (w b) (w-in b) (d b) (arc k)
-    (subst (λ (z : ℕ). Chain z (unbeaten from on (d b)) (λ v. get_or ys v 0)) (size b) (subst (λ (z : ℤ). Chain (length b.args.chain.now) (unbeaten from on z) (λ v. get_or ys v 0)) (wide k) r.chain-row.ensures))
+returns-then-is_arc : tie.Need-returns-then-is_arc
+returns-then-is_arc c =
+    let r = c in
+    let k = r in
+    let b = s k.before.before.before.before.before.before in
+    let from = cell_at (lent (n b) (t b) (u b) (room b) (u_in b)) in
+    let on = cell_at (lent (n b) (t b) (w b) (room b) (w_in b)) in
+    let ys = r.chain_row.new.chain in
+    chained_by b.requires.0 (u b) (u_in b) (w b) (w_in b) (d b) (arc k.before.before.before.before.before.before)
+    (subst (λ (z : ℕ). Chain z (unbeaten from on (d b)) (λ v. get_or ys v 0)) (size b) (subst (λ (z : ℤ). Chain (length b.args.chain.now) (unbeaten from on z) (λ v. get_or ys v 0)) (wide k.before.before.before.before.before.before) r.chain_row.ensures))
 
-returns-2 : tie.Need-returns-2
-returns-2 c =
-    let r = c.before.before in
-    let b = start_of r.before.before.before.before in
-    chained_all b.pre.0 (u b) (u-in b) (subst (λ (z : ℕ). Chain z (cell_at (lent (n b) (t b) (u b) (room b) (u-in b))) (λ v. get_or r.plain-Row.new.1.0 v 0)) (size b) r.plain-Row.ensures)
+returns-else-is_arc : tie.Need-returns-else-is_arc
+returns-else-is_arc c =
+    let r = c in
+    let b = start_of r.before.before.before.before.before.before in
+    chained_all b.requires.0 (u b) (u_in b) (subst (λ (z : ℕ). Chain z (cell_at (lent (n b) (t b) (u b) (room b) (u_in b))) (λ v. get_or r.plain_row.new.chain v 0)) (size b) r.plain_row.ensures)
 
-pub chain-from-spec : {M : Type 1} → statement M
-chain-from-spec =
+pub chain_from_spec : {M : Type 1} → statement M
+chain_from_spec =
     tie.close
     (tie.spec
-    mul_at
-    add-d
-    mul-d
-    shared-slice-copy-out-d
+    overflow_mul-at
+    overflow_add-d
+    offset_bounds-table-at
+    bounds-table-at
     (λ c κs. tt)
-    mul-from
-    mul-chain-row
-    sub-chain-row
-    part-chain-row-start
+    overflow_mul-from
+    offset_bounds-table-at-then-is_arc
+    slice_bounds-chain_row-count
+    slice_bounds-chain_row-start
     (λ c. omega arith)
-    mul-chain-row-2
-    sub-chain-row-2
-    part-chain-row-start-2
+    offset_bounds-table-from
+    slice_bounds-chain_row-count-then-is_arc
+    slice_bounds-chain_row-start-then-is_arc
     (λ c. omega arith)
-    cast-chain-row
-    chain-row-requires
-    mul-plain-row
-    sub-plain-row
-    part-plain-row-start
+    overflow_cast-d
+    chain_row-requires
+    offset_bounds-table-at-else-is_arc
+    slice_bounds-plain_row-count
+    slice_bounds-plain_row-start
     (λ c. omega arith)
-    plain-row-requires
+    plain_row-requires
     (λ c. search rules)
-    returns
+    returns-then-is_arc
     (λ c. search rules)
-    returns-2)
+    returns-else-is_arc)

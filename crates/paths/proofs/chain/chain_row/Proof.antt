@@ -22,18 +22,18 @@ use Rattle.paths.specs.Chain.{Chain, below, unbeaten}
 use Rattle.paths.proofs.Walked.{unbeaten_no, unbeaten_yes, unbeaten_none}
 use Rattle.paths.proofs.Chaining.{Linked, linked_start, link_arc, link_none, linked_all}
 
-abbrev invariant-loop : tie.invariant-loop
+abbrev invariant-loop : tie.invariant-loop-v
 invariant-loop row next d chain₀ after₀ v₀ chain after v = Linked (length chain₀) (unbeaten (cell_at row) (cell_at next) (to_z w64 d)) chain after v
 
-abbrev decreases-loop : tie.decreases-loop
+abbrev decreases-loop : tie.decreases-loop-v
 decreases-loop row next d chain₀ after₀ v₀ chain after v = v
 
-loop-holds : tie.Need-loop-init invariant-loop decreases-loop
-loop-holds c = linked_start _ _
+loop-v-init : tie.Need-loop-v-init invariant-loop decreases-loop
+loop-v-init c = linked_start _ _
 
 -- a turn
-module _ (t : tie.In-loop invariant-loop decreases-loop) where
-  abbrev h : tie.At-loop invariant-loop decreases-loop
+module _ (t : tie.In-loop-v invariant-loop decreases-loop) where
+  abbrev h : tie.At-loop-v invariant-loop decreases-loop
   h = t.before
 
   abbrev s : tie.Start invariant-loop decreases-loop
@@ -49,141 +49,141 @@ module _ (t : tie.In-loop invariant-loop decreases-loop) where
   d = to_z w64 (of_z w64 s.args.d)
 
   abbrev q : ℕ
-  q = h.loop.v - 1
+  q = h.loop-v.v - 1
 
   abbrev n : ℕ
   n = length s.args.chain.now
 
-  q-in : q < n
-  q-in = omega (arith, t.loop-test.taken, h.loop.inv)
+  q_in : q < n
+  q_in = omega (arith, t.loop-v-test.true, h.loop-v.invariant)
 
   few : n ≤ 90
-  few = s.pre.0
+  few = s.requires.0
 
-  linked : Linked n (unbeaten row next d) h.loop.chain h.loop.after (q + 1)
+  linked : Linked n (unbeaten row next d) h.loop-v.chain h.loop-v.after (q + 1)
   linked =
-      let e : h.loop.v ≡ q + 1 = omega (arith, t.loop-test.taken) in
-      subst (λ (k : ℕ). Linked n (unbeaten row next d) h.loop.chain h.loop.after k) e h.loop.inv
+      let e : h.loop-v.v ≡ q + 1 = omega (arith, t.loop-v-test.true) in
+      subst (λ (k : ℕ). Linked n (unbeaten row next d) h.loop-v.chain h.loop-v.after k) e h.loop-v.invariant
 
-sub-v : tie.Need-overflow-sub-v invariant-loop decreases-loop
-sub-v c = omega (arith, c.loop-test.true)
+overflow_sub-v : tie.Need-overflow_sub-v invariant-loop decreases-loop
+overflow_sub-v c = omega (arith, c.loop-v-test.true)
 
-cast-chain : tie.Need-overflow-cast-chain invariant-loop decreases-loop
-cast-chain c = omega (arith, c.before.loop.invariant.high, few c)
+overflow_cast-chain : tie.Need-overflow_cast-chain invariant-loop decreases-loop
+overflow_cast-chain c = omega (arith, c.loop-v.invariant.high, few c)
 
-slice-write-chain : tie.Need-slice-write-chain invariant-loop decreases-loop
-slice-write-chain c = omega (arith, q-in c, c.before.loop.invariant.size)
+bounds-chain-v : tie.Need-bounds-chain-v invariant-loop decreases-loop
+bounds-chain-v c = omega (arith, q_in c, c.loop-v.invariant.size)
 
-mul-is-arc : tie.Need-overflow-mul-is-arc invariant-loop decreases-loop
-mul-is-arc c = omega (arith, q-in c, few c)
+offset_bounds-row-v : tie.Need-offset_bounds-row-v invariant-loop decreases-loop
+offset_bounds-row-v c = omega (arith, q_in c, few c)
 
-shared-slice-copy-out-is-arc : tie.Need-shared-slice-copy-out-is-arc invariant-loop decreases-loop
-shared-slice-copy-out-is-arc c = omega (arith, q-in c, (s c).requires.1.0.room)
+bounds-row-v : tie.Need-bounds-row-v invariant-loop decreases-loop
+bounds-row-v c = omega (arith, q_in c, (s c).requires.1.0.room)
 
-tested : (a : tie.After-is-arc invariant-loop decreases-loop) → a.is-arc.result ≡ present (row a.before.before (q a.before.before))
-tested a = a.is-arc.ensures ∙ ap (λ (z : ℤ). present (read_cell absent_cell z)) (back w32 _ a.before.is-arc-arg.given)
+tested : (a : tie.After-is_arc invariant-loop decreases-loop) → a.is_arc.result ≡ present (row a.before.before (q a.before.before))
+tested a = a.is_arc.ensures ∙ ap (λ (z : ℤ). present (read_cell absent_cell z)) (back w32 _ a.is_arc-arg-1.given)
 
 -- an arc
-module _ (k : tie.Then1 invariant-loop decreases-loop) where
-  abbrev t : tie.In-loop invariant-loop decreases-loop
+module _ (k : tie.Then-is_arc invariant-loop decreases-loop) where
+  abbrev t : tie.In-loop-v invariant-loop decreases-loop
   t = k.before.before.before
 
   there : T (present (row t (q t)))
-  there = true_is (sym (tested k.before) ∙ k.if1.taken)
+  there = true_is (sym (tested k.before) ∙ k.if-is_arc.true)
 
-mul-beaten : tie.Need-overflow-mul-beaten invariant-loop decreases-loop
-mul-beaten c = omega (arith, q-in (t c), few (t c))
+offset_bounds-row-v-then-is_arc : tie.Need-offset_bounds-row-v-then-is_arc invariant-loop decreases-loop
+offset_bounds-row-v-then-is_arc c = omega (arith, q_in (t c), few (t c))
 
-shared-slice-copy-out-beaten : tie.Need-shared-slice-copy-out-beaten invariant-loop decreases-loop
-shared-slice-copy-out-beaten c = omega (arith, q-in (t c), (s (t c)).pre.1.0.room)
+bounds-row-v-then-is_arc : tie.Need-bounds-row-v-then-is_arc invariant-loop decreases-loop
+bounds-row-v-then-is_arc c = omega (arith, q_in (t c), (s (t c)).requires.1.0.room)
 
-mul-beaten-2 : tie.Need-overflow-mul-beaten-2 invariant-loop decreases-loop
-mul-beaten-2 c = let i = t c.before in omega (arith, q-in i, few i)
+offset_bounds-next-v : tie.Need-offset_bounds-next-v invariant-loop decreases-loop
+offset_bounds-next-v c = let i = t c.before in omega (arith, q_in i, few i)
 
-shared-slice-copy-out-beaten-2 : tie.Need-shared-slice-copy-out-beaten-2 invariant-loop decreases-loop
-shared-slice-copy-out-beaten-2 c = let i = t c.before in omega (arith, q-in i, (s i).pre.1.1.0.room)
+bounds-next-v : tie.Need-bounds-next-v invariant-loop decreases-loop
+bounds-next-v c = let i = t c.before in omega (arith, q_in i, (s i).requires.1.1.0.room)
 
 beaten-requires : tie.Need-beaten-requires invariant-loop decreases-loop
 beaten-requires c κs =
-    let k = c.before.before in
-    let i = t k in
-    let x = sym (back w32 _ c.before.beaten-arg.given) in
-    let y = sym (back w32 _ c.beaten-arg2.given) in (
-      subst (λ (z : ℤ). T (present (read_cell absent_cell z))) x (there k),
+    let k = c in
+    let i = t k.before.before in
+    let x = sym (back w32 _ c.beaten-arg-1.given) in
+    let y = sym (back w32 _ c.beaten-arg-then-is_arc-1.given) in (
+      subst (λ (z : ℤ). T (present (read_cell absent_cell z))) x (there k.before.before),
       (
-        subst (λ (z : ℤ). T (fits delay_limit (read_cell absent_cell z))) x ((s i).pre.1.0.near (q i) (q-in i)),
+        subst (λ (z : ℤ). T (fits delay_limit (read_cell absent_cell z))) x ((s i).requires.1.0.near (q i) (q_in i)),
         (
-          subst (λ (z : ℤ). T (fits delay_limit (read_cell absent_cell z))) y ((s i).pre.1.1.0.near (q i) (q-in i)),
-          subst (λ (z : ℤ). T (fits delay_limit (at z))) (sym (to_z-of_z (s i).fits.d)) (s i).pre.1.1.1,
+          subst (λ (z : ℤ). T (fits delay_limit (read_cell absent_cell z))) y ((s i).requires.1.1.0.near (q i) (q_in i)),
+          subst (λ (z : ℤ). T (fits delay_limit (at z))) (sym (to_z-of_z (s i).ranges.d)) (s i).requires.1.1.1,
         ),
       ),
     )
 
 -- what the test says, of the cells themselves
 module _ (b : tie.After-beaten invariant-loop decreases-loop) where
-  abbrev i : tie.In-loop invariant-loop decreases-loop
+  abbrev i : tie.In-loop-v invariant-loop decreases-loop
   i = t b.before.before.before
 
   said : b.beaten.result ≡ below (row i (q i)) (at (d i) ⊕ next i (q i))
-  said = b.beaten.ensures ∙ ap₂ (λ (y z : ℤ). below (read_cell absent_cell y) (at (d i) ⊕ read_cell absent_cell z)) (back w32 _ b.before.before.beaten-arg.given) (back w32 _ b.before.beaten-arg2.given)
+  said = b.beaten.ensures ∙ ap₂ (λ (y z : ℤ). below (read_cell absent_cell y) (at (d i) ⊕ read_cell absent_cell z)) (back w32 _ b.beaten-arg-1.given) (back w32 _ b.beaten-arg-then-is_arc-1.given)
 
-loop-less : tie.Need-loop-smaller invariant-loop decreases-loop
-loop-less c = omega (arith, (i c.before).loop-test.taken)
+loop-v-smaller-then-not-beaten : tie.Need-loop-v-smaller-then-not-beaten invariant-loop decreases-loop
+loop-v-smaller-then-not-beaten c = omega (arith, (i c.before).loop-v-test.true)
 
-loop-again : tie.Need-loop-preserved invariant-loop decreases-loop
-loop-again c =
+loop-v-preserved-then-not-beaten : tie.Need-loop-v-preserved-then-not-beaten invariant-loop decreases-loop
+loop-v-preserved-then-not-beaten c =
     let t = i c.before in
-    link_arc (linked t) (subst (λ (x : Delay). T (present x)) (sym (unbeaten_no (row t) (next t) (d t) (q t) (sym (said c.before) ∙ not-true _ c.if2.true))) (there c.before.before.before.before))
+    link_arc (linked t) (subst (λ (x : Delay). T (present x)) (sym (unbeaten_no (row t) (next t) (d t) (q t) (sym (said c.before) ∙ not-true _ c.if-not-beaten.true-raw))) (there c.before.before.before.before))
 
-loop-less-2 : tie.Need-loop-smaller-2 invariant-loop decreases-loop
-loop-less-2 c = omega (arith, (i c.before).loop-test.taken)
+loop-v-smaller-else-not-beaten : tie.Need-loop-v-smaller-else-not-beaten invariant-loop decreases-loop
+loop-v-smaller-else-not-beaten c = omega (arith, (i c.before).loop-v-test.true)
 
-loop-again-2 : tie.Need-loop-preserved-2 invariant-loop decreases-loop
-loop-again-2 c = let t = i c.before in link_none (linked t) (unbeaten_yes (row t) (next t) (d t) (q t) (sym (said c.before) ∙ not-false _ c.if2.false))
+loop-v-preserved-else-not-beaten : tie.Need-loop-v-preserved-else-not-beaten invariant-loop decreases-loop
+loop-v-preserved-else-not-beaten c = let t = i c.before in link_none (linked t) (unbeaten_yes (row t) (next t) (d t) (q t) (sym (said c.before) ∙ not-false _ c.if-not-beaten.false-raw))
 
-loop-less-3 : tie.Need-loop-smaller-3 invariant-loop decreases-loop
-loop-less-3 c = omega (arith, c.before.before.before.loop-test.true)
+loop-v-smaller : tie.Need-loop-v-smaller invariant-loop decreases-loop
+loop-v-smaller c = omega (arith, c.loop-v-test.true)
 
-loop-again-3 : tie.Need-loop-preserved-3 invariant-loop decreases-loop
-loop-again-3 c =
-    let t = c.before.before.before in
-    link_none (linked t) (unbeaten_none (row t) (next t) (d t) (q t) (absent_unless _ (true_is (ap not (sym (tested c.before) ∙ c.if1.false)))))
+loop-v-preserved : tie.Need-loop-v-preserved invariant-loop decreases-loop
+loop-v-preserved c =
+    let t = c in
+    link_none (linked t.before.before.before) (unbeaten_none (row t.before.before.before) (next t.before.before.before) (d t.before.before.before) (q t.before.before.before) (absent_unless _ (true_is (ap not (sym (tested c.before) ∙ c.if-is_arc.false)))))
 
-same_length : tie.Need-same-length invariant-loop decreases-loop
-same_length c = c.before.loop.invariant.size
+shape_of-chain : tie.Need-shape_of-chain invariant-loop decreases-loop
+shape_of-chain c = c.loop-v.invariant.size
 
 returns : tie.Need-returns invariant-loop decreases-loop
 returns c =
-    let l = c.before in
-    let s = l.before.before in
+    let l = c in
+    let s = l in
     let row = cell_at s.args.row.now in
     let next = cell_at s.args.next.now in
-    subst (λ (z : ℤ). Chain (length s.args.chain.now) (unbeaten row next z) (λ v. get_or l.loop.chain v 0)) (to_z-of_z s.ranges.d)
-    (linked_all (subst (λ (k : ℕ). Linked (length s.args.chain.now) (unbeaten row next (to_z w64 (of_z w64 s.args.d))) l.loop.chain l.loop.after k) (omega (arith, c.loop-test.false)) l.loop.invariant))
+    subst (λ (z : ℤ). Chain (length s.args.chain.now) (unbeaten row next z) (λ v. get_or l.loop-v.chain v 0)) (to_z-of_z s.ranges.d)
+    (linked_all (subst (λ (k : ℕ). Linked (length s.args.chain.now) (unbeaten row next (to_z w64 (of_z w64 s.args.d))) l.loop-v.chain l.loop-v.after k) (omega (arith, c.loop-v-test.false)) l.loop-v.invariant))
 
-pub chain-row-spec : {M : Type 1} → statement M
-chain-row-spec =
+pub chain_row_spec : {M : Type 1} → statement M
+chain_row_spec =
     tie.close
     (tie.spec
     invariant-loop
     decreases-loop
-    loop-holds
-    sub-v
-    cast-chain
-    slice-write-chain
-    mul-is-arc
-    shared-slice-copy-out-is-arc
+    loop-v-init
+    overflow_sub-v
+    overflow_cast-chain
+    bounds-chain-v
+    offset_bounds-row-v
+    bounds-row-v
     (λ c κs. tt)
-    mul-beaten
-    shared-slice-copy-out-beaten
-    mul-beaten-2
-    shared-slice-copy-out-beaten-2
+    offset_bounds-row-v-then-is_arc
+    bounds-row-v-then-is_arc
+    offset_bounds-next-v
+    bounds-next-v
     beaten-requires
-    loop-less
-    loop-again
-    loop-less-2
-    loop-again-2
-    loop-less-3
-    loop-again-3
-    same_length
+    loop-v-smaller-then-not-beaten
+    loop-v-preserved-then-not-beaten
+    loop-v-smaller-else-not-beaten
+    loop-v-preserved-else-not-beaten
+    loop-v-smaller
+    loop-v-preserved
+    shape_of-chain
     returns)

@@ -10,17 +10,17 @@ use Rattle.paths.specs.Chain.{Chained, chain_at}
 use Rattle.paths.proofs.Sizes.{board_area}
 use Rattle.paths.proofs.Chaining.{Rows, part_length, rows_turn}
 
-abbrev invariant-loop : tie.invariant-loop
+abbrev invariant-loop : tie.invariant-loop-p
 invariant-loop board table order chain₀ n w₀ p₀ chain w p = Rows n table order chain₀ chain w p
 
-abbrev decreases-loop : tie.decreases-loop
+abbrev decreases-loop : tie.decreases-loop-p
 decreases-loop board table order chain₀ n w₀ p₀ chain w p = p
 
-loop-holds : tie.Need-loop-init invariant-loop decreases-loop
-loop-holds c = record { upto = omega arith; via = omega (arith, c.before.requires.0.checked.lent.sized); size = refl; done = λ q h l. absurd (omega arith) }
+loop-p-init : tie.Need-loop-p-init invariant-loop decreases-loop
+loop-p-init c = record { upto = omega arith; via = omega (arith, c.requires.0.checked.lent.sized); size = refl; done = λ q h l. absurd (omega arith) }
 
 -- a turn, at the place before p
-module _ (t : tie.In-loop invariant-loop decreases-loop) where
+module _ (t : tie.In-loop-p invariant-loop decreases-loop) where
   abbrev s : tie.Start invariant-loop decreases-loop
   s = t.before.before.before
 
@@ -28,95 +28,95 @@ module _ (t : tie.In-loop invariant-loop decreases-loop) where
   n = s.args.board.vertices
 
   abbrev q : ℕ
-  q = t.before.loop.p - 1
+  q = t.loop-p.p - 1
 
   abbrev u : ℕ
   u = get_or s.args.order.now q 0
 
-  rows : Rows n s.args.table.now s.args.order.now s.args.chain.now t.before.loop.chain t.before.loop.w (q + 1)
+  rows : Rows n s.args.table.now s.args.order.now s.args.chain.now t.loop-p.chain t.loop-p.w (q + 1)
   rows =
-      let e : t.before.loop.p ≡ q + 1 = omega (arith, t.loop-test.taken) in
-      subst (λ (k : ℕ). Rows n s.args.table.now s.args.order.now s.args.chain.now t.before.loop.chain t.before.loop.w k) e t.before.loop.inv
+      let e : t.loop-p.p ≡ q + 1 = omega (arith, t.loop-p-test.true) in
+      subst (λ (k : ℕ). Rows n s.args.table.now s.args.order.now s.args.chain.now t.loop-p.chain t.loop-p.w k) e t.loop-p.invariant
 
   few : n ≤ 90
-  few = s.pre.0.checked.lent.sized.few
+  few = s.requires.0.checked.lent.sized.few
 
   vertex : u < n
-  vertex = (s.pre.0.order.vertex q (omega (arith, rows.upto))).0
+  vertex = (s.requires.0.order.vertex q (omega (arith, rows.upto))).0
 
   row : n * u + n ≤ n * n
   row = row_in n u vertex
 
   area : n * n ≤ 8100
-  area = board_area s.args.board s.pre.0.checked.lent.sized
+  area = board_area s.args.board s.requires.0.checked.lent.sized
 
-sub-p : tie.Need-overflow-sub-p invariant-loop decreases-loop
-sub-p c = omega (arith, c.loop-test.true)
+overflow_sub-p : tie.Need-overflow_sub-p invariant-loop decreases-loop
+overflow_sub-p c = omega (arith, c.loop-p-test.true)
 
-element-copy-out-u : tie.Need-element-copy-out-u invariant-loop decreases-loop
-element-copy-out-u c = omega (arith, c.loop-test.true, (rows c).upto, few c)
+bounds-order-p : tie.Need-bounds-order-p invariant-loop decreases-loop
+bounds-order-p c = omega (arith, c.loop-p-test.true, (rows c.before).upto, few c.before)
 
-cast-u : tie.Need-overflow-cast-u invariant-loop decreases-loop
-cast-u c = let t = c.before in omega (arith, vertex t, few t)
+overflow_cast-u : tie.Need-overflow_cast-u invariant-loop decreases-loop
+overflow_cast-u c = let t = c in omega (arith, vertex t.before.before, few t.before.before)
 
-mul_at : tie.Need-overflow-mul-at invariant-loop decreases-loop
-mul_at c = let t = c.before in omega (arith, row t, area t, vertex t)
+overflow_mul-at : tie.Need-overflow_mul-at invariant-loop decreases-loop
+overflow_mul-at c = let t = c in omega (arith, row t.before.before, area t.before.before, vertex t.before.before)
 
-add-end : tie.Need-overflow-add-end invariant-loop decreases-loop
-add-end c = let t = c.before in omega (arith, row t, area t, vertex t)
+overflow_add-end : tie.Need-overflow_add-end invariant-loop decreases-loop
+overflow_add-end c = let t = c in omega (arith, row t.before.before, area t.before.before, vertex t.before.before)
 
-part-chain-from-end : tie.Need-slice-bounds-chain-from-end invariant-loop decreases-loop
-part-chain-from-end c = let t = c.before in omega (arith, row t, (s t).requires.1, (rows t).size)
+slice_bounds-chain_from-end : tie.Need-slice_bounds-chain_from-end invariant-loop decreases-loop
+slice_bounds-chain_from-end c = let t = c in omega (arith, row t.before.before, (s t.before.before).requires.1, (rows t.before.before).size)
 
-chain-from-requires : tie.Need-chain-from-requires invariant-loop decreases-loop
-chain-from-requires c κs =
-    let t = c.before.before in
-    ((s t).requires.0.checked, (vertex t, (t.before.loop.invariant.via, part_length (q t) (s t).requires.0.order (s t).requires.1 (rows t))))
+chain_from-requires : tie.Need-chain_from-requires invariant-loop decreases-loop
+chain_from-requires c κs =
+    let t = c in
+    ((s t.before.before.before).requires.0.checked, (vertex t.before.before.before, (t.loop-p.invariant.via, part_length (q t.before.before.before) (s t.before.before.before).requires.0.order (s t.before.before.before).requires.1 (rows t.before.before.before))))
 
-abbrev turn-of : tie.After-slice-known2 invariant-loop decreases-loop → tie.In-loop invariant-loop decreases-loop
-turn-of c = c.before.before.before.before.before
+abbrev turn_of : tie.After-slice_known-in-loop-p-1 invariant-loop decreases-loop → tie.In-loop-p invariant-loop decreases-loop
+turn_of c = c.before.before.before.before.before.before
 
-loop-less : tie.Need-loop-smaller invariant-loop decreases-loop
-loop-less c = omega (arith, (turn-of c).loop-test.true)
+loop-p-smaller : tie.Need-loop-p-smaller invariant-loop decreases-loop
+loop-p-smaller c = omega (arith, (turn_of c).loop-p-test.true)
 
-loop-again : tie.Need-loop-preserved invariant-loop decreases-loop
-loop-again c =
-    let r = c.before.before in
-    let t = turn-of c in
-    rows_turn (q t) (s t).pre.0.order (s t).pre.1 (rows t) r.chain-from.new.1.1.1.1.0 r.chain-from.auto.1.1.1.1.0 r.chain-from.ensures
+loop-p-preserved : tie.Need-loop-p-preserved invariant-loop decreases-loop
+loop-p-preserved c =
+    let r = c in
+    let t = turn_of c in
+    rows_turn (q t) (s t).requires.0.order (s t).requires.1 (rows t) r.chain_from.new.chain r.chain_from.auto.chain r.chain_from.ensures
 
-same_length : tie.Need-same-length invariant-loop decreases-loop
-same_length c = c.before.loop.invariant.size
+shape_of-chain : tie.Need-shape_of-chain invariant-loop decreases-loop
+shape_of-chain c = c.loop-p.invariant.size
 
 returns : tie.Need-returns invariant-loop decreases-loop
 returns c =
-    let l = c.before in
-    let s = l.before.before in
+    let l = c in
+    let s = l in
     let n = s.args.board.vertices in
     let o = s.requires.0.order in
     record {
-      room = omega (arith, s.requires.1, l.loop.invariant.size);
-      row = λ u h. subst (λ (x : ℕ). Chained n (graph_of n s.args.table.now) x (chain_at n l.loop.chain x)) (o.place u h).1
-          (l.loop.invariant.done (o.rank u) (omega (arith, c.loop-test.false)) (o.place u h).0);
+      room = omega (arith, s.requires.1, l.loop-p.invariant.size);
+      row = λ u h. subst (λ (x : ℕ). Chained n (graph_of n s.args.table.now) x (chain_at n l.loop-p.chain x)) (o.place u h).1
+          (l.loop-p.invariant.done (o.rank u) (omega (arith, c.loop-p-test.false)) (o.place u h).0);
     }
 
-pub chains-spec : {M : Type 1} → statement M
-chains-spec =
+pub chains_spec : {M : Type 1} → statement M
+chains_spec =
     tie.close
     (tie.spec
     invariant-loop
     decreases-loop
-    loop-holds
-    sub-p
-    element-copy-out-u
-    cast-u
-    mul_at
-    add-end
+    loop-p-init
+    overflow_sub-p
+    bounds-order-p
+    overflow_cast-u
+    overflow_mul-at
+    overflow_add-end
     (λ c. omega arith)
     (λ c. omega arith)
-    part-chain-from-end
-    chain-from-requires
-    loop-less
-    loop-again
-    same_length
+    slice_bounds-chain_from-end
+    chain_from-requires
+    loop-p-smaller
+    loop-p-preserved
+    shape_of-chain
     returns)

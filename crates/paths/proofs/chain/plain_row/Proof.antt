@@ -17,88 +17,88 @@ use Rattle.timing.specs.Table.{read_cell}
 use Rattle.paths.specs.Cells.{cell_at}
 use Rattle.paths.proofs.Chaining.{Linked, linked_start, link_arc, link_none, linked_all}
 
-abbrev invariant-loop : tie.invariant-loop
+abbrev invariant-loop : tie.invariant-loop-v
 invariant-loop row chain₀ after₀ v₀ chain after v = Linked (length chain₀) (cell_at row) chain after v
 
-abbrev decreases-loop : tie.decreases-loop
+abbrev decreases-loop : tie.decreases-loop-v
 decreases-loop row chain₀ after₀ v₀ chain after v = v
 
-loop-holds : tie.Need-loop-init invariant-loop decreases-loop
-loop-holds c = linked_start _ _
+loop-v-init : tie.Need-loop-v-init invariant-loop decreases-loop
+loop-v-init c = linked_start _ _
 
-sub-v : tie.Need-overflow-sub-v invariant-loop decreases-loop
-sub-v c = omega (arith, c.loop-test.true)
+overflow_sub-v : tie.Need-overflow_sub-v invariant-loop decreases-loop
+overflow_sub-v c = omega (arith, c.loop-v-test.true)
 
-cast-chain : tie.Need-overflow-cast-chain invariant-loop decreases-loop
-cast-chain c = omega (arith, c.before.loop.invariant.high, c.before.before.before.requires.0)
+overflow_cast-chain : tie.Need-overflow_cast-chain invariant-loop decreases-loop
+overflow_cast-chain c = omega (arith, c.loop-v.invariant.high, c.requires.0)
 
-slice-write-chain : tie.Need-slice-write-chain invariant-loop decreases-loop
-slice-write-chain c = omega (arith, c.loop-test.true, c.before.loop.invariant)
+bounds-chain-v : tie.Need-bounds-chain-v invariant-loop decreases-loop
+bounds-chain-v c = omega (arith, c.loop-v-test.true, c.loop-v.invariant)
 
-mul-is-arc : tie.Need-overflow-mul-is-arc invariant-loop decreases-loop
-mul-is-arc c = omega (arith, c.before.loop.invariant, c.before.before.before.requires.0)
+offset_bounds-row-v : tie.Need-offset_bounds-row-v invariant-loop decreases-loop
+offset_bounds-row-v c = omega (arith, c.loop-v.invariant, c.requires.0)
 
-shared-slice-copy-out-is-arc : tie.Need-shared-slice-copy-out-is-arc invariant-loop decreases-loop
-shared-slice-copy-out-is-arc c = omega (arith, c.loop-test.true, c.before.loop.invariant, c.before.before.before.requires.1)
+bounds-row-v : tie.Need-bounds-row-v invariant-loop decreases-loop
+bounds-row-v c = omega (arith, c.loop-v-test.true, c.loop-v.invariant, c.requires.1)
 
 -- a turn
-module _ (a : tie.After-is-arc invariant-loop decreases-loop) where
-  abbrev t : tie.In-loop invariant-loop decreases-loop
+module _ (a : tie.After-is_arc invariant-loop decreases-loop) where
+  abbrev t : tie.In-loop-v invariant-loop decreases-loop
   t = a.before.before
 
-  abbrev h : tie.At-loop invariant-loop decreases-loop
+  abbrev h : tie.At-loop-v invariant-loop decreases-loop
   h = t.before
 
   abbrev row : List ℤ
-  row = h.before.before.args.row.now
+  row = h.args.row.now
 
   abbrev q : ℕ
-  q = h.loop.v - 1
+  q = h.loop-v.v - 1
 
-  linked : Linked (length h.before.before.args.chain.now) (cell_at row) h.loop.chain h.loop.after (q + 1)
+  linked : Linked (length h.args.chain.now) (cell_at row) h.loop-v.chain h.loop-v.after (q + 1)
   linked =
-      let e : h.loop.v ≡ q + 1 = omega (arith, t.loop-test.taken) in
-      subst (λ (k : ℕ). Linked (length h.before.before.args.chain.now) (cell_at row) h.loop.chain h.loop.after k) e h.loop.inv
+      let e : h.loop-v.v ≡ q + 1 = omega (arith, t.loop-v-test.true) in
+      subst (λ (k : ℕ). Linked (length h.args.chain.now) (cell_at row) h.loop-v.chain h.loop-v.after k) e h.loop-v.invariant
 
-  tested : a.is-arc.result ≡ present (cell_at row q)
-  tested = a.is-arc.ensures ∙ ap (λ (z : ℤ). present (read_cell absent_cell z)) (back w32 _ a.before.is-arc-arg.given)
+  tested : a.is_arc.result ≡ present (cell_at row q)
+  tested = a.is_arc.ensures ∙ ap (λ (z : ℤ). present (read_cell absent_cell z)) (back w32 _ a.is_arc-arg-1.given)
 
-loop-less : tie.Need-loop-smaller invariant-loop decreases-loop
-loop-less c = omega (arith, (t c.before).loop-test.taken)
+loop-v-smaller-then-is_arc : tie.Need-loop-v-smaller-then-is_arc invariant-loop decreases-loop
+loop-v-smaller-then-is_arc c = omega (arith, (t c.before).loop-v-test.true)
 
-loop-again : tie.Need-loop-preserved invariant-loop decreases-loop
-loop-again c = link_arc (linked c.before) (true_is (sym (tested c.before) ∙ c.if1.true))
+loop-v-preserved-then-is_arc : tie.Need-loop-v-preserved-then-is_arc invariant-loop decreases-loop
+loop-v-preserved-then-is_arc c = link_arc (linked c.before) (true_is (sym (tested c.before) ∙ c.if-is_arc.true))
 
-loop-less-2 : tie.Need-loop-smaller-2 invariant-loop decreases-loop
-loop-less-2 c = omega (arith, (t c.before).loop-test.taken)
+loop-v-smaller : tie.Need-loop-v-smaller invariant-loop decreases-loop
+loop-v-smaller c = omega (arith, (t c.before).loop-v-test.true)
 
-loop-again-2 : tie.Need-loop-preserved-2 invariant-loop decreases-loop
-loop-again-2 c = link_none (linked c.before) (absent_unless _ (true_is (ap not (sym (tested c.before) ∙ c.if1.false))))
+loop-v-preserved : tie.Need-loop-v-preserved invariant-loop decreases-loop
+loop-v-preserved c = link_none (linked c.before) (absent_unless _ (true_is (ap not (sym (tested c.before) ∙ c.if-is_arc.false))))
 
-same_length : tie.Need-same-length invariant-loop decreases-loop
-same_length c = c.before.loop.invariant.size
+shape_of-chain : tie.Need-shape_of-chain invariant-loop decreases-loop
+shape_of-chain c = c.loop-v.invariant.size
 
 returns : tie.Need-returns invariant-loop decreases-loop
 returns c =
-    let l = c.before in
-    linked_all (subst (λ (k : ℕ). Linked (length l.before.before.args.chain.now) (cell_at l.before.before.args.row.now) l.loop.chain l.loop.after k) (omega (arith, c.loop-test.false)) l.loop.invariant)
+    let l = c in
+    linked_all (subst (λ (k : ℕ). Linked (length l.args.chain.now) (cell_at l.args.row.now) l.loop-v.chain l.loop-v.after k) (omega (arith, c.loop-v-test.false)) l.loop-v.invariant)
 
-pub plain-row-spec : {M : Type 1} → statement M
-plain-row-spec =
+pub plain_row_spec : {M : Type 1} → statement M
+plain_row_spec =
     tie.close
     (tie.spec
     invariant-loop
     decreases-loop
-    loop-holds
-    sub-v
-    cast-chain
-    slice-write-chain
-    mul-is-arc
-    shared-slice-copy-out-is-arc
+    loop-v-init
+    overflow_sub-v
+    overflow_cast-chain
+    bounds-chain-v
+    offset_bounds-row-v
+    bounds-row-v
     (λ c κs. tt)
-    loop-less
-    loop-again
-    loop-less-2
-    loop-again-2
-    same_length
+    loop-v-smaller-then-is_arc
+    loop-v-preserved-then-is_arc
+    loop-v-smaller
+    loop-v-preserved
+    shape_of-chain
     returns)

@@ -10,33 +10,33 @@ use Rattle.paths.proofs.Checking.{arcs_refusal}
 use Rattle.paths.proofs.checks.arcs_checked.Statement.{statement}
 use Rattle.paths.proofs.checks.arcs_checked.Tie as tie
 
+returns-then-not-no_arc_into_input : tie.Need-returns-then-not-no_arc_into_input
+returns-then-not-no_arc_into_input c = arcs_refusal ArcIntoInput (simp (sym c.no_arc_into_input.ensures ∙ not-true _ c.if-not-no_arc_into_input.true-raw))
+
+five : (c : tie.Else-not-no_arc_into_input) → let a = c.args in no_arc_into_input a.board.inputs a.board.vertices (graph_in a.board a.table.now) ≡ true
+five c = sym c.no_arc_into_input.ensures ∙ not-false _ c.if-not-no_arc_into_input.false-raw
+
+returns-then-not-topological_order : tie.Need-returns-then-not-topological_order
+returns-then-not-topological_order c =
+    let o = c in
+    arcs_refusal Cycle (simp (five o.before.before.before, sym o.topological_order.ensures.answer ∙ not-true _ c.if-not-topological_order.true-raw))
+
 returns : tie.Need-returns
-returns c = arcs_refusal ArcIntoInput (simp (sym c.before.no-arc-into-input.ensures ∙ not-true _ c.if1.true))
-
-five : (c : tie.Else1) → let a = c.before.before.args in no_arc_into_input a.board.inputs a.board.vertices (graph_in a.board a.table.now) ≡ true
-five c = sym c.before.no-arc-into-input.ensures ∙ not-false _ c.if1.false
-
-returns-2 : tie.Need-returns-2
-returns-2 c =
-    let o = c.before in
-    arcs_refusal Cycle (simp (five o.before.before, sym o.topological-order.ensures.answer ∙ not-true _ c.if2.true))
-
-returns-3 : tie.Need-returns-3
-returns-3 c =
-    let o = c.before in
-    let passed = not-false _ c.if2.false in
+returns c =
+    let o = c in
+    let passed = not-false _ c.if-not-topological_order.false-raw in
     record {
-      answer = sym (simp (five o.before.before, sym o.topological-order.ensures.answer ∙ passed));
-      order = λ _ _. o.topological-order.ensures.order (true_is passed);
-      long = λ _ _. o.topological-order.ensures.long;
+      answer = sym (simp (five o.before.before.before, sym o.topological_order.ensures.answer ∙ passed));
+      order = λ _ _. o.topological_order.ensures.order (true_is passed);
+      long = λ _ _. o.topological_order.ensures.long;
     }
 
-pub arcs-checked-spec : {M : Type 1} → statement M
-arcs-checked-spec =
+pub arcs_checked_spec : {M : Type 1} → statement M
+arcs_checked_spec =
     tie.close
     (tie.spec
     (λ c κs. search rules)
-    returns
+    returns-then-not-no_arc_into_input
     (λ c κs. search rules)
-    returns-2
-    returns-3)
+    returns-then-not-topological_order
+    returns)

@@ -5,38 +5,38 @@ use Rattle.paths.proofs.Checking.{memory_refused, odd_cell, arcs_next}
 use Rattle.paths.proofs.checks.checked.Statement.{statement}
 use Rattle.paths.proofs.checks.checked.Tie as tie
 
-cells-fit-requires : tie.Need-cells-fit-requires
-cells-fit-requires c κs = let a = c.before in (a.before.before.memory-checked.ensures.lent _ a.made.given.1).0
+cells_fit-requires : tie.Need-cells_fit-requires
+cells_fit-requires c κs = let a = c in (a.memory_checked-made.ensures.lent _ a.in-Board.is).0
+
+returns-then-not-cells_fit : tie.Need-returns-then-not-cells_fit
+returns-then-not-cells_fit c =
+    let a = c in
+    odd_cell _ _ _ _ _ _ _ a.memory_checked-made.ensures _ a.in-Board.is (sym c.cells_fit.ensures ∙ not-true _ c.if-not-cells_fit.true-raw)
+
+arcs_checked-requires : tie.Need-arcs_checked-requires
+arcs_checked-requires c κs =
+    let a = c in
+    let m = a in
+    ((m.memory_checked-made.ensures.lent _ a.in-Board.is).0, m.requires)
+
+returns-in-Board : tie.Need-returns-in-Board
+returns-in-Board c =
+    let e = c in
+    let a = e in
+    arcs_next _ _ _ _ _ _ _ a.memory_checked-made.ensures _ a.in-Board.is (sym e.cells_fit.ensures ∙ not-false _ e.if-not-cells_fit.false-raw) _ c.arcs_checked.ensures
 
 returns : tie.Need-returns
-returns c =
-    let a = c.before.before.before in
-    odd_cell _ _ _ _ _ _ _ a.before.before.memory-checked.ensures _ a.made.given.1 (sym c.before.cells_fit.ensures ∙ not-true _ c.if1.true)
+returns c = memory_refused _ _ _ _ _ _ _ c.memory_checked-made.ensures _ c.in_default.is
 
-arcs-checked-requires : tie.Need-arcs-checked-requires
-arcs-checked-requires c κs =
-    let a = c.before.before.before.before in
-    let m = a.before.before in
-    ((m.memory-checked.ensures.lent _ a.made.given.1).0, m.before.requires)
-
-returns-2 : tie.Need-returns-2
-returns-2 c =
-    let e = c.before.before in
-    let a = e.before.before.before in
-    arcs_next _ _ _ _ _ _ _ a.before.before.memory-checked.ensures _ a.made.given.1 (sym e.before.cells_fit.ensures ∙ not-false _ e.if1.false) _ c.arcs-checked.ensures
-
-returns-3 : tie.Need-returns-3
-returns-3 c = memory_refused _ _ _ _ _ _ _ c.before.before.memory-checked.ensures _ c.enum_told.given.1
-
-pub checked-spec : {M : Type 1} → statement M
-checked-spec =
+pub checked_spec : {M : Type 1} → statement M
+checked_spec =
     tie.close
     (tie.spec
     (λ c κs. search rules)
     (λ c. search rules)
-    cells-fit-requires
-    returns
-    arcs-checked-requires
-    returns-2
+    cells_fit-requires
+    returns-then-not-cells_fit
+    arcs_checked-requires
+    returns-in-Board
     (λ c. search rules)
-    returns-3)
+    returns)

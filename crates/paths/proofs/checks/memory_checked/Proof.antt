@@ -14,9 +14,9 @@ use Rattle.paths.proofs.checks.memory_checked.Statement.{statement}
 use Rattle.paths.proofs.checks.memory_checked.Tie as tie
 
 -- the board has been made
-module _ (c : tie.After-made) where
+module _ (c : tie.In-Board) where
   abbrev start : tie.Start
-  start = c.before.before.before
+  start = c.before.before
 
   abbrev t : List ℤ
   t = start.args.table.now
@@ -25,55 +25,55 @@ module _ (c : tie.After-made) where
   k = start.args.scratch
 
   abbrev b : Board
-  b = c.made.given.0.0
+  b = c.in-Board.board
 
-  made : board_meaning c.before.before.new.result ≡ board_of start.args.inputs start.args.outputs start.args.vertices
-  made = c.before.before.new.ensures
+  made : board_meaning c.new-made.result ≡ board_of start.args.inputs start.args.outputs start.args.vertices
+  made = c.new-made.ensures
 
   sized : Sized b
-  sized = board_sized _ _ _ k t _ made b c.made.given.1
+  sized = board_sized _ _ _ k t _ made b c.in-Board.is
 
 cells-requires : tie.Need-cells-requires
-cells-requires c κs = sized c.before
+cells-requires c κs = sized c
 
-returns : tie.Need-returns
-returns c =
-    let a = c.before.before.before in
-    let h : length (t a) < (b a).vertices * (b a).vertices = omega (arith, c.if1.true, c.before.cells.ensures) in
-    memory_refusal TableShort (table_short _ _ _ (k a) (t a) _ (made a) (b a) a.made.given.1 h)
+returns-then-table-cells : tie.Need-returns-then-table-cells
+returns-then-table-cells c =
+    let a = c in
+    let h : length (t a.before.before) < (b a.before.before).vertices * (b a.before.before).vertices = omega (arith, c.if-table-cells.true, c.cells.ensures) in
+    memory_refusal TableShort (table_short _ _ _ (k a.before.before) (t a.before.before) _ (made a.before.before) (b a.before.before) a.in-Board.is h)
 
-two : (c : tie.Else1) → let a = c.before.before.before in (b a).vertices * (b a).vertices ≤ length (t a)
-two c = omega (arith, c.if1.false, c.before.cells.ensures)
+two : (c : tie.Else-table-cells) → let a = c in (b a.before.before).vertices * (b a.before.before).vertices ≤ length (t a.before.before)
+two c = omega (arith, c.if-table-cells.false, c.cells.ensures)
 
-scratch-cells-requires : tie.Need-scratch-cells-requires
-scratch-cells-requires c κs = sized c.before.before.before
+scratch_cells-requires : tie.Need-scratch_cells-requires
+scratch_cells-requires c κs = sized c.before.before
 
-returns-2 : tie.Need-returns-2
-returns-2 c =
-    let e = c.before.before in
-    let a = e.before.before.before in
-    let h : k a < scratch_cells (b a).vertices = omega (arith, c.if2.true, c.before.scratch-cells.ensures) in
-    memory_refusal ScratchShort (scratch_short _ _ _ (k a) (t a) _ (made a) (b a) a.made.given.1 (two e) h)
+returns-then-scratch-scratch_cells : tie.Need-returns-then-scratch-scratch_cells
+returns-then-scratch-scratch_cells c =
+    let e = c in
+    let a = e in
+    let h : k a.before.before.before.before < scratch_cells (b a.before.before.before.before).vertices = omega (arith, c.if-scratch-scratch_cells.true, c.scratch_cells.ensures) in
+    memory_refusal ScratchShort (scratch_short _ _ _ (k a.before.before.before.before) (t a.before.before.before.before) _ (made a.before.before.before.before) (b a.before.before.before.before) a.in-Board.is (two e.before.before) h)
 
-returns-3 : tie.Need-returns-3
-returns-3 c =
-    let e = c.before.before in
-    let a = e.before.before.before in
-    memory_fits _ _ _ (k a) (t a) _ (made a) (b a) a.made.given.1 (two e) (omega (arith, c.if2.false, c.before.scratch-cells.ensures))
+returns-else-scratch-scratch_cells : tie.Need-returns-else-scratch-scratch_cells
+returns-else-scratch-scratch_cells c =
+    let e = c in
+    let a = e in
+    memory_fits _ _ _ (k a.before.before.before.before) (t a.before.before.before.before) _ (made a.before.before.before.before) (b a.before.before.before.before) a.in-Board.is (two e.before.before) (omega (arith, c.if-scratch-scratch_cells.false, c.scratch_cells.ensures))
 
-returns-4 : tie.Need-returns-4
-returns-4 c = sizes_refused _ _ _ _ _ _ c.before.before.new.ensures _ c.enum_told.given.1
+returns-in_default : tie.Need-returns-in_default
+returns-in_default c = sizes_refused _ _ _ _ _ _ c.new-made.ensures _ c.in_default.is
 
-pub memory-checked-spec : {M : Type 1} → statement M
-memory-checked-spec =
+pub memory_checked_spec : {M : Type 1} → statement M
+memory_checked_spec =
     tie.close
     (tie.spec
     (λ c κs. search rules)
     (λ c. search rules)
     cells-requires
-    returns
-    scratch-cells-requires
-    returns-2
+    returns-then-table-cells
+    scratch_cells-requires
+    returns-then-scratch-scratch_cells
     (λ c. search rules)
-    returns-3
-    returns-4)
+    returns-else-scratch-scratch_cells
+    returns-in_default)

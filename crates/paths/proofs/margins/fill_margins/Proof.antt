@@ -18,108 +18,108 @@ use Rattle.timing.specs.Delays.{arrival_in}
 use Rattle.paths.specs.Arrivals.{reached_limit, stored}
 
 -- what is stored at v
-abbrev margin-at : List ℤ → List ℤ → ℕ → ℤ
-margin-at required arrival v = write_cell absent_wide (arrival_in required v ⊖ arrival_in arrival v)
+abbrev margin_at : List ℤ → List ℤ → ℕ → ℤ
+margin_at required arrival v = write_cell absent_wide (arrival_in required v ⊖ arrival_in arrival v)
 
-abbrev invariant-loop : tie.invariant-loop
-invariant-loop required arrival margin₀ v₀ margin v = (v ≤ length margin₀) × (length margin ≡ length margin₀) × (margin ≡ stored v (margin-at required arrival) margin₀)
+abbrev invariant-loop : tie.invariant-loop-v
+invariant-loop required arrival margin₀ v₀ margin v = (v ≤ length margin₀) × (length margin ≡ length margin₀) × (margin ≡ stored v (margin_at required arrival) margin₀)
 
-abbrev decreases-loop : tie.decreases-loop
+abbrev decreases-loop : tie.decreases-loop-v
 decreases-loop required arrival margin₀ v₀ margin v = length margin₀ - v
 
-loop-holds : tie.Need-loop-init invariant-loop decreases-loop
-loop-holds c = (omega arith, refl, fill_none _ _)
+loop-v-init : tie.Need-loop-v-init invariant-loop decreases-loop
+loop-v-init c = (omega arith, refl, fill_none _ _)
 
 -- a turn
-module _ (t : tie.In-loop invariant-loop decreases-loop) where
-  abbrev l : tie.At-loop invariant-loop decreases-loop
+module _ (t : tie.In-loop-v invariant-loop decreases-loop) where
+  abbrev l : tie.At-loop-v invariant-loop decreases-loop
   l = t.before
 
   abbrev s : tie.Start invariant-loop decreases-loop
   s = l.before
 
-  in-margin : l.loop.v < length s.args.margin.now
-  in-margin = omega (arith, t.loop-test.taken, l.loop.inv.1)
+  in_margin : l.loop-v.v < length s.args.margin.now
+  in_margin = omega (arith, t.loop-v-test.true, l.loop-v.invariant.1)
 
-mul-margin-of : tie.Need-overflow-mul-margin-of invariant-loop decreases-loop
-mul-margin-of c = omega (arith, in-margin c, (s c).well-formed)
+offset_bounds-required-v : tie.Need-offset_bounds-required-v invariant-loop decreases-loop
+offset_bounds-required-v c = omega (arith, in_margin c, (s c).well_formed)
 
-shared-slice-copy-out-margin-of : tie.Need-shared-slice-copy-out-margin-of invariant-loop decreases-loop
-shared-slice-copy-out-margin-of c = omega (arith, in-margin c, (s c).requires.0.room)
+bounds-required-v : tie.Need-bounds-required-v invariant-loop decreases-loop
+bounds-required-v c = omega (arith, in_margin c, (s c).requires.0.room)
 
-mul-margin-of-2 : tie.Need-overflow-mul-margin-of-2 invariant-loop decreases-loop
-mul-margin-of-2 c = mul-margin-of c.before
+offset_bounds-arrival-v : tie.Need-offset_bounds-arrival-v invariant-loop decreases-loop
+offset_bounds-arrival-v c = offset_bounds-required-v c.before
 
-shared-slice-copy-out-margin-of-2 : tie.Need-shared-slice-copy-out-margin-of-2 invariant-loop decreases-loop
-shared-slice-copy-out-margin-of-2 c = omega (arith, in-margin c.before, (s c.before).pre.1.room)
+bounds-arrival-v : tie.Need-bounds-arrival-v invariant-loop decreases-loop
+bounds-arrival-v c = omega (arith, in_margin c.before, (s c.before).requires.1.room)
 
 -- the cells as they are read
-module _ (g : tie.After-margin-of-arg2 invariant-loop decreases-loop) where
-  abbrev t : tie.In-loop invariant-loop decreases-loop
+module _ (g : tie.After-margin_of-arg-in-loop-v-1 invariant-loop decreases-loop) where
+  abbrev t : tie.In-loop-v invariant-loop decreases-loop
   t = g.before.before
 
-  first : to_z w64 (of_z w64 (get_or (s t).args.required.now (l t).loop.v (pos 0))) ≡ get_or (s t).args.required.now (l t).loop.v (pos 0)
-  first = back w64 _ g.before.margin-of-arg.given
+  first : to_z w64 (of_z w64 (get_or (s t).args.required.now (l t).loop-v.v (pos 0))) ≡ get_or (s t).args.required.now (l t).loop-v.v (pos 0)
+  first = back w64 _ g.margin_of-arg-1.given
 
-  second : to_z w64 (of_z w64 (get_or (s t).args.arrival.now (l t).loop.v (pos 0))) ≡ get_or (s t).args.arrival.now (l t).loop.v (pos 0)
-  second = back w64 _ g.margin-of-arg2.given
+  second : to_z w64 (of_z w64 (get_or (s t).args.arrival.now (l t).loop-v.v (pos 0))) ≡ get_or (s t).args.arrival.now (l t).loop-v.v (pos 0)
+  second = back w64 _ g.margin_of-arg-in-loop-v-1.given
 
-margin-of-requires : tie.Need-margin-of-requires invariant-loop decreases-loop
-margin-of-requires c κs = (
-  subst (λ (z : ℤ). T (fits reached_limit (read_cell absent_wide z))) (sym (first c)) ((s (t c)).pre.0.near (l (t c)).loop.v (in-margin (t c))),
-  subst (λ (z : ℤ). T (fits reached_limit (read_cell absent_wide z))) (sym (second c)) ((s (t c)).pre.1.near (l (t c)).loop.v (in-margin (t c))),
+margin_of-requires : tie.Need-margin_of-requires invariant-loop decreases-loop
+margin_of-requires c κs = (
+  subst (λ (z : ℤ). T (fits reached_limit (read_cell absent_wide z))) (sym (first c)) ((s (t c)).requires.0.near (l (t c)).loop-v.v (in_margin (t c))),
+  subst (λ (z : ℤ). T (fits reached_limit (read_cell absent_wide z))) (sym (second c)) ((s (t c)).requires.1.near (l (t c)).loop-v.v (in_margin (t c))),
 )
 
-abbrev turn-of : tie.After-margin-of invariant-loop decreases-loop → tie.In-loop invariant-loop decreases-loop
-turn-of c = t c.before
+abbrev turn_of : tie.After-margin_of invariant-loop decreases-loop → tie.In-loop-v invariant-loop decreases-loop
+turn_of c = t c.before
 
-mul-t13 : tie.Need-overflow-mul-t13 invariant-loop decreases-loop
-mul-t13 c = mul-margin-of (turn-of c)
+offset_bounds-margin-v : tie.Need-offset_bounds-margin-v invariant-loop decreases-loop
+offset_bounds-margin-v c = offset_bounds-required-v (turn_of c)
 
-slice-set-from-margin : tie.Need-slice-set-from-margin invariant-loop decreases-loop
-slice-set-from-margin c = (turn-of c).loop-test.true
+bounds-margin-v : tie.Need-bounds-margin-v invariant-loop decreases-loop
+bounds-margin-v c = (turn_of c).loop-v-test.true
 
-add-v : tie.Need-overflow-add-v invariant-loop decreases-loop
-add-v c = let k = mul-margin-of (turn-of c) in omega arith
+overflow_add-v : tie.Need-overflow_add-v invariant-loop decreases-loop
+overflow_add-v c = let k = offset_bounds-required-v (turn_of c) in omega arith
 
-loop-less : tie.Need-loop-smaller invariant-loop decreases-loop
-loop-less c = omega (arith, in-margin (turn-of c))
+loop-v-smaller : tie.Need-loop-v-smaller invariant-loop decreases-loop
+loop-v-smaller c = omega (arith, in_margin (turn_of c))
 
-loop-again : tie.Need-loop-preserved invariant-loop decreases-loop
-loop-again c =
-    let g = c.before in
-    let a = (s (t g)).args in (
-      omega (arith, in-margin (t g)),
-      simp length-set (l (t g)).loop.inv.1,
-      fill_turn (margin-at a.required.now a.arrival.now) a.margin.now (l (t g)).loop.margin (l (t g)).loop.v _ (in-margin (t g)) (l (t g)).loop.inv.2
-          (back w64 _ c.margin-of.type-inv ∙ c.margin-of.ensures ∙ ap₂ (λ (x y : ℤ). write_cell absent_wide (read_cell absent_wide x ⊖ read_cell absent_wide y)) (first g) (second g)),
+loop-v-preserved : tie.Need-loop-v-preserved invariant-loop decreases-loop
+loop-v-preserved c =
+    let g = c in
+    let a = (s (t g.before)).args in (
+      omega (arith, in_margin (t g.before)),
+      simp length-set (l (t g.before)).loop-v.invariant.1,
+      fill_turn (margin_at a.required.now a.arrival.now) a.margin.now (l (t g.before)).loop-v.margin (l (t g.before)).loop-v.v _ (in_margin (t g.before)) (l (t g.before)).loop-v.invariant.2
+          (back w64 _ c.margin_of.type_inv ∙ c.margin_of.ensures ∙ ap₂ (λ (x y : ℤ). write_cell absent_wide (read_cell absent_wide x ⊖ read_cell absent_wide y)) (first g.before) (second g.before)),
     )
 
-same_length : tie.Need-same-length invariant-loop decreases-loop
-same_length c = c.before.loop.invariant.1
+shape_of-margin : tie.Need-shape_of-margin invariant-loop decreases-loop
+shape_of-margin c = c.loop-v.invariant.1
 
 returns : tie.Need-returns invariant-loop decreases-loop
 returns c =
-    let m = c.before in
-    let a = m.before.args in
-    m.loop.invariant.2 ∙ fill_all (margin-at a.required.now a.arrival.now) a.margin.now m.loop.v (omega (arith, m.loop.invariant.0, m.loop.invariant.1, c.loop-test.false))
+    let m = c in
+    let a = m.args in
+    m.loop-v.invariant.2 ∙ fill_all (margin_at a.required.now a.arrival.now) a.margin.now m.loop-v.v (omega (arith, m.loop-v.invariant.0, m.loop-v.invariant.1, c.loop-v-test.false))
 
-pub fill-margins-spec : {M : Type 1} → statement M
-fill-margins-spec =
+pub fill_margins_spec : {M : Type 1} → statement M
+fill_margins_spec =
     tie.close
     (tie.spec
     invariant-loop
     decreases-loop
-    loop-holds
-    mul-margin-of
-    shared-slice-copy-out-margin-of
-    mul-margin-of-2
-    shared-slice-copy-out-margin-of-2
-    margin-of-requires
-    mul-t13
-    slice-set-from-margin
-    add-v
-    loop-less
-    loop-again
-    same_length
+    loop-v-init
+    offset_bounds-required-v
+    bounds-required-v
+    offset_bounds-arrival-v
+    bounds-arrival-v
+    margin_of-requires
+    offset_bounds-margin-v
+    bounds-margin-v
+    overflow_add-v
+    loop-v-smaller
+    loop-v-preserved
+    shape_of-margin
     returns)

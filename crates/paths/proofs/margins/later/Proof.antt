@@ -17,22 +17,22 @@ use Rattle.paths.proofs.Propagating.{reached}
 use Rattle.paths.proofs.margins.later.Statement.{statement}
 use Rattle.paths.proofs.margins.later.Tie as tie
 
-returns : tie.Need-returns
-returns c =
-    let s = c.before in
-    ap (read_cell absent_wide) (to_z-of_z s.ranges.best) ∙ sym (ap (λ (d : Delay). read_cell absent_wide s.args.best ⋓ (d ⊕ read_cell absent_cell s.args.cell)) (read_absent absent_wide s.args.a (same_bits {w = w64} {b = absent_wide} s.ranges.a (sfits_lit tt) c.if1.true))
+returns-then-a-eq-ABSENT_WIDE : tie.Need-returns-then-a-eq-ABSENT_WIDE
+returns-then-a-eq-ABSENT_WIDE c =
+    let s = c in
+    ap (read_cell absent_wide) (to_z-of_z s.ranges.best) ∙ sym (ap (λ (d : Delay). read_cell absent_wide s.args.best ⋓ (d ⊕ read_cell absent_cell s.args.cell)) (read_absent absent_wide s.args.a (same_bits {w = w64} {b = absent_wide} s.ranges.a (sfits_lit tt) c.if-a-eq-ABSENT_WIDE.true))
     ∙ ⋓-absent (read_cell absent_wide s.args.best))
 
 -- a is present
-module _ (c : tie.Else1) where
+module _ (c : tie.Else-a-eq-ABSENT_WIDE) where
   abbrev s : tie.Start
   s = c.before
 
   there : Reached s.args.a
-  there = reached s.args.a (other_bits w64 c.if1.false) s.pre.0
+  there = reached s.args.a (other_bits w64 c.if-a-eq-ABSENT_WIDE.false) s.requires.0
 
   sum : SFits w64 (s.args.a +ℤ s.args.cell)
-  sum = sum_fits s.args.a s.args.cell there s.pre.1.1 s.pre.1.0
+  sum = sum_fits s.args.a s.args.cell there s.requires.1.1 s.requires.1.0
 
 gains-requires : tie.Need-gains-requires
 gains-requires c κs = (
@@ -43,26 +43,32 @@ gains-requires c κs = (
 -- what the call says, of the numbers themselves
 said : (c : tie.After-gains) → Gains (s c.before).args.best (s c.before).args.a (s c.before).args.cell c.gains.result
 said c =
-    let fb = (s c.before).fits.best in
-    let fa = (s c.before).fits.a in
-    let fd = (s c.before).fits.cell in
+    let fb = (s c.before).ranges.best in
+    let fa = (s c.before).ranges.a in
+    let fd = (s c.before).ranges.cell in
     simp to_z-of_z at c.gains.ensures
 
-cast-result : tie.Need-overflow-cast-result
-cast-result c = let e = c.before.before in subst (SFits w64) (sym (to_z-of_z (s e).ranges.cell)) (widens (s e).ranges.cell)
+overflow_cast-result : tie.Need-overflow_cast-result
+overflow_cast-result c = let e = c in subst (SFits w64) (sym (to_z-of_z (s e.before.before).ranges.cell)) (widens (s e.before.before).ranges.cell)
 
-add-result : tie.Need-overflow-add-result
-add-result c =
-    let e = c.before.before in
-    let fa = (s e).ranges.a in
-    let fd = (s e).ranges.cell in
-    simp (to_z-of_z, widens) (sum e)
+overflow_add-result : tie.Need-overflow_add-result
+overflow_add-result c =
+    let e = c in
+    let fa = (s e.before.before).ranges.a in
+    let fd = (s e.before.before).ranges.cell in
+    simp (to_z-of_z, widens) (sum e.before.before)
 
-returns-2 : tie.Need-returns-2
-returns-2 c = let e = c.before.before in ap (read_cell absent_wide) (sum_back (s e).ranges.a (s e).ranges.cell (sum e)) ∙ ((said c.before).later c.if2.true).1
+returns-then-gains : tie.Need-returns-then-gains
+returns-then-gains c = let e = c in ap (read_cell absent_wide) (sum_back (s e.before.before).ranges.a (s e.before.before).ranges.cell (sum e.before.before)) ∙ ((said c.before).later c.if-gains.true).1
 
-returns-3 : tie.Need-returns-3
-returns-3 c = ap (read_cell absent_wide) (to_z-of_z (s c.before.before).fits.best) ∙ (said c.before).not_later c.if2.false
+returns : tie.Need-returns
+returns c = ap (read_cell absent_wide) (to_z-of_z (s c.before.before).ranges.best) ∙ (said c.before).not_later c.if-gains.false
 
-pub later-spec : {M : Type 1} → statement M
-later-spec = tie.close (tie.spec returns gains-requires cast-result add-result returns-2 returns-3)
+pub later_spec : {M : Type 1} → statement M
+later_spec = tie.close (tie.spec
+    returns-then-a-eq-ABSENT_WIDE
+    gains-requires
+    overflow_cast-result
+    overflow_add-result
+    returns-then-gains
+    returns)

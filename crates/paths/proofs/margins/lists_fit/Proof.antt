@@ -10,48 +10,48 @@ use Rattle.timing.specs.Delays.{arrivals_fit}
 use Rattle.paths.proofs.margins.lists_fit.Statement.{statement}
 use Rattle.paths.proofs.margins.lists_fit.Tie as tie
 
-returns : tie.Need-returns
-returns c = simp (sym c.before.times-fit.ensures ∙ not-true _ c.if1.true)
+returns-then-not-times_fit : tie.Need-returns-then-not-times_fit
+returns-then-not-times_fit c = simp (sym c.times_fit.ensures ∙ not-true _ c.if-not-times_fit.true-raw)
 
-module _ (e : tie.Else1) where
+module _ (e : tie.Else-not-times_fit) where
   abbrev s : tie.Start
   s = e.before.before
 
-  given-fit : arrivals_fit s.args.board.inputs s.args.given.now ≡ true
-  given-fit = sym e.before.times-fit.ensures ∙ not-false _ e.if1.left
+  given_fit : arrivals_fit s.args.board.inputs s.args.given.now ≡ true
+  given_fit = sym e.times_fit.ensures ∙ not-false _ e.if-not-times_fit.false-raw
 
-returns-2 : tie.Need-returns-2
-returns-2 c = simp (given-fit c.before.before, sym c.before.times-fit2.ensures ∙ not-true _ c.if2.true)
+returns-then-not-times_fit-2 : tie.Need-returns-then-not-times_fit-2
+returns-then-not-times_fit-2 c = simp (given_fit c.before.before, sym c.times_fit-2.ensures ∙ not-true _ c.if-not-times_fit-2.true-raw)
 
-module _ (e : tie.Else2) where
-  abbrev first : tie.Else1
+module _ (e : tie.Else-not-times_fit-2) where
+  abbrev first : tie.Else-not-times_fit
   first = e.before.before
 
-  due-fit : arrivals_fit (s first).args.board.outputs (s first).args.due.now ≡ true
-  due-fit = sym e.before.times-fit2.ensures ∙ not-false _ e.if2.left
+  due_fit : arrivals_fit (s first).args.board.outputs (s first).args.due.now ≡ true
+  due_fit = sym e.times_fit-2.ensures ∙ not-false _ e.if-not-times_fit-2.false-raw
 
-returns-3 : tie.Need-returns-3
-returns-3 c = let e = c.before in simp (given-fit (first e), due-fit e, eqb_other _ _ c.if3.true)
+returns-then-arrival-n : tie.Need-returns-then-arrival-n
+returns-then-arrival-n c = let e = c in simp (given_fit (first e.before), due_fit e.before, eqb_other _ _ c.if-arrival-n.true)
 
 long : (x n : ℕ) → x ≡ n → eqb x n ≡ true
 long x n e = T_true {b = eqb x n} (eq→eqb x n e)
 
-returns-4 : tie.Need-returns-4
-returns-4 c = let e = c.before.before in simp (given-fit (first e), due-fit e, long _ _ c.before.if3.false, eqb_other _ _ c.if4.true)
+returns-then-required-n : tie.Need-returns-then-required-n
+returns-then-required-n c = let e = c in simp (given_fit (first e.before.before), due_fit e.before.before, long _ _ c.if-arrival-n.false, eqb_other _ _ c.if-required-n.true)
 
-returns-5 : tie.Need-returns-5
-returns-5 c =
-    let e = c.before.before in
-    sym (yes_first _ _ (both _ _ (given-fit (first e)) (due-fit e)) ∙ yes_first _ _ (both _ _ (long _ _ c.before.if3.false) (long _ _ c.if4.false)))
+returns : tie.Need-returns
+returns c =
+    let e = c in
+    sym (yes_first _ _ (both _ _ (given_fit (first e.before.before)) (due_fit e.before.before)) ∙ yes_first _ _ (both _ _ (long _ _ c.if-arrival-n.false) (long _ _ c.if-required-n.false)))
 
-pub lists-fit-spec : {M : Type 1} → statement M
-lists-fit-spec =
+pub lists_fit_spec : {M : Type 1} → statement M
+lists_fit_spec =
     tie.close
     (tie.spec
     (λ c κs. search rules)
-    returns
+    returns-then-not-times_fit
     (λ c κs. search rules)
-    returns-2
-    returns-3
-    returns-4
-    returns-5)
+    returns-then-not-times_fit-2
+    returns-then-arrival-n
+    returns-then-required-n
+    returns)

@@ -6,35 +6,35 @@ use Rattle.paths.proofs.Answering.{answers_on, answers_refused}
 use Rattle.paths.proofs.margins.margins.Statement.{statement}
 use Rattle.paths.proofs.margins.margins.Tie as tie
 
-margins-answer-requires : tie.Need-margins-answer-requires
-margins-answer-requires c κs =
-    let k = c.before.before.before.before.before in
-    (k.before.before.checked.ensures.passable _ k.lent.given.1).0
+margins_answer-requires : tie.Need-margins_answer-requires
+margins_answer-requires c κs =
+    let k = c in
+    (k.checked-lent.ensures.passable _ k.in-Board.is).0
 
-returns : tie.Need-returns
+returns-in-Board : tie.Need-returns-in-Board
 unfolding margins_call
-returns c =
-    let a = c.before.before.before in
-    let k = a.before.before.before.before.before.before in
-    let s = k.before.before.before.before.before in
+returns-in-Board c =
+    let a = c in
+    let k = a in
+    let s = k in
     let x = lists s.args.arrival.now s.args.required.now s.args.margin.now in
-    answers_on k.before.before.checked.ensures _ k.lent.given.1 (λ m n N. margins_into m n N s.args.given.now s.args.due.now x) _ _ _ a.margins-answer.ensures
+    answers_on k.checked-lent.ensures _ k.in-Board.is (λ m n N. margins_into m n N s.args.given.now s.args.due.now x) _ _ _ a.margins_answer.ensures
 
-returns-2 : tie.Need-returns-2
+returns-in-Refused : tie.Need-returns-in-Refused
 unfolding margins_call
-returns-2 c = let k = c.before in answers_refused k.before.before.checked.ensures _ k.lent2.given.1 _ _ _ refl
+returns-in-Refused c = let k = c in answers_refused k.checked-lent.ensures _ k.in-Refused.is _ _ _ refl
 
-pub margins-spec : {M : Type 1} → statement M
-margins-spec =
+pub margins_spec : {M : Type 1} → statement M
+margins_spec =
     tie.close
     (tie.spec
     (λ c κs. search rules)
     (λ c κs. search rules)
     (λ c. search rules)
-    margins-answer-requires
+    margins_answer-requires
     (λ c. search rules)
     (λ c. search rules)
     (λ c. search rules)
     (λ c. search rules)
-    returns
-    returns-2)
+    returns-in-Board
+    returns-in-Refused)

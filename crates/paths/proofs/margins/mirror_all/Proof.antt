@@ -21,80 +21,80 @@ use Rattle.paths.specs.Arrivals.{reached_limit, stored}
 abbrev image : List ℤ → ℕ → ℤ
 image f v = write_cell absent_wide (mirror (arrival_in f v))
 
-abbrev invariant-loop : tie.invariant-loop
+abbrev invariant-loop : tie.invariant-loop-v
 invariant-loop f₀ v₀ f v = (v ≤ length f₀) × (length f ≡ length f₀) × (f ≡ stored v (image f₀) f₀)
 
-abbrev decreases-loop : tie.decreases-loop
+abbrev decreases-loop : tie.decreases-loop-v
 decreases-loop f₀ v₀ f v = length f₀ - v
 
-loop-holds : tie.Need-loop-init invariant-loop decreases-loop
-loop-holds c = (omega arith, refl, fill_none _ _)
+loop-v-init : tie.Need-loop-v-init invariant-loop decreases-loop
+loop-v-init c = (omega arith, refl, fill_none _ _)
 
-mul-mirrored : tie.Need-overflow-mul-mirrored invariant-loop decreases-loop
-mul-mirrored c = let l = c.before in omega (arith, c.loop-test.true, l.loop.invariant.1, l.before.well-formed)
+offset_bounds-f-v : tie.Need-offset_bounds-f-v invariant-loop decreases-loop
+offset_bounds-f-v c = let l = c in omega (arith, c.loop-v-test.true, l.loop-v.invariant.1, l.well_formed)
 
-slice-copy-out-mirrored : tie.Need-slice-copy-out-mirrored invariant-loop decreases-loop
-slice-copy-out-mirrored c = c.loop-test.true
+slice_copy_out-mirrored : tie.Need-slice_copy_out-mirrored invariant-loop decreases-loop
+slice_copy_out-mirrored c = c.loop-v-test.true
 
 -- the cell that is read is as it was
-module _ (c : tie.After-mirrored-arg invariant-loop decreases-loop) where
-  abbrev l : tie.At-loop invariant-loop decreases-loop
+module _ (c : tie.After-mirrored-arg-1 invariant-loop decreases-loop) where
+  abbrev l : tie.At-loop-v invariant-loop decreases-loop
   l = c.before.before
 
   abbrev s : tie.Start invariant-loop decreases-loop
   s = l.before
 
-  here : to_z w64 (of_z w64 (get_or l.loop.f l.loop.v (pos 0))) ≡ get_or s.args.f.now l.loop.v (pos 0)
-  here = back w64 _ c.mirrored-arg.given ∙ ap (λ (x : List ℤ). get_or x l.loop.v (pos 0)) l.loop.inv.2 ∙ fill_here (image s.args.f.now) s.args.f.now l.loop.v (pos 0) (omega (arith, c.before.loop-test.true, l.loop.inv.1))
+  here : to_z w64 (of_z w64 (get_or l.loop-v.f l.loop-v.v (pos 0))) ≡ get_or s.args.f.now l.loop-v.v (pos 0)
+  here = back w64 _ c.mirrored-arg-1.given ∙ ap (λ (x : List ℤ). get_or x l.loop-v.v (pos 0)) l.loop-v.invariant.2 ∙ fill_here (image s.args.f.now) s.args.f.now l.loop-v.v (pos 0) (omega (arith, c.loop-v-test.true, l.loop-v.invariant.1))
 
 mirrored-requires : tie.Need-mirrored-requires invariant-loop decreases-loop
-mirrored-requires c κs = subst (λ (z : ℤ). T (fits reached_limit (read_cell absent_wide z))) (sym (here c)) ((s c).requires.near (l c).loop.v (omega (arith, c.before.loop-test.true, (l c).loop.invariant.1)))
+mirrored-requires c κs = subst (λ (z : ℤ). T (fits reached_limit (read_cell absent_wide z))) (sym (here c)) ((s c).requires.near (l c).loop-v.v (omega (arith, c.loop-v-test.true, (l c).loop-v.invariant.1)))
 
-mul-t8 : tie.Need-overflow-mul-t8 invariant-loop decreases-loop
-mul-t8 c = mul-mirrored c.before.before
+offset_bounds-f-v-in-loop-v : tie.Need-offset_bounds-f-v-in-loop-v invariant-loop decreases-loop
+offset_bounds-f-v-in-loop-v c = offset_bounds-f-v c.before.before
 
-slice-set-from-f : tie.Need-slice-set-from-f invariant-loop decreases-loop
-slice-set-from-f c = c.before.before.loop-test.true
+bounds-f-v : tie.Need-bounds-f-v invariant-loop decreases-loop
+bounds-f-v c = c.loop-v-test.true
 
-add-v : tie.Need-overflow-add-v invariant-loop decreases-loop
-add-v c = let k = mul-mirrored c.before.before in omega arith
+overflow_add-v : tie.Need-overflow_add-v invariant-loop decreases-loop
+overflow_add-v c = let k = offset_bounds-f-v c.before.before in omega arith
 
-loop-less : tie.Need-loop-smaller invariant-loop decreases-loop
-loop-less c = let t = c.before.before in omega (arith, t.loop-test.true, t.before.loop.invariant.1)
+loop-v-smaller : tie.Need-loop-v-smaller invariant-loop decreases-loop
+loop-v-smaller c = let t = c in omega (arith, t.loop-v-test.true, t.loop-v.invariant.1)
 
-loop-again : tie.Need-loop-preserved invariant-loop decreases-loop
-loop-again c =
-    let a = c.before in
-    let v = (l a).loop.v in (
-      omega (arith, a.before.loop-test.true, (l a).loop.invariant.1),
-      simp length-set (l a).loop.invariant.1,
-      fill_turn (image (s a).args.f.now) (s a).args.f.now (l a).loop.f v _ (omega (arith, a.before.loop-test.true, (l a).loop.invariant.1)) (l a).loop.invariant.2
-          (back w64 _ c.mirrored.type-inv ∙ c.mirrored.ensures ∙ ap (λ (z : ℤ). write_cell absent_wide (mirror (read_cell absent_wide z))) (here a)),
+loop-v-preserved : tie.Need-loop-v-preserved invariant-loop decreases-loop
+loop-v-preserved c =
+    let a = c in
+    let v = (l a.before).loop-v.v in (
+      omega (arith, a.loop-v-test.true, (l a.before).loop-v.invariant.1),
+      simp length-set (l a.before).loop-v.invariant.1,
+      fill_turn (image (s a.before).args.f.now) (s a.before).args.f.now (l a.before).loop-v.f v _ (omega (arith, a.loop-v-test.true, (l a.before).loop-v.invariant.1)) (l a.before).loop-v.invariant.2
+          (back w64 _ c.mirrored.type_inv ∙ c.mirrored.ensures ∙ ap (λ (z : ℤ). write_cell absent_wide (mirror (read_cell absent_wide z))) (here a.before)),
     )
 
-same_length : tie.Need-same-length invariant-loop decreases-loop
-same_length c = c.before.loop.invariant.1
+shape_of-f : tie.Need-shape_of-f invariant-loop decreases-loop
+shape_of-f c = c.loop-v.invariant.1
 
 returns : tie.Need-returns invariant-loop decreases-loop
 returns c =
-    let m = c.before in
-    let f₀ = m.before.args.f.now in
-    m.loop.invariant.2 ∙ fill_all (image f₀) f₀ m.loop.v (omega (arith, m.loop.invariant.0, m.loop.invariant.1, c.loop-test.false))
+    let m = c in
+    let f₀ = m.args.f.now in
+    m.loop-v.invariant.2 ∙ fill_all (image f₀) f₀ m.loop-v.v (omega (arith, m.loop-v.invariant.0, m.loop-v.invariant.1, c.loop-v-test.false))
 
-pub mirror-all-spec : {M : Type 1} → statement M
-mirror-all-spec =
+pub mirror_all_spec : {M : Type 1} → statement M
+mirror_all_spec =
     tie.close
     (tie.spec
     invariant-loop
     decreases-loop
-    loop-holds
-    mul-mirrored
-    slice-copy-out-mirrored
+    loop-v-init
+    offset_bounds-f-v
+    slice_copy_out-mirrored
     mirrored-requires
-    mul-t8
-    slice-set-from-f
-    add-v
-    loop-less
-    loop-again
-    same_length
+    offset_bounds-f-v-in-loop-v
+    bounds-f-v
+    overflow_add-v
+    loop-v-smaller
+    loop-v-preserved
+    shape_of-f
     returns)

@@ -18,46 +18,52 @@ use Rattle.paths.specs.Arrivals.{inside_limit, reached_limit}
 use Rattle.paths.proofs.margins.own_time.Statement.{statement}
 use Rattle.paths.proofs.margins.own_time.Tie as tie
 
-returns : tie.Need-returns
-returns c =
-    let s = c.before in
-    sym (ap (λ (d : Delay). write_cell absent_wide (mirror d)) (own_low s.args.board.inputs s.args.board.outputs (arrival_in s.args.due.now) s.args.v c.if1.true))
+returns-then-v-m : tie.Need-returns-then-v-m
+returns-then-v-m c =
+    let s = c in
+    sym (ap (λ (d : Delay). write_cell absent_wide (mirror d)) (own_low s.args.board.inputs s.args.board.outputs (arrival_in s.args.due.now) s.args.v c.if-v-m.true))
 
-returns-2 : tie.Need-returns-2
-returns-2 c =
-    let s = c.before.before in
-    sym (ap (λ (d : Delay). write_cell absent_wide (mirror d)) (own_high s.args.board.inputs s.args.board.outputs (arrival_in s.args.due.now) s.args.v (omega (arith, c.before.if1.false, c.if2.true, s.requires.long))))
+returns-then-v-m-2 : tie.Need-returns-then-v-m-2
+returns-then-v-m-2 c =
+    let s = c in
+    sym (ap (λ (d : Delay). write_cell absent_wide (mirror d)) (own_high s.args.board.inputs s.args.board.outputs (arrival_in s.args.due.now) s.args.v (omega (arith, c.if-v-m.false, c.if-v-m-2.true, s.requires.long))))
 
 -- an output
-module _ (e : tie.Else2) where
+module _ (e : tie.Else-v-m-2) where
   abbrev s : tie.Start
   s = e.before.before
 
   abbrev j : ℕ
   j = s.args.v - s.args.board.inputs
 
-  j-in : j < s.args.board.outputs
-  j-in = omega (arith, e.if2.left, s.pre.long)
+  j_in : j < s.args.board.outputs
+  j_in = omega (arith, e.if-v-m-2.false, s.requires.long)
 
   near : T (fits reached_limit (arrival_in s.args.due.now j))
   near =
       let d = arrival_in s.args.due.now j in
-      span_fits reached_limit d (span_le inside_limit reached_limit d (omega arith) (fits_span inside_limit d (s.pre.near j j-in)))
+      span_fits reached_limit d (span_le inside_limit reached_limit d (omega arith) (fits_span inside_limit d (s.requires.near j j_in)))
 
   own : own_time s.args.board.inputs s.args.board.outputs (arrival_in s.args.due.now) s.args.v ≡ arrival_in s.args.due.now j
   own =
       let m = s.args.board.inputs in
-      let v : m + j ≡ s.args.v = omega (arith, e.before.if1.left) in
-      ap (own_time m s.args.board.outputs (arrival_in s.args.due.now)) (sym v) ∙ own_output m s.args.board.outputs (arrival_in s.args.due.now) j j-in
+      let v : m + j ≡ s.args.v = omega (arith, e.if-v-m.false) in
+      ap (own_time m s.args.board.outputs (arrival_in s.args.due.now)) (sym v) ∙ own_output m s.args.board.outputs (arrival_in s.args.due.now) j j_in
 
 mirrored-requires : tie.Need-mirrored-requires
-mirrored-requires c κs = subst (λ (z : ℤ). T (fits reached_limit (read_cell absent_wide z))) (sym (back w64 _ c.mirrored-arg.given)) (near c.before)
+mirrored-requires c κs = subst (λ (z : ℤ). T (fits reached_limit (read_cell absent_wide z))) (sym (back w64 _ c.mirrored-arg-1.given)) (near c.before)
 
-returns-3 : tie.Need-returns-3
-returns-3 c =
-    let a = c.before in
-    let e = a.before in
-    back w64 _ c.mirrored.type-inv ∙ c.mirrored.ensures ∙ ap (λ (z : ℤ). write_cell absent_wide (mirror (read_cell absent_wide z))) (back w64 _ a.mirrored-arg.given) ∙ sym (ap (λ (d : Delay). write_cell absent_wide (mirror d)) (own e))
+returns : tie.Need-returns
+returns c =
+    let a = c in
+    let e = a in
+    back w64 _ c.mirrored.type_inv ∙ c.mirrored.ensures ∙ ap (λ (z : ℤ). write_cell absent_wide (mirror (read_cell absent_wide z))) (back w64 _ a.mirrored-arg-1.given) ∙ sym (ap (λ (d : Delay). write_cell absent_wide (mirror d)) (own e.before.before))
 
-pub own-time-spec : {M : Type 1} → statement M
-own-time-spec = tie.close (tie.spec returns returns-2 (λ c. search rules) (λ c. search rules) mirrored-requires returns-3)
+pub own_time_spec : {M : Type 1} → statement M
+own_time_spec = tie.close (tie.spec
+    returns-then-v-m
+    returns-then-v-m-2
+    (λ c. search rules)
+    (λ c. search rules)
+    mirrored-requires
+    returns)

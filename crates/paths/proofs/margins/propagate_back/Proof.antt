@@ -16,17 +16,17 @@ use Rattle.paths.proofs.Sizes.{board_area}
 use Rattle.paths.proofs.Propagating.{pushable}
 use Rattle.paths.proofs.Pulling.{Pulling, pulling_start, x_in, in_reach, pulling_turn, pulled_all}
 
-abbrev invariant-loop : tie.invariant-loop
+abbrev invariant-loop : tie.invariant-loop-p
 invariant-loop table order chain f₀ n p₀ f p = Pulling n table order chain f₀ f p
 
-abbrev decreases-loop : tie.decreases-loop
+abbrev decreases-loop : tie.decreases-loop-p
 decreases-loop table order chain f₀ n p₀ f p = p
 
-loop-holds : tie.Need-loop-init invariant-loop decreases-loop
-loop-holds c = pulling_start c.before.requires.0 c.before.requires.1
+loop-p-init : tie.Need-loop-p-init invariant-loop decreases-loop
+loop-p-init c = pulling_start c.requires.0 c.requires.1
 
 -- a turn, at the place before p
-module _ (c : tie.In-loop invariant-loop decreases-loop) where
+module _ (c : tie.In-loop-p invariant-loop decreases-loop) where
   abbrev start : tie.Start invariant-loop decreases-loop
   start = c.before.before.before
 
@@ -37,131 +37,131 @@ module _ (c : tie.In-loop invariant-loop decreases-loop) where
   t = start.args.table.now
 
   abbrev f : List ℤ
-  f = c.before.loop.f
+  f = c.loop-p.f
 
   abbrev q : ℕ
-  q = c.before.loop.p - 1
+  q = c.loop-p.p - 1
 
   abbrev u : ℕ
   u = get_or start.args.order.now q 0
 
   going : Pulling n t start.args.order.now start.args.chain.now start.args.f.now f (q + 1)
   going =
-      let e : c.before.loop.p ≡ q + 1 = omega (arith, c.loop-test.true) in
-      subst (λ (k : ℕ). Pulling n t start.args.order.now start.args.chain.now start.args.f.now f k) e c.before.loop.invariant
+      let e : c.loop-p.p ≡ q + 1 = omega (arith, c.loop-p-test.true) in
+      subst (λ (k : ℕ). Pulling n t start.args.order.now start.args.chain.now start.args.f.now f k) e c.loop-p.invariant
 
   few : n ≤ 90
-  few = start.pre.0.passable.checked.lent.sized.few
+  few = start.requires.0.passable.checked.lent.sized.few
 
   room : n * n ≤ length t
-  room = start.pre.0.passable.checked.lent.room
+  room = start.requires.0.passable.checked.lent.room
 
   vertex : u < n
-  vertex = x_in start.pre.0 start.pre.1 q going
+  vertex = x_in start.requires.0 start.requires.1 q going
 
   row : n * u + n ≤ n * n
   row = row_in n u vertex
 
   area : n * n ≤ 8100
-  area = board_area start.args.board start.pre.0.passable.checked.lent.sized
+  area = board_area start.args.board start.requires.0.passable.checked.lent.sized
 
   in_f : u < length f
-  in_f = omega (arith, vertex, going.size, start.pre.0.room)
+  in_f = omega (arith, vertex, going.size, start.requires.0.room)
 
-sub-p : tie.Need-overflow-sub-p invariant-loop decreases-loop
-sub-p c = omega (arith, c.loop-test.true)
+overflow_sub-p : tie.Need-overflow_sub-p invariant-loop decreases-loop
+overflow_sub-p c = omega (arith, c.loop-p-test.true)
 
-element-copy-out-u : tie.Need-element-copy-out-u invariant-loop decreases-loop
-element-copy-out-u c = omega (arith, c.loop-test.true, (going c).upto, few c)
+bounds-order-p : tie.Need-bounds-order-p invariant-loop decreases-loop
+bounds-order-p c = omega (arith, c.loop-p-test.true, (going c.before).upto, few c.before)
 
-cast-u : tie.Need-overflow-cast-u invariant-loop decreases-loop
-cast-u c = let i = c.before in omega (arith, vertex i, few i)
+overflow_cast-u : tie.Need-overflow_cast-u invariant-loop decreases-loop
+overflow_cast-u c = let i = c in omega (arith, vertex i.before.before, few i.before.before)
 
-mul_at : tie.Need-overflow-mul-at invariant-loop decreases-loop
-mul_at c = let i = c.before in omega (arith, row i, area i)
+overflow_mul-at : tie.Need-overflow_mul-at invariant-loop decreases-loop
+overflow_mul-at c = let i = c in omega (arith, row i.before.before, area i.before.before)
 
-mul-pull : tie.Need-overflow-mul-pull invariant-loop decreases-loop
-mul-pull c = let i = c.before in omega (arith, row i, area i)
+offset_bounds-table-at : tie.Need-offset_bounds-table-at invariant-loop decreases-loop
+offset_bounds-table-at c = let i = c in omega (arith, row i.before.before, area i.before.before)
 
-sub-pull : tie.Need-overflow-sub-pull invariant-loop decreases-loop
-sub-pull c = let i = c.before in omega (arith, row i, room i)
+slice_bounds-pull-count : tie.Need-slice_bounds-pull-count invariant-loop decreases-loop
+slice_bounds-pull-count c = let i = c in omega (arith, row i.before.before, room i.before.before)
 
-part-pull-start : tie.Need-slice-bounds-pull-start invariant-loop decreases-loop
-part-pull-start c = let i = c.before in omega (arith, row i, room i)
+slice_bounds-pull-start : tie.Need-slice_bounds-pull-start invariant-loop decreases-loop
+slice_bounds-pull-start c = let i = c in omega (arith, row i.before.before, room i.before.before)
 
-sub-pull-2 : tie.Need-overflow-sub-pull-2 invariant-loop decreases-loop
-sub-pull-2 c = let i = c.before.before in omega (arith, row i, (start i).requires.1.room)
+slice_bounds-pull-count-in-loop-p : tie.Need-slice_bounds-pull-count-in-loop-p invariant-loop decreases-loop
+slice_bounds-pull-count-in-loop-p c = let i = c in omega (arith, row i.before.before.before, (start i.before.before.before).requires.1.room)
 
-part-pull-start-2 : tie.Need-slice-bounds-pull-start-2 invariant-loop decreases-loop
-part-pull-start-2 c = let i = c.before.before in omega (arith, row i, (start i).requires.1.room)
+slice_bounds-pull-start-in-loop-p : tie.Need-slice_bounds-pull-start-in-loop-p invariant-loop decreases-loop
+slice_bounds-pull-start-in-loop-p c = let i = c in omega (arith, row i.before.before.before, (start i.before.before.before).requires.1.room)
 
-mul-pull-2 : tie.Need-overflow-mul-pull-2 invariant-loop decreases-loop
-mul-pull-2 c = let i = c.before.before.before in omega (arith, vertex i, few i)
+offset_bounds-f-u : tie.Need-offset_bounds-f-u invariant-loop decreases-loop
+offset_bounds-f-u c = let i = c in omega (arith, vertex i.before.before.before.before, few i.before.before.before.before)
 
-slice-copy-out-pull : tie.Need-slice-copy-out-pull invariant-loop decreases-loop
-slice-copy-out-pull c = in_f c.before.before.before
+slice_copy_out-pull : tie.Need-slice_copy_out-pull invariant-loop decreases-loop
+slice_copy_out-pull c = in_f c.before.before.before.before
 
 pull-requires : tie.Need-pull-requires invariant-loop decreases-loop
 pull-requires c κs =
-    let i = c.before.before.before.before.before in
+    let i = c in
+    let s = start i.before.before.before.before.before in
+    let reach = in_reach s.requires.0 s.requires.1 (q i.before.before.before.before.before) (going i.before.before.before.before.before) in
+    (pushable s.requires.0.passable s.requires.1 (u i.before.before.before.before.before) (vertex i.before.before.before.before.before) (f i.before.before.before.before.before) reach.room, reach)
+
+abbrev turn_of : tie.After-pull invariant-loop decreases-loop → tie.In-loop-p invariant-loop decreases-loop
+turn_of c = c.before.before.before.before.before.before
+
+offset_bounds-f-u-in-loop-p : tie.Need-offset_bounds-f-u-in-loop-p invariant-loop decreases-loop
+offset_bounds-f-u-in-loop-p c = let i = turn_of c in omega (arith, vertex i, few i)
+
+bounds-f-u : tie.Need-bounds-f-u invariant-loop decreases-loop
+bounds-f-u c = in_f (turn_of c)
+
+loop-p-smaller : tie.Need-loop-p-smaller invariant-loop decreases-loop
+loop-p-smaller c = omega (arith, (turn_of c).loop-p-test.true)
+
+loop-p-preserved : tie.Need-loop-p-preserved invariant-loop decreases-loop
+loop-p-preserved c =
+    let i = turn_of c in
     let s = start i in
-    let reach = in_reach s.pre.0 s.pre.1 (q i) (going i) in
-    (pushable s.pre.0.passable s.pre.1 (u i) (vertex i) (f i) reach.room, reach)
+    subst (λ (z : ℤ). Pulling (n i) (t i) s.args.order.now s.args.chain.now s.args.f.now (set (f i) (u i) z) (q i)) (sym (back w64 _ c.pull.type_inv))
+    (pulling_turn s.requires.0 s.requires.1 (q i) (going i) c.pull.result
+    (subst (λ (z : ℤ). Pulled (n i) (lent (n i) (t i) (u i) (room i) (vertex i)) (lent_chain s.requires.1 (u i) (room i) (vertex i)) z (f i) c.pull.result) (back w64 _ c.pull-arg-in-loop-p-2-1.given) c.pull.ensures))
 
-abbrev turn-of : tie.After-pull invariant-loop decreases-loop → tie.In-loop invariant-loop decreases-loop
-turn-of c = c.before.before.before.before.before.before
-
-mul-t29 : tie.Need-overflow-mul-t29 invariant-loop decreases-loop
-mul-t29 c = let i = turn-of c in omega (arith, vertex i, few i)
-
-slice-set-from-f : tie.Need-slice-set-from-f invariant-loop decreases-loop
-slice-set-from-f c = in_f (turn-of c)
-
-loop-less : tie.Need-loop-smaller invariant-loop decreases-loop
-loop-less c = omega (arith, (turn-of c).loop-test.true)
-
-loop-again : tie.Need-loop-preserved invariant-loop decreases-loop
-loop-again c =
-    let i = turn-of c in
-    let s = start i in
-    subst (λ (z : ℤ). Pulling (n i) (t i) s.args.order.now s.args.chain.now s.args.f.now (set (f i) (u i) z) (q i)) (sym (back w64 _ c.pull.type-inv))
-    (pulling_turn s.pre.0 s.pre.1 (q i) (going i) c.pull.result
-    (subst (λ (z : ℤ). Pulled (n i) (lent (n i) (t i) (u i) (room i) (vertex i)) (lent_chain s.pre.1 (u i) (room i) (vertex i)) z (f i) c.pull.result) (back w64 _ c.before.before.pull-arg3.given) c.pull.ensures))
-
-same_length : tie.Need-same-length invariant-loop decreases-loop
-same_length c = c.before.loop.invariant.size
+shape_of-f : tie.Need-shape_of-f invariant-loop decreases-loop
+shape_of-f c = c.loop-p.invariant.size
 
 returns : tie.Need-returns invariant-loop decreases-loop
 returns c =
-    let l = c.before in
-    let s = l.before.before in
-    let e : l.loop.p ≡ 0 = omega (arith, c.loop-test.false) in
-    pulled_all s.requires.0 s.requires.1 l.loop.f (subst (λ (k : ℕ). Pulling s.args.board.vertices s.args.table.now s.args.order.now s.args.chain.now s.args.f.now l.loop.f k) e l.loop.invariant)
+    let l = c in
+    let s = l in
+    let e : l.loop-p.p ≡ 0 = omega (arith, c.loop-p-test.false) in
+    pulled_all s.requires.0 s.requires.1 l.loop-p.f (subst (λ (k : ℕ). Pulling s.args.board.vertices s.args.table.now s.args.order.now s.args.chain.now s.args.f.now l.loop-p.f k) e l.loop-p.invariant)
 
-pub propagate-back-spec : {M : Type 1} → statement M
-propagate-back-spec =
+pub propagate_back_spec : {M : Type 1} → statement M
+propagate_back_spec =
     tie.close
     (tie.spec
     invariant-loop
     decreases-loop
-    loop-holds
-    sub-p
-    element-copy-out-u
-    cast-u
-    mul_at
-    mul-pull
-    sub-pull
-    part-pull-start
+    loop-p-init
+    overflow_sub-p
+    bounds-order-p
+    overflow_cast-u
+    overflow_mul-at
+    offset_bounds-table-at
+    slice_bounds-pull-count
+    slice_bounds-pull-start
     (λ c. omega arith)
-    sub-pull-2
-    part-pull-start-2
+    slice_bounds-pull-count-in-loop-p
+    slice_bounds-pull-start-in-loop-p
     (λ c. omega arith)
-    mul-pull-2
-    slice-copy-out-pull
+    offset_bounds-f-u
+    slice_copy_out-pull
     pull-requires
-    mul-t29
-    slice-set-from-f
-    loop-less
-    loop-again
-    same_length
+    offset_bounds-f-u-in-loop-p
+    bounds-f-u
+    loop-p-smaller
+    loop-p-preserved
+    shape_of-f
     returns)

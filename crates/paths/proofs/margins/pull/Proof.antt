@@ -22,121 +22,121 @@ use Rattle.paths.proofs.Pulling.{Gathered, gathered_start, gathered_turn, gather
 use Rattle.paths.proofs.margins.pull.Statement.{statement}
 use Rattle.paths.proofs.margins.pull.Tie as tie
 
-abbrev invariant-loop : tie.invariant-loop
+abbrev invariant-loop : tie.invariant-loop-v
 invariant-loop row chain start f n best₀ v₀ best v = Gathered n (walked_at row chain) (read_cell absent_wide (to_z w64 start)) (arrival_in f) (read_cell absent_wide (to_z w64 best)) v
 
-abbrev decreases-loop : tie.decreases-loop
+abbrev decreases-loop : tie.decreases-loop-v
 decreases-loop row chain start f n best₀ v₀ best v = n - v
 
-shared-slice-read-v : tie.Need-shared-slice-read-v invariant-loop decreases-loop
-shared-slice-read-v c = let p = c.before.before.requires.0 in omega (arith, p.some, p.chain_room)
+bounds-chain-0 : tie.Need-bounds-chain-0 invariant-loop decreases-loop
+bounds-chain-0 c = let p = c.requires.0 in omega (arith, p.some, p.chain_room)
 
-cast-v : tie.Need-overflow-cast-v invariant-loop decreases-loop
-cast-v c = let p = c.before.before.requires.0 in omega (arith, (p.chain.on 0 p.some).1, p.few)
+overflow_cast-v : tie.Need-overflow_cast-v invariant-loop decreases-loop
+overflow_cast-v c = let p = c.requires.0 in omega (arith, (p.chain.on 0 p.some).1, p.few)
 
-loop-holds : tie.Need-loop-init invariant-loop decreases-loop
-loop-holds c =
-    let s = c.before.before in
+loop-v-init : tie.Need-loop-v-init invariant-loop decreases-loop
+loop-v-init c =
+    let s = c in
     let p = s.requires.0 in
     gathered_start p.chain _ (arrival_in s.args.f.now) p.some (walked-first p.chain (cell_at s.args.row.now) p.some)
 
 -- a turn
-module _ (t : tie.In-loop invariant-loop decreases-loop) where
-  abbrev head : tie.At-loop invariant-loop decreases-loop
+module _ (t : tie.In-loop-v invariant-loop decreases-loop) where
+  abbrev head : tie.At-loop-v invariant-loop decreases-loop
   head = t.before
 
   abbrev s : tie.Start invariant-loop decreases-loop
   s = head.before.before.before
 
   abbrev v : ℕ
-  v = head.loop.v
+  v = head.loop-v.v
 
-  in-n : v < 90
-  in-n = omega (arith, t.loop-test.taken, s.pre.0.few)
+  in_n : v < 90
+  in_n = omega (arith, t.loop-v-test.true, s.requires.0.few)
 
   abbrev row : ℕ → Delay
   row = walked_at s.args.row.now s.args.chain.now
 
   -- the arc is in the row
   row_is : row v ≡ cell_at s.args.row.now v
-  row_is = walked_is (λ j. get_or s.args.chain.now j 0) (cell_at s.args.row.now) v (head.loop.inv.arc t.loop-test.taken)
+  row_is = walked_is (λ j. get_or s.args.chain.now j 0) (cell_at s.args.row.now) v (head.loop-v.invariant.arc t.loop-v-test.true)
 
-  cell-there : get_or s.args.row.now v (pos 0) ≢ absent_cell
-  cell-there = walked_there (λ j. get_or s.args.chain.now j 0) s.args.row.now v (head.loop.inv.arc t.loop-test.taken)
+  cell_there : get_or s.args.row.now v (pos 0) ≢ absent_cell
+  cell_there = walked_there (λ j. get_or s.args.chain.now j 0) s.args.row.now v (head.loop-v.invariant.arc t.loop-v-test.true)
 
-mul-later : tie.Need-overflow-mul-later invariant-loop decreases-loop
-mul-later c = omega (arith, in-n c)
+offset_bounds-f-v : tie.Need-offset_bounds-f-v invariant-loop decreases-loop
+offset_bounds-f-v c = omega (arith, in_n c)
 
-shared-slice-copy-out-later : tie.Need-shared-slice-copy-out-later invariant-loop decreases-loop
-shared-slice-copy-out-later c = omega (arith, c.loop-test.true, (s c).requires.0.room)
+bounds-f-v : tie.Need-bounds-f-v invariant-loop decreases-loop
+bounds-f-v c = omega (arith, c.loop-v-test.true, (s c).requires.0.room)
 
-mul-later-2 : tie.Need-overflow-mul-later-2 invariant-loop decreases-loop
-mul-later-2 c = omega (arith, in-n c.before)
+offset_bounds-row-v : tie.Need-offset_bounds-row-v invariant-loop decreases-loop
+offset_bounds-row-v c = omega (arith, in_n c.before)
 
-shared-slice-copy-out-later-2 : tie.Need-shared-slice-copy-out-later-2 invariant-loop decreases-loop
-shared-slice-copy-out-later-2 c = let u = c.before in omega (arith, u.loop-test.true, (s u).requires.0.row_room)
+bounds-row-v : tie.Need-bounds-row-v invariant-loop decreases-loop
+bounds-row-v c = let u = c in omega (arith, u.loop-v-test.true, (s u.before).requires.0.row_room)
 
-module _ (g : tie.After-later-arg2 invariant-loop decreases-loop) where
-  abbrev t : tie.In-loop invariant-loop decreases-loop
+module _ (g : tie.After-later-arg-in-loop-v-1 invariant-loop decreases-loop) where
+  abbrev t : tie.In-loop-v invariant-loop decreases-loop
   t = g.before.before
 
-  time-is : to_z w64 (of_z w64 (get_or (s t).args.f.now (v t) (pos 0))) ≡ get_or (s t).args.f.now (v t) (pos 0)
-  time-is = back w64 _ g.before.later-arg.given
+  time_is : to_z w64 (of_z w64 (get_or (s t).args.f.now (v t) (pos 0))) ≡ get_or (s t).args.f.now (v t) (pos 0)
+  time_is = back w64 _ g.later-arg-1.given
 
-  cell-is : to_z w32 (of_z w32 (get_or (s t).args.row.now (v t) (pos 0))) ≡ get_or (s t).args.row.now (v t) (pos 0)
-  cell-is = back w32 _ g.later-arg2.given
+  cell_is : to_z w32 (of_z w32 (get_or (s t).args.row.now (v t) (pos 0))) ≡ get_or (s t).args.row.now (v t) (pos 0)
+  cell_is = back w32 _ g.later-arg-in-loop-v-1.given
 
-later-requires : tie.Need-later-requires invariant-loop decreases-loop
-later-requires c κs =
+later-best-requires : tie.Need-later-best-requires invariant-loop decreases-loop
+later-best-requires c κs =
     let u = t c in (
-      subst (λ (z : ℤ). T (fits reached_limit (read_cell absent_wide z))) (sym (time-is c)) ((s u).pre.1.near (v u) u.loop-test.taken),
-      (subst (λ (z : ℤ). z ≢ absent_cell) (sym (cell-is c)) (cell-there u), subst (λ (z : ℤ). T (fits delay_limit (read_cell absent_cell z))) (sym (cell-is c)) ((s u).pre.0.near (v u) u.loop-test.taken)),
+      subst (λ (z : ℤ). T (fits reached_limit (read_cell absent_wide z))) (sym (time_is c)) ((s u).requires.1.near (v u) u.loop-v-test.true),
+      (subst (λ (z : ℤ). z ≢ absent_cell) (sym (cell_is c)) (cell_there u), subst (λ (z : ℤ). T (fits delay_limit (read_cell absent_cell z))) (sym (cell_is c)) ((s u).requires.0.near (v u) u.loop-v-test.true)),
     )
 
-abbrev turn-of : tie.After-later invariant-loop decreases-loop → tie.In-loop invariant-loop decreases-loop
-turn-of c = t c.before
+abbrev turn_of : tie.After-later-best invariant-loop decreases-loop → tie.In-loop-v invariant-loop decreases-loop
+turn_of c = t c.before
 
-shared-slice-read-v-2 : tie.Need-shared-slice-read-v-2 invariant-loop decreases-loop
-shared-slice-read-v-2 c = let u = turn-of c.before in omega (arith, u.loop-test.taken, (s u).pre.0.chain_room)
+bounds-chain-v : tie.Need-bounds-chain-v invariant-loop decreases-loop
+bounds-chain-v c = let u = turn_of c.before in omega (arith, u.loop-v-test.true, (s u).requires.0.chain_room)
 
-cast-v-2 : tie.Need-overflow-cast-v-2 invariant-loop decreases-loop
-cast-v-2 c = let u = turn-of c.before in omega (arith, ((s u).pre.0.chain.on (v u) u.loop-test.taken).1, (s u).pre.0.few)
+overflow_cast-v-in-loop-v : tie.Need-overflow_cast-v-in-loop-v invariant-loop decreases-loop
+overflow_cast-v-in-loop-v c = let u = turn_of c.before in omega (arith, ((s u).requires.0.chain.on (v u) u.loop-v-test.true).1, (s u).requires.0.few)
 
-loop-less : tie.Need-loop-smaller invariant-loop decreases-loop
-loop-less c = let u = turn-of c.before in omega (arith, u.loop-test.taken, (s u).pre.0.chain.on (v u) u.loop-test.taken)
+loop-v-smaller : tie.Need-loop-v-smaller invariant-loop decreases-loop
+loop-v-smaller c = let u = turn_of c.before in omega (arith, u.loop-v-test.true, (s u).requires.0.chain.on (v u) u.loop-v-test.true)
 
-loop-again : tie.Need-loop-preserved invariant-loop decreases-loop
-loop-again c =
-    let l = c.before in
-    let g = l.before in
-    let u = t g in
-    gathered_turn (s u).pre.0.chain _ (arrival_in (s u).args.f.now) (head u).loop.inv u.loop-test.taken _
-    (ap (read_cell absent_wide) (back w64 _ l.later.type-inv) ∙ l.later.ensures
-    ∙ ap₂ (λ (x y : Delay). read_cell absent_wide (to_z w64 (head u).loop.best) ⋓ (x ⊕ y)) (ap (read_cell absent_wide) (time-is g)) (ap (read_cell absent_cell) (cell-is g) ∙ sym (row_is u)))
+loop-v-preserved : tie.Need-loop-v-preserved invariant-loop decreases-loop
+loop-v-preserved c =
+    let l = c in
+    let g = l in
+    let u = t g.before.before in
+    gathered_turn (s u).requires.0.chain _ (arrival_in (s u).args.f.now) (head u).loop-v.invariant u.loop-v-test.true _
+    (ap (read_cell absent_wide) (back w64 _ l.later-best.type_inv) ∙ l.later-best.ensures
+    ∙ ap₂ (λ (x y : Delay). read_cell absent_wide (to_z w64 (head u).loop-v.best-bits) ⋓ (x ⊕ y)) (ap (read_cell absent_wide) (time_is g.before.before)) (ap (read_cell absent_cell) (cell_is g.before.before) ∙ sym (row_is u)))
 
 returns : tie.Need-returns invariant-loop decreases-loop
 returns c =
-    let l = c.before in
-    let s = l.before.before.before in
-    subst (λ (z : ℤ). Pulled s.args.n s.args.row.now s.args.chain.now z s.args.f.now (to_z w64 l.loop.best)) (to_z-of_z s.ranges.start)
-    (gathered_all s.requires.0.chain _ (arrival_in s.args.f.now) l.loop.invariant c.loop-test.false)
+    let l = c in
+    let s = l in
+    subst (λ (z : ℤ). Pulled s.args.n s.args.row.now s.args.chain.now z s.args.f.now (to_z w64 l.loop-v.best-bits)) (to_z-of_z s.ranges.start)
+    (gathered_all s.requires.0.chain _ (arrival_in s.args.f.now) l.loop-v.invariant c.loop-v-test.false)
 
-pub pull-spec : {M : Type 1} → statement M
-pull-spec =
+pub pull_spec : {M : Type 1} → statement M
+pull_spec =
     tie.close
     (tie.spec
     invariant-loop
     decreases-loop
-    shared-slice-read-v
-    cast-v
-    loop-holds
-    mul-later
-    shared-slice-copy-out-later
-    mul-later-2
-    shared-slice-copy-out-later-2
-    later-requires
-    shared-slice-read-v-2
-    cast-v-2
-    loop-less
-    loop-again
+    bounds-chain-0
+    overflow_cast-v
+    loop-v-init
+    offset_bounds-f-v
+    bounds-f-v
+    offset_bounds-row-v
+    bounds-row-v
+    later-best-requires
+    bounds-chain-v
+    overflow_cast-v-in-loop-v
+    loop-v-smaller
+    loop-v-preserved
     returns)

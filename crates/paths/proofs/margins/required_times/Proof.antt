@@ -17,52 +17,57 @@ use Rattle.paths.proofs.margins.required_times.Statement.{statement}
 use Rattle.paths.proofs.margins.required_times.Tie as tie
 
 -- the outputs' times are there
-module _ (w : tie.After-start-outputs) where
+module _ (w : tie.After-start_outputs) where
   abbrev s : tie.Start
   s = w.before.before.before
 
   room : s.args.board.vertices ≤ length s.args.required.now
-  room = omega (arith, s.pre.1.1.1)
+  room = omega (arith, s.requires.1.1.1)
 
   abbrev f₁ : List ℤ
   f₁ = stored s.args.board.vertices (own_from s.args.board s.args.due.now) s.args.required.now
 
-start-outputs-requires : tie.Need-start-outputs-requires
-start-outputs-requires c κs = let s = c.before.before in (s.requires.1.1.0, omega (arith, s.requires.1.1.1))
+start_outputs-requires : tie.Need-start_outputs-requires
+start_outputs-requires c κs = let s = c in (s.requires.1.1.0, omega (arith, s.requires.1.1.1))
 
-propagate-back-requires : tie.Need-propagate-back-requires
-propagate-back-requires c κs =
-    let w = c.before.before in
-    (subst (Started _ _ _) (sym w.start-outputs.ensures) (outputs_started (s w).requires.0.checked (s w).args.due.now (s w).requires.1.1.0 (s w).args.required.now (room w) (s w).requires.0), (s w).requires.1.0)
+propagate_back-requires : tie.Need-propagate_back-requires
+propagate_back-requires c κs =
+    let w = c in
+    (subst (Started _ _ _) (sym w.start_outputs.ensures) (outputs_started (s w.before.before).requires.0.checked (s w.before.before).args.due.now (s w.before.before).requires.1.1.0 (s w.before.before).args.required.now (room w.before.before) (s w.before.before).requires.0), (s w.before.before).requires.1.0)
 
 -- they have come back
-module _ (q : tie.After-propagate-back) where
-  abbrev w : tie.After-start-outputs
+module _ (q : tie.After-propagate_back) where
+  abbrev w : tie.After-start_outputs
   w = q.before.before.before
 
   abbrev f₂ : List ℤ
-  f₂ = q.propagate-back.last.1.1.1.1.0
+  f₂ = q.propagate_back.new.f
 
   are : f₂ ≡ filled (s w).args.board.vertices (latest_back (s w).args.board (s w).args.table.now (f₁ w)) (f₁ w)
-  are = q.propagate-back.ensures
-      ∙ ap (λ (x : List ℤ). filled (s w).args.board.vertices (propagated (s w).args.board.vertices (reversed (graph_of (s w).args.board.vertices (s w).args.table.now)) (arrival_in x)) x) w.start-outputs.ensures
+  are = q.propagate_back.ensures
+      ∙ ap (λ (x : List ℤ). filled (s w).args.board.vertices (propagated (s w).args.board.vertices (reversed (graph_of (s w).args.board.vertices (s w).args.table.now)) (arrival_in x)) x) w.start_outputs.ensures
 
   long : length f₂ ≡ (s w).args.board.vertices
-  long = q.propagate-back.kept.1.1.1.1.0 ∙ w.start-outputs.kept.1.1.0 ∙ (s w).pre.1.1.1
+  long = q.propagate_back.auto.f ∙ w.start_outputs.auto.f ∙ (s w).requires.1.1.1
 
-mirror-all-requires : tie.Need-mirror-all-requires
-mirror-all-requires c κs =
-    let q = c.before.before in
-    let v = s (w q) in
-    subst (λ (k : ℕ). InReach k (f₂ q)) (sym (long q)) (subst (InReach v.args.board.vertices) (sym (are q)) (back_reach v.pre.0.checked v.args.due.now v.pre.1.1.0 v.args.required.now (room (w q))))
+mirror_all-requires : tie.Need-mirror_all-requires
+mirror_all-requires c κs =
+    let q = c in
+    let v = s (w q.before.before) in
+    subst (λ (k : ℕ). InReach k (f₂ q.before.before)) (sym (long q.before.before)) (subst (InReach v.args.board.vertices) (sym (are q.before.before)) (back_reach v.requires.0.checked v.args.due.now v.requires.1.1.0 v.args.required.now (room (w q.before.before))))
 
 returns : tie.Need-returns
 returns c =
-    let a = c.before in
-    let q = a.before.before.before in
-    let v = s (w q) in
-    a.mirror-all.ensures ∙ ap₂ (λ (k : ℕ) (x : List ℤ). cells k (λ u. mirror (arrival_in x u))) (long q) (are q)
-    ∙ mirrored_back v.pre.0.checked v.args.due.now v.pre.1.1.0 v.args.required.now (room (w q))
+    let a = c in
+    let q = a in
+    let v = s (w q.before.before.before.before) in
+    a.mirror_all.ensures ∙ ap₂ (λ (k : ℕ) (x : List ℤ). cells k (λ u. mirror (arrival_in x u))) (long q.before.before.before.before) (are q.before.before.before.before)
+    ∙ mirrored_back v.requires.0.checked v.args.due.now v.requires.1.1.0 v.args.required.now (room (w q.before.before.before.before))
 
-pub required-times-spec : {M : Type 1} → statement M
-required-times-spec = tie.close (tie.spec start-outputs-requires propagate-back-requires mirror-all-requires (λ c. search rules) returns)
+pub required_times_spec : {M : Type 1} → statement M
+required_times_spec = tie.close (tie.spec
+    start_outputs-requires
+    propagate_back-requires
+    mirror_all-requires
+    (λ c. search rules)
+    returns)

@@ -10,47 +10,47 @@ use Rattle.laws.proofs.Signed.{back}
 use Rattle.paths.specs.Arrivals.{stored}
 use Rattle.paths.specs.Margins.{own_from}
 
-abbrev invariant-loop : tie.invariant-loop
+abbrev invariant-loop : tie.invariant-loop-v
 invariant-loop board due f₀ n v₀ f v = (v ≤ n) × (length f ≡ length f₀) × (f ≡ stored v (own_from board due) f₀)
 
-abbrev decreases-loop : tie.decreases-loop
+abbrev decreases-loop : tie.decreases-loop-v
 decreases-loop board due f₀ n v₀ f v = n - v
 
-loop-holds : tie.Need-loop-init invariant-loop decreases-loop
-loop-holds c = (omega arith, refl, fill_none _ _)
+loop-v-init : tie.Need-loop-v-init invariant-loop decreases-loop
+loop-v-init c = (omega arith, refl, fill_none _ _)
 
-own-time-requires : tie.Need-own-time-requires invariant-loop decreases-loop
-own-time-requires c κs = c.before.before.requires.0
+own_time-requires : tie.Need-own_time-requires invariant-loop decreases-loop
+own_time-requires c κs = c.requires.0
 
-loop-again : tie.Need-loop-preserved invariant-loop decreases-loop
-loop-again c =
-    let l = c.before.before in
-    let s = l.before in (
+loop-v-preserved : tie.Need-loop-v-preserved invariant-loop decreases-loop
+loop-v-preserved c =
+    let l = c in
+    let s = l in (
       omega arith,
-      simp length-set l.loop.invariant.1,
-      fill_turn (own_from s.args.board s.args.due.now) s.args.f.now l.loop.f l.loop.v _ (omega (arith, s.requires.1)) l.loop.invariant.2 (back w64 _ c.own-time.type-inv ∙ c.own-time.ensures),
+      simp length-set l.loop-v.invariant.1,
+      fill_turn (own_from s.args.board s.args.due.now) s.args.f.now l.loop-v.f l.loop-v.v _ (omega (arith, s.requires.1)) l.loop-v.invariant.2 (back w64 _ c.own_time.type_inv ∙ c.own_time.ensures),
     )
 
-same_length : tie.Need-same-length invariant-loop decreases-loop
-same_length c = c.before.loop.invariant.1
+shape_of-f : tie.Need-shape_of-f invariant-loop decreases-loop
+shape_of-f c = c.loop-v.invariant.1
 
 returns : tie.Need-returns invariant-loop decreases-loop
 returns c =
-    let e : c.before.loop.v ≡ c.before.before.args.board.vertices = omega arith in
-    rw e at c.before.loop.invariant.2
+    let e : c.loop-v.v ≡ c.args.board.vertices = omega arith in
+    rw e at c.loop-v.invariant.2
 
-pub start-outputs-spec : {M : Type 1} → statement M
-start-outputs-spec =
+pub start_outputs_spec : {M : Type 1} → statement M
+start_outputs_spec =
     tie.close
     (tie.spec
     invariant-loop
     decreases-loop
-    loop-holds
-    own-time-requires
+    loop-v-init
+    own_time-requires
     (λ c. omega arith)
     (λ c. omega arith)
     (λ c. omega arith)
     (λ c. omega arith)
-    loop-again
-    same_length
+    loop-v-preserved
+    shape_of-f
     returns)

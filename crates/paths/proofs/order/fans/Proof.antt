@@ -20,18 +20,18 @@ use Rattle.paths.proofs.Rows.{lent_cell, lent_long}
 abbrev above : Graph → ℕ → ℕ → ℕ
 above g u v = sum u (λ x. bit (g x v))
 
-abbrev invariant-loop : tie.invariant-loop
+abbrev invariant-loop : tie.invariant-loop-u
 invariant-loop table n fan₀ u₀ fan u = (u ≤ n) × (length fan ≡ max_vertices) × ((v : ℕ) → v < n → get_or fan v 0 ≡ above (graph_of n table) u v)
 
-abbrev decreases-loop : tie.decreases-loop
+abbrev decreases-loop : tie.decreases-loop-u
 decreases-loop table n fan₀ u₀ fan u = n - u
 
-loop-holds : tie.Need-loop-init invariant-loop decreases-loop
+loop-u-init : tie.Need-loop-u-init invariant-loop decreases-loop
 unfolding sum
-loop-holds c = (omega arith, c.no-fans.ensures.0, λ v h. c.no-fans.ensures.1 v (omega (arith, c.before.requires.sized.few)))
+loop-u-init c = (omega arith, c.no_fans-fan.ensures.0, λ v h. c.no_fans-fan.ensures.1 v (omega (arith, c.requires.sized.few)))
 
 -- a turn
-module _ (i : tie.In-loop invariant-loop decreases-loop) where
+module _ (i : tie.In-loop-u invariant-loop decreases-loop) where
   abbrev start : tie.Start invariant-loop decreases-loop
   start = i.before.before.before
 
@@ -42,69 +42,69 @@ module _ (i : tie.In-loop invariant-loop decreases-loop) where
   t = start.args.table.now
 
   abbrev u : ℕ
-  u = i.before.loop.u
+  u = i.loop-u.u
 
   row : n * u + n ≤ n * n
-  row = row_in n u i.loop-test.taken
+  row = row_in n u i.loop-u-test.true
 
-mul_at : tie.Need-overflow-mul-at invariant-loop decreases-loop
-mul_at c = omega (arith, row c, (start c).requires.room)
+overflow_mul-at : tie.Need-overflow_mul-at invariant-loop decreases-loop
+overflow_mul-at c = omega (arith, row c, (start c).requires.room)
 
-mul-raise : tie.Need-overflow-mul-raise invariant-loop decreases-loop
-mul-raise c = omega (arith, row c, (start c).requires.room)
+offset_bounds-table-at : tie.Need-offset_bounds-table-at invariant-loop decreases-loop
+offset_bounds-table-at c = omega (arith, row c, (start c).requires.room)
 
-sub-raise : tie.Need-overflow-sub-raise invariant-loop decreases-loop
-sub-raise c = omega (arith, row c, (start c).requires.room)
+slice_bounds-raise-count : tie.Need-slice_bounds-raise-count invariant-loop decreases-loop
+slice_bounds-raise-count c = omega (arith, row c, (start c).requires.room)
 
-part-raise-start : tie.Need-slice-bounds-raise-start invariant-loop decreases-loop
-part-raise-start c = omega (arith, row c, (start c).requires.room)
+slice_bounds-raise-start : tie.Need-slice_bounds-raise-start invariant-loop decreases-loop
+slice_bounds-raise-start c = omega (arith, row c, (start c).requires.room)
 
 few : (g : Graph) (u v : ℕ) → above g u v ≤ u
 few g u v = sum_bound u (λ x. bit (g x v)) (λ x. bit_le (g x v))
 
 raise-requires : tie.Need-raise-requires invariant-loop decreases-loop
 raise-requires c κs =
-    let i = c.before.before in
-    let l = i.before.loop in
-    ((start i).requires.sized.few, (lent_long (n i) (t i) (u i) (start i).requires.room i.loop-test.true, (l.invariant.1, λ v h. omega (arith, l.invariant.2 v h, few (graph_of (n i) (t i)) (u i) v, i.loop-test.true, (start i).requires.sized.few))))
+    let i = c in
+    let l = i.loop-u in
+    ((start i.before.before).requires.sized.few, (lent_long (n i.before.before) (t i.before.before) (u i.before.before) (start i.before.before).requires.room i.loop-u-test.true, (l.invariant.1, λ v h. omega (arith, l.invariant.2 v h, few (graph_of (n i.before.before) (t i.before.before)) (u i.before.before) v, i.loop-u-test.true, (start i.before.before).requires.sized.few))))
 
-add-u : tie.Need-overflow-add-u invariant-loop decreases-loop
-add-u c = let i = c.before.before.before in omega (arith, i.loop-test.true, (start i).requires.sized.few)
+overflow_add-u : tie.Need-overflow_add-u invariant-loop decreases-loop
+overflow_add-u c = let i = c in omega (arith, i.loop-u-test.true, (start i.before.before.before).requires.sized.few)
 
-loop-less : tie.Need-loop-smaller invariant-loop decreases-loop
-loop-less c = let i = c.before.before.before in omega (arith, i.loop-test.true)
+loop-u-smaller : tie.Need-loop-u-smaller invariant-loop decreases-loop
+loop-u-smaller c = let i = c in omega (arith, i.loop-u-test.true)
 
-loop-again : tie.Need-loop-preserved invariant-loop decreases-loop
-loop-again c =
-    let i = c.before.before.before in
-    let l = i.before.loop in (
-      omega (arith, i.loop-test.true),
+loop-u-preserved : tie.Need-loop-u-preserved invariant-loop decreases-loop
+loop-u-preserved c =
+    let i = c in
+    let l = i.loop-u in (
+      omega (arith, i.loop-u-test.true),
       c.raise.ensures.0,
-      λ v h. omega (arith, c.raise.ensures.1 v h, l.invariant.2 v h, ap bit (lent_cell (n i) (t i) (u i) (start i).requires.room i.loop-test.true v h), sum_more (λ x. bit (graph_of (n i) (t i) x v)) (u i)),
+      λ v h. omega (arith, c.raise.ensures.1 v h, l.invariant.2 v h, ap bit (lent_cell (n i.before.before.before) (t i.before.before.before) (u i.before.before.before) (start i.before.before.before).requires.room i.loop-u-test.true v h), sum_more (λ x. bit (graph_of (n i.before.before.before) (t i.before.before.before) x v)) (u i.before.before.before)),
     )
 
 returns : tie.Need-returns invariant-loop decreases-loop
 unfolding fan_in
 returns c =
-    let l = c.before in
-    let e : l.loop.u ≡ l.before.before.args.board.vertices = omega (arith, l.loop.invariant.0, c.loop-test.false) in
-    (l.loop.invariant.1, λ v h. l.loop.invariant.2 v h ∙ ap (λ (x : ℕ). above (graph_of l.before.before.args.board.vertices l.before.before.args.table.now) x v) e)
+    let l = c in
+    let e : l.loop-u.u ≡ l.args.board.vertices = omega (arith, l.loop-u.invariant.0, c.loop-u-test.false) in
+    (l.loop-u.invariant.1, λ v h. l.loop-u.invariant.2 v h ∙ ap (λ (x : ℕ). above (graph_of l.args.board.vertices l.args.table.now) x v) e)
 
-pub fans-spec : {M : Type 1} → statement M
-fans-spec =
+pub fans_spec : {M : Type 1} → statement M
+fans_spec =
     tie.close
     (tie.spec
     invariant-loop
     decreases-loop
     (λ c κs. tt)
-    loop-holds
-    mul_at
-    mul-raise
-    sub-raise
-    part-raise-start
+    loop-u-init
+    overflow_mul-at
+    offset_bounds-table-at
+    slice_bounds-raise-count
+    slice_bounds-raise-start
     (λ c. omega arith)
     raise-requires
-    add-u
-    loop-less
-    loop-again
+    overflow_add-u
+    loop-u-smaller
+    loop-u-preserved
     returns)

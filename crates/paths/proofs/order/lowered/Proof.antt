@@ -10,17 +10,21 @@ use Rattle.paths.proofs.ReadCells.{bit_of}
 use Rattle.paths.proofs.order.lowered.Statement.{statement}
 use Rattle.paths.proofs.order.lowered.Tie as tie
 
-said : (c : tie.After-is-arc) → present (read_cell absent_cell c.before.args.cell) ≡ c.is-arc.result
-said c = sym (c.is-arc.ensures ∙ ap (λ (z : ℤ). present (read_cell absent_cell z)) (to_z-of_z c.before.ranges.cell))
+said : (c : tie.After-is_arc) → present (read_cell absent_cell c.args.cell) ≡ c.is_arc.result
+said c = sym (c.is_arc.ensures ∙ ap (λ (z : ℤ). present (read_cell absent_cell z)) (to_z-of_z c.ranges.cell))
 
-sub-result : tie.Need-overflow-sub-result
-sub-result c = omega (arith, c.before.before.requires, bit_of (read_cell absent_cell c.before.before.args.cell) true (said c.before ∙ c.if1.true))
+overflow_sub-result : tie.Need-overflow_sub-result
+overflow_sub-result c = omega (arith, c.requires, bit_of (read_cell absent_cell c.args.cell) true (said c.before ∙ c.if-is_arc.true))
+
+returns-then-is_arc : tie.Need-returns-then-is_arc
+returns-then-is_arc c = omega (arith, c.requires, bit_of (read_cell absent_cell c.args.cell) true (said c.before ∙ c.if-is_arc.true))
 
 returns : tie.Need-returns
-returns c = omega (arith, c.before.before.requires, bit_of (read_cell absent_cell c.before.before.args.cell) true (said c.before ∙ c.if1.true))
+returns c = omega (arith, bit_of (read_cell absent_cell c.args.cell) false (said c.before ∙ c.if-is_arc.false))
 
-returns-2 : tie.Need-returns-2
-returns-2 c = omega (arith, bit_of (read_cell absent_cell c.before.before.args.cell) false (said c.before ∙ c.if1.false))
-
-pub lowered-spec : {M : Type 1} → statement M
-lowered-spec = tie.close (tie.spec (λ c κs. tt) sub-result returns returns-2)
+pub lowered_spec : {M : Type 1} → statement M
+lowered_spec = tie.close (tie.spec
+    (λ c κs. tt)
+    overflow_sub-result
+    returns-then-is_arc
+    returns)

@@ -6,5 +6,6 @@ use Rattle.paths.proofs.order.no_fans.Tie as tie
 returns : tie.Need-returns
 returns c = (length-replicate {A = ℕ} 90 0, λ v h. get_or-replicate {A = ℕ} 90 v 0 0 h)
 
-pub no-fans-spec : {M : Type 1} → statement M
-no-fans-spec = tie.close (tie.spec returns)
+pub no_fans_spec : {M : Type 1} → statement M
+no_fans_spec = tie.close (tie.spec
+    returns)

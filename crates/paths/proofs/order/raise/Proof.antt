@@ -19,60 +19,60 @@ use Rattle.paths.specs.Cells.{cell_at}
 abbrev Raised : List ℤ → List ℕ → ℕ → ℕ → Type 0
 Raised row fan₀ j x = x ≡ get_or fan₀ j 0 + bit (cell_at row j)
 
-abbrev invariant-loop : tie.invariant-loop
+abbrev invariant-loop : tie.invariant-loop-v
 invariant-loop row fan₀ n v₀ fan v = (v ≤ n) × Stored (Raised row fan₀) 0 fan₀ fan v
 
-abbrev decreases-loop : tie.decreases-loop
+abbrev decreases-loop : tie.decreases-loop-v
 decreases-loop row fan₀ n v₀ fan v = n - v
 
-loop-holds : tie.Need-loop-init invariant-loop decreases-loop
-loop-holds c = (omega arith, stored-start _ _ _)
+loop-v-init : tie.Need-loop-v-init invariant-loop decreases-loop
+loop-v-init c = (omega arith, stored-start _ _ _)
 
-element-copy-out-raised : tie.Need-element-copy-out-raised invariant-loop decreases-loop
-element-copy-out-raised c = omega (arith, c.before.before.requires.0)
+bounds-fan-v : tie.Need-bounds-fan-v invariant-loop decreases-loop
+bounds-fan-v c = omega (arith, c.requires.0)
 
-mul-raised : tie.Need-overflow-mul-raised invariant-loop decreases-loop
-mul-raised c = omega (arith, c.before.before.before.requires.0)
+offset_bounds-row-v : tie.Need-offset_bounds-row-v invariant-loop decreases-loop
+offset_bounds-row-v c = omega (arith, c.requires.0)
 
-shared-slice-copy-out-raised : tie.Need-shared-slice-copy-out-raised invariant-loop decreases-loop
-shared-slice-copy-out-raised c = omega (arith, c.before.before.before.requires.1.0)
+bounds-row-v : tie.Need-bounds-row-v invariant-loop decreases-loop
+bounds-row-v c = omega (arith, c.requires.1.0)
 
-module _ (c : tie.After-raised-arg2 invariant-loop decreases-loop) where
-  abbrev head : tie.At-loop invariant-loop decreases-loop
-  head = c.before.before.before
+module _ (c : tie.After-raised-arg-in-loop-v-1 invariant-loop decreases-loop) where
+  abbrev head : tie.At-loop-v invariant-loop decreases-loop
+  head = c.before.before.before.before
 
-  cell-is : bit (read_cell absent_cell (to_z w32 (of_z w32 (get_or head.before.args.row.now head.loop.v (pos 0))))) ≡ bit (cell_at head.before.args.row.now head.loop.v)
-  cell-is = ap (λ (z : ℤ). bit (read_cell absent_cell z)) (back w32 _ c.raised-arg2.given)
+  cell_is : bit (read_cell absent_cell (to_z w32 (of_z w32 (get_or head.args.row.now head.loop-v.v (pos 0))))) ≡ bit (cell_at head.args.row.now head.loop-v.v)
+  cell_is = ap (λ (z : ℤ). bit (read_cell absent_cell z)) (back w32 _ c.raised-arg-in-loop-v-1.given)
 
 raised-requires : tie.Need-raised-requires invariant-loop decreases-loop
-raised-requires c κs = omega (arith, (head c).loop.invariant.1.left (head c).loop.v (omega arith), (head c).before.requires.1.1.1 (head c).loop.v c.before.before.loop-test.true)
+raised-requires c κs = omega (arith, (head c).loop-v.invariant.1.left (head c).loop-v.v (omega arith), (head c).requires.1.1.1 (head c).loop-v.v c.loop-v-test.true)
 
-element-write-fan : tie.Need-element-write-fan invariant-loop decreases-loop
-element-write-fan c = omega (arith, c.before.before.before.before.before.requires.0)
+bounds-fan-v-in-loop-v : tie.Need-bounds-fan-v-in-loop-v invariant-loop decreases-loop
+bounds-fan-v-in-loop-v c = omega (arith, c.requires.0)
 
-loop-again : tie.Need-loop-preserved invariant-loop decreases-loop
-loop-again c =
+loop-v-preserved : tie.Need-loop-v-preserved invariant-loop decreases-loop
+loop-v-preserved c =
     let h = head c.before in (
       omega arith,
-      stored_turn h.loop.inv.1 (omega (arith, h.before.pre.0, h.before.pre.1.1.0)) _ (omega (arith, c.raised.ensures, cell-is c.before, h.loop.inv.1.left h.loop.v (omega arith))),
+      stored_turn h.loop-v.invariant.1 (omega (arith, h.requires.0, h.requires.1.1.0)) _ (omega (arith, c.raised.ensures, cell_is c.before, h.loop-v.invariant.1.left h.loop-v.v (omega arith))),
     )
 
 returns : tie.Need-returns invariant-loop decreases-loop
-returns c = (c.before.loop.invariant.1.size ∙ c.before.before.requires.1.1.0, λ v h. c.before.loop.invariant.1.done v (omega arith))
+returns c = (c.loop-v.invariant.1.size ∙ c.requires.1.1.0, λ v h. c.loop-v.invariant.1.done v (omega arith))
 
-pub raise-spec : {M : Type 1} → statement M
-raise-spec =
+pub raise_spec : {M : Type 1} → statement M
+raise_spec =
     tie.close
     (tie.spec
     invariant-loop
     decreases-loop
-    loop-holds
-    element-copy-out-raised
-    mul-raised
-    shared-slice-copy-out-raised
+    loop-v-init
+    bounds-fan-v
+    offset_bounds-row-v
+    bounds-row-v
     raised-requires
-    element-write-fan
+    bounds-fan-v-in-loop-v
     (λ c. omega arith)
     (λ c. omega arith)
-    loop-again
+    loop-v-preserved
     returns)

@@ -31,67 +31,67 @@ found : (n : ℕ) (o : List ℕ) (v p : ℕ) → ((j : ℕ) → j < p → get_or
 found n o v p h l e = first_found n (is o v) p l (other o v p h) (T_true (eq→eqb (get_or o p 0) v e))
 
 module _ {n : ℕ} {o : List ℕ} {a b p : ℕ} (s : Scanned n o a b p) where
-  meets-b : p < n → get_or o p 0 ≡ b → stands_before n o a b ≡ false
+  meets_b : p < n → get_or o p 0 ≡ b → stands_before n o a b ≡ false
   unfolding stands_before
-  meets-b l e = le-ltb (first n (is o a)) (first n (is o b)) (omega (arith, found n o b p s.not_b l e, first_above n (is o a) p s.upto (other o a p s.not_a)))
+  meets_b l e = le-ltb (first n (is o a)) (first n (is o b)) (omega (arith, found n o b p s.not_b l e, first_above n (is o a) p s.upto (other o a p s.not_a)))
 
-  meets-a : p < n → get_or o p 0 ≡ a → get_or o p 0 ≢ b → stands_before n o a b ≡ true
+  meets_a : p < n → get_or o p 0 ≡ a → get_or o p 0 ≢ b → stands_before n o a b ≡ true
   unfolding stands_before
-  meets-a l e ne =
+  meets_a l e ne =
       lt-ltb (first n (is o a)) (first n (is o b))
       (omega (arith, found n o a p s.not_a l e, first_above n (is o b) (suc p) l (other o b (suc p) (below_suc (λ j. get_or o j 0 ≢ b) p s.not_b ne))))
 
-  meets-none : n ≤ p → stands_before n o a b ≡ false
+  meets_none : n ≤ p → stands_before n o a b ≡ false
   unfolding stands_before
-  meets-none h =
+  meets_none h =
       le-ltb (first n (is o a)) (first n (is o b))
       (omega (arith, first_none n (is o a) (λ j l. other o a p s.not_a j (omega arith)), first_none n (is o b) (λ j l. other o b p s.not_b j (omega arith))))
 
-  meets-other : p < n → get_or o p 0 ≢ a → get_or o p 0 ≢ b → Scanned n o a b (p + 1)
-  meets-other l na nb = record { upto = omega arith; not_a = below_more _ _ s.not_a na; not_b = below_more _ _ s.not_b nb }
+  meets_other : p < n → get_or o p 0 ≢ a → get_or o p 0 ≢ b → Scanned n o a b (p + 1)
+  meets_other l na nb = record { upto = omega arith; not_a = below_more _ _ s.not_a na; not_b = below_more _ _ s.not_b nb }
 
-abbrev invariant-loop : tie.invariant-loop
+abbrev invariant-loop : tie.invariant-loop-p
 invariant-loop list n a b p₀ p = Scanned n list a b p
 
-abbrev decreases-loop : tie.decreases-loop
+abbrev decreases-loop : tie.decreases-loop-p
 decreases-loop list n a b p₀ p = n - p
 
-loop-holds : tie.Need-loop-init invariant-loop decreases-loop
-loop-holds c = record { upto = omega arith; not_a = below_none _; not_b = below_none _ }
+loop-p-init : tie.Need-loop-p-init invariant-loop decreases-loop
+loop-p-init c = record { upto = omega arith; not_a = below_none _; not_b = below_none _ }
 
-returns : tie.Need-returns invariant-loop decreases-loop
-returns c =
-    let v = c.before.before in
-    let i = v.before.before in
-    sym (meets-a i.before.loop.invariant i.loop-test.true (sym v.vertex.ensures ∙ c.if2.true) (λ e. c.before.if1.false (v.vertex.ensures ∙ e)))
+returns-then-v-a : tie.Need-returns-then-v-a invariant-loop decreases-loop
+returns-then-v-a c =
+    let v = c in
+    let i = v in
+    sym (meets_a i.loop-p.invariant i.loop-p-test.true (sym v.vertex-v.ensures ∙ c.if-v-a.true) (λ e. c.if-v-b.false (v.vertex-v.ensures ∙ e)))
 
-loop-again : tie.Need-loop-preserved invariant-loop decreases-loop
-loop-again c =
-    let v = c.before.before in
-    let i = v.before.before in
-    meets-other i.before.loop.invariant i.loop-test.true (λ e. c.if2.false (v.vertex.ensures ∙ e)) (λ e. c.before.if1.false (v.vertex.ensures ∙ e))
+loop-p-preserved : tie.Need-loop-p-preserved invariant-loop decreases-loop
+loop-p-preserved c =
+    let v = c in
+    let i = v in
+    meets_other i.loop-p.invariant i.loop-p-test.true (λ e. c.if-v-a.false (v.vertex-v.ensures ∙ e)) (λ e. c.if-v-b.false (v.vertex-v.ensures ∙ e))
 
-returns-2 : tie.Need-returns-2 invariant-loop decreases-loop
-returns-2 c = sym (meets-none c.before.loop.invariant (omega arith))
+returns-after-loop-p : tie.Need-returns-after-loop-p invariant-loop decreases-loop
+returns-after-loop-p c = sym (meets_none c.loop-p.invariant (omega arith))
 
-returns-3 : tie.Need-returns-3 invariant-loop decreases-loop
-returns-3 c =
-    let v = c.before in
-    let i = v.before.before in
-    sym (meets-b i.before.loop.invariant i.loop-test.true (sym v.vertex.ensures ∙ c.if1.true))
+returns-then-v-b : tie.Need-returns-then-v-b invariant-loop decreases-loop
+returns-then-v-b c =
+    let v = c in
+    let i = v in
+    sym (meets_b i.loop-p.invariant i.loop-p-test.true (sym v.vertex-v.ensures ∙ c.if-v-b.true))
 
-pub stands-before-spec : {M : Type 1} → statement M
-stands-before-spec =
+pub stands_before_spec : {M : Type 1} → statement M
+stands_before_spec =
     tie.close
     (tie.spec
     invariant-loop
     decreases-loop
-    loop-holds
+    loop-p-init
     (λ c. omega arith)
     (λ c κs. tt)
-    returns
+    returns-then-v-a
     (λ c. omega arith)
     (λ c. omega arith)
-    loop-again
-    returns-2
-    returns-3)
+    loop-p-preserved
+    returns-after-loop-p
+    returns-then-v-b)

@@ -15,73 +15,73 @@ use Rattle.paths.proofs.Starting.{filled-drop}
 use Rattle.paths.proofs.queries.arrivals_answer.Statement.{statement}
 use Rattle.paths.proofs.queries.arrivals_answer.Tie as tie
 
-returns : tie.Need-returns
-returns c = (lists_refused _ _ _ _ _ _ (inl (sym c.before.times-fit.ensures ∙ not-true _ c.if1.true)), refl)
+returns-then-not-times_fit : tie.Need-returns-then-not-times_fit
+returns-then-not-times_fit c = (lists_refused _ _ _ _ _ _ (inl (sym c.times_fit.ensures ∙ not-true _ c.if-not-times_fit.true-raw)), refl)
 
-returns-2 : tie.Need-returns-2
-returns-2 c = (lists_refused _ _ _ _ _ _ (inr c.if2.true), refl)
+returns-then-answers-board : tie.Need-returns-then-answers-board
+returns-then-answers-board c = (lists_refused _ _ _ _ _ _ (inr c.if-answers-board.true), refl)
 
 -- the lists fit
-module _ (e : tie.Else2) where
+module _ (e : tie.Else-answers-board) where
   abbrev start : tie.Start
   start = e.before.before.before.before
 
   fit : arrivals_fit start.args.board.inputs start.args.given.now ≡ true
-  fit = sym e.before.before.before.times-fit.ensures ∙ not-false _ e.before.before.if1.left
+  fit = sym e.times_fit.ensures ∙ not-false _ e.if-not-times_fit.false-raw
 
   least : start.args.board.vertices ≤ start.args.board.vertices * start.args.board.vertices
-  least = square start.args.board.vertices (omega (arith, start.pre.0.checked.lent.sized.some_inputs, start.pre.0.checked.lent.sized.roles))
+  least = square start.args.board.vertices (omega (arith, start.requires.0.checked.lent.sized.some_inputs, start.requires.0.checked.lent.sized.roles))
 
-slice-aggregate-chains : tie.Need-slice-aggregate-chains
-slice-aggregate-chains c = sym c.before.cell-bytes.ensures
+slice_bounds-chains-end : tie.Need-slice_bounds-chains-end
+slice_bounds-chains-end c = sym c.cell_bytes-chain.ensures
 
 chains-requires : tie.Need-chains-requires
 chains-requires c κs =
     let s = start c.before.before in
-    let l = s.pre.0 in
-    (l, omega (arith, c.before.cell-bytes.ensures, board_area s.args.board l.checked.lent.sized))
+    let l = s.requires.0 in
+    (l, omega (arith, c.cell_bytes-chain.ensures, board_area s.args.board l.checked.lent.sized))
 
 -- the chains are made
 module _ (m : tie.After-chains) where
-  abbrev lists : tie.Else2
+  abbrev lists : tie.Else-answers-board
   lists = m.before.before.before
 
-slice-aggregate-arrivals : tie.Need-slice-aggregate-arrivals
-slice-aggregate-arrivals c = let m = c.before.before in sym (m.chains.auto.1.1.1.0 ∙ m.before.before.cell-bytes.ensures)
+slice_bounds-arrivals-end : tie.Need-slice_bounds-arrivals-end
+slice_bounds-arrivals-end c = let m = c in sym (m.chains.auto.chain ∙ m.cell_bytes-chain.ensures)
 
 arrivals-requires : tie.Need-arrivals-requires
-arrivals-requires c κs = let m = c.before.before.before in let e = lists m in ((start e).pre.0, (m.chains.ensures, (given_of _ _ (fit e), omega (arith, (start e).pre.1, least e))))
+arrivals-requires c κs = let m = c in let e = lists m.before.before.before in ((start e).requires.0, (m.chains.ensures, (given_of _ _ (fit e), omega (arith, (start e).requires.1, least e))))
 
-copy-out-requires : tie.Need-copy-out-requires
-copy-out-requires c κs =
-    let a = c.before.before.before in
-    let e = lists a.before.before.before.before in
-    omega (arith, e.if2.left, a.arrivals.auto.1.1.1.1.1.0, (start e).pre.0.checked.sound.room, (start e).pre.1, least e)
+copy_out-requires : tie.Need-copy_out-requires
+copy_out-requires c κs =
+    let a = c in
+    let e = lists a.before.before.before.before.before.before in
+    omega (arith, e.if-answers-board.false, a.arrivals.auto.f, (start e).requires.0.checked.sound.room, (start e).requires.1, least e)
 
-returns-3 : tie.Need-returns-3
-returns-3 c =
-    let o = c.before in
-    let a = o.before.before.before.before in
-    let e = lists a.before.before.before.before in
+returns : tie.Need-returns
+returns c =
+    let o = c in
+    let a = o in
+    let e = lists a.before.before.before.before.before.before.before.before in
     let s = start e in (
-      lists_done _ _ _ _ _ _ (fit e) e.if2.left _ (o.copy-out.ensures ∙ copied s.args.board s.args.given.now s.args.scratch.now a.arrivals.new.1.1.1.1.1.0 (graph_of s.args.board.vertices s.args.table.now) _ s.pre.0.checked.sound.room e.if2.left a.arrivals.ensures),
-      drop_further s.args.board.vertices (s.args.board.vertices * s.args.board.vertices) s.args.scratch.now a.arrivals.new.1.1.1.1.1.0 (least e)
-          (filled-drop s.args.board.vertices (arrival_at s.args.board.inputs s.args.board.vertices (graph_of s.args.board.vertices s.args.table.now) (arrival_in s.args.given.now)) s.args.scratch.now a.arrivals.new.1.1.1.1.1.0 a.arrivals.ensures),
+      lists_done _ _ _ _ _ _ (fit e) e.if-answers-board.false _ (o.copy_out.ensures ∙ copied s.args.board s.args.given.now s.args.scratch.now a.arrivals.new.f (graph_of s.args.board.vertices s.args.table.now) _ s.requires.0.checked.sound.room e.if-answers-board.false a.arrivals.ensures),
+      drop_further s.args.board.vertices (s.args.board.vertices * s.args.board.vertices) s.args.scratch.now a.arrivals.new.f (least e)
+          (filled-drop s.args.board.vertices (arrival_at s.args.board.inputs s.args.board.vertices (graph_of s.args.board.vertices s.args.table.now) (arrival_in s.args.given.now)) s.args.scratch.now a.arrivals.new.f a.arrivals.ensures),
     )
 
-pub arrivals-answer-spec : {M : Type 1} → statement M
-arrivals-answer-spec =
+pub arrivals_answer_spec : {M : Type 1} → statement M
+arrivals_answer_spec =
     tie.close
     (tie.spec
     (λ c κs. search rules)
-    returns
-    returns-2
+    returns-then-not-times_fit
+    returns-then-answers-board
     (λ c κs. tt)
-    slice-aggregate-chains
+    slice_bounds-chains-end
     chains-requires
-    slice-aggregate-arrivals
+    slice_bounds-arrivals-end
     arrivals-requires
-    copy-out-requires
+    copy_out-requires
     (λ c. search rules)
     (λ c. search rules)
-    returns-3)
+    returns)

@@ -14,64 +14,64 @@ use Rattle.laws.proofs.Signed.{back}
 abbrev cell_of : List ℤ → ℕ → ℕ → ℤ
 cell_of f m j = get_or f (m + j) (pos 0)
 
-abbrev invariant-loop : tie.invariant-loop
+abbrev invariant-loop : tie.invariant-loop-j
 invariant-loop row₀ f m j₀ row j = (j ≤ length row₀) × (length row ≡ length row₀) × (row ≡ tabulate j (cell_of f m) ++ drop j row₀)
 
-abbrev decreases-loop : tie.decreases-loop
+abbrev decreases-loop : tie.decreases-loop-j
 decreases-loop row₀ f m j₀ row j = length row₀ - j
 
-loop-holds : tie.Need-loop-init invariant-loop decreases-loop
-loop-holds c = (omega arith, refl, fill_none _ _)
+loop-j-init : tie.Need-loop-j-init invariant-loop decreases-loop
+loop-j-init c = (omega arith, refl, fill_none _ _)
 
-add_row : tie.Need-overflow-add-row invariant-loop decreases-loop
-add_row c = omega arith
+overflow_add-row : tie.Need-overflow_add-row invariant-loop decreases-loop
+overflow_add-row c = omega arith
 
-mul-row : tie.Need-overflow-mul-row invariant-loop decreases-loop
-mul-row c = omega arith
+offset_bounds-f-m : tie.Need-offset_bounds-f-m invariant-loop decreases-loop
+offset_bounds-f-m c = omega arith
 
-shared-slice-copy-out-row : tie.Need-shared-slice-copy-out-row invariant-loop decreases-loop
-shared-slice-copy-out-row c = omega arith
+bounds-f-m : tie.Need-bounds-f-m invariant-loop decreases-loop
+bounds-f-m c = omega arith
 
-mul-t10 : tie.Need-overflow-mul-t10 invariant-loop decreases-loop
-mul-t10 c = omega arith
+offset_bounds-row-j : tie.Need-offset_bounds-row-j invariant-loop decreases-loop
+offset_bounds-row-j c = omega arith
 
-slice-set-from-row : tie.Need-slice-set-from-row invariant-loop decreases-loop
-slice-set-from-row c = omega arith
+bounds-row-j : tie.Need-bounds-row-j invariant-loop decreases-loop
+bounds-row-j c = omega arith
 
-add-j : tie.Need-overflow-add-j invariant-loop decreases-loop
-add-j c = omega arith
+overflow_add-j : tie.Need-overflow_add-j invariant-loop decreases-loop
+overflow_add-j c = omega arith
 
-loop-less : tie.Need-loop-smaller invariant-loop decreases-loop
-loop-less c = omega arith
+loop-j-smaller : tie.Need-loop-j-smaller invariant-loop decreases-loop
+loop-j-smaller c = omega arith
 
-loop-again : tie.Need-loop-preserved invariant-loop decreases-loop
-loop-again c =
-    let l = c.before.before in (
+loop-j-preserved : tie.Need-loop-j-preserved invariant-loop decreases-loop
+loop-j-preserved c =
+    let l = c in (
       omega arith,
-      simp length-set l.loop.invariant.1,
-      fill_turn (cell_of l.before.args.f.now l.before.args.m) l.before.args.row.now l.loop.row l.loop.j _ (omega arith) l.loop.invariant.2 (back w64 _ c.row.given),
+      simp length-set l.loop-j.invariant.1,
+      fill_turn (cell_of l.args.f.now l.args.m) l.args.row.now l.loop-j.row l.loop-j.j _ (omega arith) l.loop-j.invariant.2 (back w64 _ c.row-1.given),
     )
 
-same_length : tie.Need-same-length invariant-loop decreases-loop
-same_length c = c.before.loop.invariant.1
+shape_of-row : tie.Need-shape_of-row invariant-loop decreases-loop
+shape_of-row c = c.loop-j.invariant.1
 
 returns : tie.Need-returns invariant-loop decreases-loop
-returns c = c.before.loop.invariant.2 ∙ fill_all _ _ c.before.loop.j (omega arith)
+returns c = c.loop-j.invariant.2 ∙ fill_all _ _ c.loop-j.j (omega arith)
 
-pub copy-out-spec : {M : Type 1} → statement M
-copy-out-spec =
+pub copy_out_spec : {M : Type 1} → statement M
+copy_out_spec =
     tie.close
     (tie.spec
     invariant-loop
     decreases-loop
-    loop-holds
-    add_row
-    mul-row
-    shared-slice-copy-out-row
-    mul-t10
-    slice-set-from-row
-    add-j
-    loop-less
-    loop-again
-    same_length
+    loop-j-init
+    overflow_add-row
+    offset_bounds-f-m
+    bounds-f-m
+    offset_bounds-row-j
+    bounds-row-j
+    overflow_add-j
+    loop-j-smaller
+    loop-j-preserved
+    shape_of-row
     returns)

@@ -5,38 +5,38 @@ use Rattle.paths.proofs.Answering.{answers_on, answers_refused, scratch_on, scra
 use Rattle.paths.proofs.queries.delay_matrix.Statement.{statement}
 use Rattle.paths.proofs.queries.delay_matrix.Tie as tie
 
-matrix-answer-requires : tie.Need-matrix-answer-requires
-matrix-answer-requires c κs =
-    let k = c.before.before.before.before in
-    k.before.before.checked.ensures.passable _ k.lent.given.1
+matrix_answer-requires : tie.Need-matrix_answer-requires
+matrix_answer-requires c κs =
+    let k = c in
+    k.checked-lent.ensures.passable _ k.in-Board.is
 
-returns : tie.Need-returns
+returns-in-Board : tie.Need-returns-in-Board
 unfolding matrix_call
-returns c =
-    let a = c.before.before in
-    let k = a.before.before.before.before.before in
-    let s = k.before.before.before.before.before in
-    let h = k.before.before.checked.ensures in (
-      answers_on h _ k.lent.given.1 (λ m n N. matrix_into m n N s.args.destination.now) _ _ _ a.matrix-answer.ensures.0,
-      scratch_on h _ k.lent.given.1 _ _ refl a.matrix-answer.ensures.1,
+returns-in-Board c =
+    let a = c in
+    let k = a in
+    let s = k in
+    let h = k.checked-lent.ensures in (
+      answers_on h _ k.in-Board.is (λ m n N. matrix_into m n N s.args.destination.now) _ _ _ a.matrix_answer.ensures.0,
+      scratch_on h _ k.in-Board.is _ _ refl a.matrix_answer.ensures.1,
     )
 
-returns-2 : tie.Need-returns-2
+returns-in-Refused : tie.Need-returns-in-Refused
 unfolding matrix_call
-returns-2 c =
-    let k = c.before in
-    (answers_refused k.before.before.checked.ensures _ k.lent2.given.1 _ _ _ refl, scratch_same)
+returns-in-Refused c =
+    let k = c in
+    (answers_refused k.checked-lent.ensures _ k.in-Refused.is _ _ _ refl, scratch_same)
 
-pub delay-matrix-spec : {M : Type 1} → statement M
-delay-matrix-spec =
+pub delay_matrix_spec : {M : Type 1} → statement M
+delay_matrix_spec =
     tie.close
     (tie.spec
     (λ c κs. search rules)
     (λ c κs. search rules)
     (λ c. search rules)
-    matrix-answer-requires
+    matrix_answer-requires
     (λ c. search rules)
     (λ c. search rules)
     (λ c. search rules)
-    returns
-    returns-2)
+    returns-in-Board
+    returns-in-Refused)

@@ -13,27 +13,27 @@ use Rattle.paths.specs.Queries.{RowsMade}
 use Rattle.paths.proofs.Lanes.{lane_room, lane-length, lane_lent}
 use Rattle.paths.proofs.MatrixRows.{row_length, row_made}
 
-abbrev invariant-loop : tie.invariant-loop
+abbrev invariant-loop : tie.invariant-loop-l
 invariant-loop board table order chain i scratch destination₀ n v l₀ destination l = (l ≤ 4) × (length destination ≡ length destination₀) × RowsMade board table i (i + l) destination₀ destination
 
-abbrev decreases-loop : tie.decreases-loop
+abbrev decreases-loop : tie.decreases-loop-l
 decreases-loop board table order chain i scratch destination₀ n v l₀ destination l = 4 - l
 
-delays-from-four-requires : tie.Need-delays-from-four-requires invariant-loop decreases-loop
-delays-from-four-requires c κs = let s = c.before.before in (s.requires.0, (s.requires.1.0, (omega (arith, s.requires.1.1.0, s.requires.0.checked.sound.room), s.requires.1.1.1.0)))
+delays_from_four-requires : tie.Need-delays_from_four-requires invariant-loop decreases-loop
+delays_from_four-requires c κs = let s = c in (s.requires.0, (s.requires.1.0, (omega (arith, s.requires.1.1.0, s.requires.0.checked.sound.room), s.requires.1.1.1.0)))
 
-loop-holds : tie.Need-loop-init invariant-loop decreases-loop
-loop-holds c =
-    let s = c.before.before.before.before in
+loop-l-init : tie.Need-loop-l-init invariant-loop decreases-loop
+loop-l-init c =
+    let s = c in
     let e : s.args.i ≡ s.args.i + 0 = omega arith in
     (omega arith, refl, subst (λ (k : ℕ). RowsMade s.args.board s.args.table.now s.args.i k s.args.destination.now s.args.destination.now) e (λ d₀ q. q))
 
 -- a row
-module _ (t : tie.In-loop invariant-loop decreases-loop) where
-  abbrev h : tie.At-loop invariant-loop decreases-loop
+module _ (t : tie.In-loop-l invariant-loop decreases-loop) where
+  abbrev h : tie.At-loop-l invariant-loop decreases-loop
   h = t.before
 
-  abbrev d : tie.After-delays-from-four invariant-loop decreases-loop
+  abbrev d : tie.After-delays_from_four invariant-loop decreases-loop
   d = h.before.before
 
   abbrev s : tie.Start invariant-loop decreases-loop
@@ -46,124 +46,124 @@ module _ (t : tie.In-loop invariant-loop decreases-loop) where
   N = s.args.board.vertices
 
   abbrev l : ℕ
-  l = h.loop.l
+  l = h.loop-l.l
 
   abbrev u : ℕ
   u = s.args.i + l
 
   abbrev f : List ℤ
-  f = d.delays-from-four.last.1.1.1.1.1.0
+  f = d.delays_from_four.new.f
 
   input : u < s.args.board.inputs
-  input = omega (arith, s.pre.1.1.0, t.loop-test.taken)
+  input = omega (arith, s.requires.1.1.0, t.loop-l-test.true)
 
   row : n * u + n ≤ length s.args.destination.now
-  row = omega (arith, row_of n u s.args.board.inputs input, s.pre.1.1.1.1)
+  row = omega (arith, row_of n u s.args.board.inputs input, s.requires.1.1.1.1)
 
-  room : n * u + n ≤ length h.loop.destination
-  room = omega (arith, row, h.loop.inv.1)
+  room : n * u + n ≤ length h.loop-l.destination
+  room = omega (arith, row, h.loop-l.invariant.1)
 
   before : N * l + N ≤ length s.args.scratch.now
-  before = lane_room N l 4 s.args.scratch.now t.loop-test.taken s.pre.1.1.1.0
+  before = lane_room N l 4 s.args.scratch.now t.loop-l-test.true s.requires.1.1.1.0
 
   run : N * l + N ≤ length f
-  run = omega (arith, before, d.delays-from-four.kept.1.1.1.1.1.0)
+  run = omega (arith, before, d.delays_from_four.auto.f)
 
-mul-from : tie.Need-overflow-mul-from invariant-loop decreases-loop
-mul-from c = omega (arith, before c, (s c).well-formed)
+overflow_mul-from : tie.Need-overflow_mul-from invariant-loop decreases-loop
+overflow_mul-from c = omega (arith, before c, (s c).well_formed)
 
-add-to : tie.Need-overflow-add-to invariant-loop decreases-loop
-add-to c = omega (arith, before c, (s c).well-formed)
+overflow_add-to : tie.Need-overflow_add-to invariant-loop decreases-loop
+overflow_add-to c = omega (arith, before c, (s c).well_formed)
 
-add_at : tie.Need-overflow-add-at invariant-loop decreases-loop
-add_at c = omega (arith, input c, (s c).requires.0.checked.lent.sized)
+overflow_add-at : tie.Need-overflow_add-at invariant-loop decreases-loop
+overflow_add-at c = omega (arith, input c, (s c).requires.0.checked.lent.sized)
 
-mul_at : tie.Need-overflow-mul-at invariant-loop decreases-loop
-mul_at c = omega (arith, row c, (s c).well-formed)
+overflow_mul-at : tie.Need-overflow_mul-at invariant-loop decreases-loop
+overflow_mul-at c = omega (arith, row c, (s c).well_formed)
 
-add-end : tie.Need-overflow-add-end invariant-loop decreases-loop
-add-end c = omega (arith, row c, (s c).well-formed)
+overflow_add-end : tie.Need-overflow_add-end invariant-loop decreases-loop
+overflow_add-end c = omega (arith, row c, (s c).well_formed)
 
-mul-copy-out : tie.Need-overflow-mul-copy-out invariant-loop decreases-loop
-mul-copy-out c = omega (arith, row c, (s c).well-formed)
+offset_bounds-destination-at : tie.Need-offset_bounds-destination-at invariant-loop decreases-loop
+offset_bounds-destination-at c = omega (arith, row c, (s c).well_formed)
 
-part-copy-out-end : tie.Need-slice-bounds-copy-out-end invariant-loop decreases-loop
-part-copy-out-end c = omega (arith, room c)
+slice_bounds-copy_out-end : tie.Need-slice_bounds-copy_out-end invariant-loop decreases-loop
+slice_bounds-copy_out-end c = omega (arith, room c)
 
-mul-copy-out-2 : tie.Need-overflow-mul-copy-out-2 invariant-loop decreases-loop
-mul-copy-out-2 c = let t = c.before in omega (arith, before t, (s t).well-formed)
+offset_bounds-scratch-from : tie.Need-offset_bounds-scratch-from invariant-loop decreases-loop
+offset_bounds-scratch-from c = let t = c in omega (arith, before t.before, (s t.before).well_formed)
 
-part-copy-out-end-2 : tie.Need-slice-bounds-copy-out-end-2 invariant-loop decreases-loop
-part-copy-out-end-2 c = omega (arith, run c.before.before)
+slice_bounds-copy_out-end-in-loop-l : tie.Need-slice_bounds-copy_out-end-in-loop-l invariant-loop decreases-loop
+slice_bounds-copy_out-end-in-loop-l c = omega (arith, run c.before)
 
-copy-out-requires : tie.Need-copy-out-requires invariant-loop decreases-loop
-copy-out-requires c κs =
-    let t = c.before.before.before in
-    omega (arith, (s t).requires.0.checked.sound.room, row_length (n t) (u t) (h t).loop.destination (room t), ap length (lane_lent (N t) (l t) (f t)), lane-length (N t) (l t) (f t) (run t))
+copy_out-requires : tie.Need-copy_out-requires invariant-loop decreases-loop
+copy_out-requires c κs =
+    let t = c in
+    omega (arith, (s t.before.before).requires.0.checked.sound.room, row_length (n t.before.before) (u t.before.before) (h t.before.before).loop-l.destination (room t.before.before), ap length (lane_lent (N t.before.before) (l t.before.before) (f t.before.before)), lane-length (N t.before.before) (l t.before.before) (f t.before.before) (run t.before.before))
 
-abbrev turn-of : tie.After-destination invariant-loop decreases-loop → tie.In-loop invariant-loop decreases-loop
-turn-of c = c.before.before.before.before.before
+abbrev turn_of : tie.After-destination-1 invariant-loop decreases-loop → tie.In-loop-l invariant-loop decreases-loop
+turn_of c = c.before.before.before.before
 
-add-l : tie.Need-overflow-add-l invariant-loop decreases-loop
-add-l c = omega (arith, (turn-of c).loop-test.true)
+overflow_add-l : tie.Need-overflow_add-l invariant-loop decreases-loop
+overflow_add-l c = omega (arith, (turn_of c).loop-l-test.true)
 
-loop-less : tie.Need-loop-smaller invariant-loop decreases-loop
-loop-less c = omega (arith, (turn-of c).loop-test.true)
+loop-l-smaller : tie.Need-loop-l-smaller invariant-loop decreases-loop
+loop-l-smaller c = omega (arith, (turn_of c).loop-l-test.true)
 
-loop-again : tie.Need-loop-preserved invariant-loop decreases-loop
-loop-again c =
-    let t = turn-of c in
+loop-l-preserved : tie.Need-loop-l-preserved invariant-loop decreases-loop
+loop-l-preserved c =
+    let t = turn_of c in
     let b = s t in
-    let k = c.before.copy-out in
-    let x = (h t).loop.destination in
-    let y = put_mid (n t * u t) (n t * u t + n t - n t * u t) x k.new.0 in
+    let k = c.copy_out in
+    let x = (h t).loop-l.destination in
+    let y = put_mid (n t * u t) (n t * u t + n t - n t * u t) x k.new.row in
     let e : u t + 1 ≡ b.args.i + (l t + 1) = omega arith in (
-      omega (arith, t.loop-test.taken),
-      same_len_mid (n t * u t) (n t * u t + n t - n t * u t) x k.new.0 k.auto.0 ∙ (h t).loop.inv.1,
+      omega (arith, t.loop-l-test.true),
+      same_len_mid (n t * u t) (n t * u t + n t - n t * u t) x k.new.row k.auto.row ∙ (h t).loop-l.invariant.1,
       subst (λ (z : ℕ). RowsMade b.args.board b.args.table.now b.args.i z b.args.destination.now y) e
-          (λ d₀ q. row_made b.pre.0 (u t) (input t) x (lane (N t) (l t) b.args.scratch.now) _ k.new.0 (room t)
-          (lane_lent (N t) (l t) (f t) ∙ (d t).delays-from-four.ensures.0 (l t) t.loop-test.taken) k.ensures d₀ ((h t).loop.inv.2 d₀ q)),
+          (λ d₀ q. row_made b.requires.0 (u t) (input t) x (lane (N t) (l t) b.args.scratch.now) _ k.new.row (room t)
+          (lane_lent (N t) (l t) (f t) ∙ (d t).delays_from_four.ensures.0 (l t) t.loop-l-test.true) k.ensures d₀ ((h t).loop-l.invariant.2 d₀ q)),
     )
 
-same_length : tie.Need-same-length invariant-loop decreases-loop
-same_length c = c.before.before.before.delays-from-four.auto.1.1.1.1.1.0
+shape_of-scratch : tie.Need-shape_of-scratch invariant-loop decreases-loop
+shape_of-scratch c = c.delays_from_four.auto.f
 
-same-length-2 : tie.Need-same-length-2 invariant-loop decreases-loop
-same-length-2 c = c.before.loop.invariant.1
+shape_of-destination : tie.Need-shape_of-destination invariant-loop decreases-loop
+shape_of-destination c = c.loop-l.invariant.1
 
 returns : tie.Need-returns invariant-loop decreases-loop
 returns c =
-    let h = c.before in
-    let d = h.before.before in
-    let s = d.before.before.before in
-    let e : s.args.i + h.loop.l ≡ s.args.i + 4 = omega (arith, h.loop.invariant.0, c.loop-test.false) in
-    (subst (λ (k : ℕ). RowsMade s.args.board s.args.table.now s.args.i k s.args.destination.now h.loop.destination) e h.loop.invariant.2, d.delays-from-four.ensures.1)
+    let h = c in
+    let d = h in
+    let s = d in
+    let e : s.args.i + h.loop-l.l ≡ s.args.i + 4 = omega (arith, h.loop-l.invariant.0, c.loop-l-test.false) in
+    (subst (λ (k : ℕ). RowsMade s.args.board s.args.table.now s.args.i k s.args.destination.now h.loop-l.destination) e h.loop-l.invariant.2, d.delays_from_four.ensures.1)
 
-pub fill-four-spec : {M : Type 1} → statement M
-fill-four-spec =
+pub fill_four_spec : {M : Type 1} → statement M
+fill_four_spec =
     tie.close
     (tie.spec
     invariant-loop
     decreases-loop
-    delays-from-four-requires
-    loop-holds
-    mul-from
-    add-to
-    add_at
-    mul_at
-    add-end
-    mul-copy-out
+    delays_from_four-requires
+    loop-l-init
+    overflow_mul-from
+    overflow_add-to
+    overflow_add-at
+    overflow_mul-at
+    overflow_add-end
+    offset_bounds-destination-at
     (λ c. omega arith)
     (λ c. omega arith)
-    part-copy-out-end
-    mul-copy-out-2
+    slice_bounds-copy_out-end
+    offset_bounds-scratch-from
     (λ c. omega arith)
     (λ c. omega arith)
-    part-copy-out-end-2
-    copy-out-requires
-    add-l
-    loop-less
-    loop-again
-    same_length
-    same-length-2
+    slice_bounds-copy_out-end-in-loop-l
+    copy_out-requires
+    overflow_add-l
+    loop-l-smaller
+    loop-l-preserved
+    shape_of-scratch
+    shape_of-destination
     returns)

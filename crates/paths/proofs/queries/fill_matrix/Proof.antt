@@ -28,28 +28,28 @@ record Made (b : Board) (t : List ℤ) (i₀ : ℕ) (s₀ d₀ s d : List ℤ) (
   made : RowsMade b t i₀ i d₀ d
 
 -- the inputs four at a time, and those that are left
-abbrev invariant-loop : tie.invariant-loop
+abbrev invariant-loop : tie.invariant-loop-i
 invariant-loop board table order scratch₀ destination₀ chain m n i₀ scratch destination i = Made board table i₀ scratch₀ destination₀ scratch destination i
 
-abbrev decreases-loop : tie.decreases-loop
+abbrev decreases-loop : tie.decreases-loop-i
 decreases-loop board table order scratch₀ destination₀ chain m n i₀ scratch destination i = m - i
 
-abbrev invariant-loop2 : tie.invariant-loop2
+abbrev invariant-loop2 : tie.invariant-loop-i-2
 invariant-loop2 board table order scratch₀ destination₀ chain m n i₀ scratch destination i = Made board table i₀ scratch₀ destination₀ scratch destination i
 
-abbrev decreases-loop2 : tie.decreases-loop2
+abbrev decreases-loop2 : tie.decreases-loop-i-2
 decreases-loop2 board table order scratch₀ destination₀ chain m n i₀ scratch destination i = m - i
 
-slice-aggregate-chains : tie.Need-slice-aggregate-chains invariant-loop decreases-loop invariant-loop2 decreases-loop2
-slice-aggregate-chains c = sym c.before.cell-bytes.ensures
+slice_bounds-chains-end : tie.Need-slice_bounds-chains-end invariant-loop decreases-loop invariant-loop2 decreases-loop2
+slice_bounds-chains-end c = sym c.cell_bytes-chain.ensures
 
 chains-requires : tie.Need-chains-requires invariant-loop decreases-loop invariant-loop2 decreases-loop2
-chains-requires c κs = let s = c.before.before in let l = s.requires.0 in (l, omega (arith, c.before.cell-bytes.ensures, board_area s.args.board l.checked.lent.sized))
+chains-requires c κs = let s = c in let l = s.requires.0 in (l, omega (arith, c.cell_bytes-chain.ensures, board_area s.args.board l.checked.lent.sized))
 
-loop-holds : tie.Need-loop-init invariant-loop decreases-loop invariant-loop2 decreases-loop2
-loop-holds c = record { upto = omega arith; long = refl; past = refl; size = refl; made = λ d₀ e. e }
+loop-i-init : tie.Need-loop-i-init invariant-loop decreases-loop invariant-loop2 decreases-loop2
+loop-i-init c = record { upto = omega arith; long = refl; past = refl; size = refl; made = λ d₀ e. e }
 
-module _ (h : tie.At-loop invariant-loop decreases-loop invariant-loop2 decreases-loop2) where
+module _ (h : tie.At-loop-i invariant-loop decreases-loop invariant-loop2 decreases-loop2) where
   abbrev chained : tie.After-chains invariant-loop decreases-loop invariant-loop2 decreases-loop2
   chained = h.before.before
 
@@ -60,66 +60,66 @@ module _ (h : tie.At-loop invariant-loop decreases-loop invariant-loop2 decrease
   N = start.args.board.vertices
 
   few : start.args.board.inputs ≤ 90
-  few = omega (arith, start.pre.0.checked.lent.sized)
+  few = omega (arith, start.requires.0.checked.lent.sized)
 
-  chain-long : 8100 ≡ length chained.chains.last.1.1.1.0
-  chain-long = sym (chained.chains.kept.1.1.1.0 ∙ chained.before.before.cell-bytes.ensures)
+  chain_long : 8100 ≡ length chained.chains.new.chain
+  chain_long = sym (chained.chains.auto.chain ∙ chained.cell_bytes-chain.ensures)
 
 -- ---- four inputs
 
-add-loop : tie.Need-overflow-add-loop invariant-loop decreases-loop invariant-loop2 decreases-loop2
-add-loop c = omega (arith, few c, c.loop.invariant.upto)
+overflow_add-i : tie.Need-overflow_add-i invariant-loop decreases-loop invariant-loop2 decreases-loop2
+overflow_add-i c = omega (arith, few c, c.loop-i.invariant.upto)
 
-slice-aggregate-fill-four : tie.Need-slice-aggregate-fill-four invariant-loop decreases-loop invariant-loop2 decreases-loop2
-slice-aggregate-fill-four c = chain-long c.before.before
+slice_bounds-fill_four-end : tie.Need-slice_bounds-fill_four-end invariant-loop decreases-loop invariant-loop2 decreases-loop2
+slice_bounds-fill_four-end c = chain_long c.before.before
 
-module _ (t : tie.In-loop invariant-loop decreases-loop invariant-loop2 decreases-loop2) where
-  abbrev h : tie.At-loop invariant-loop decreases-loop invariant-loop2 decreases-loop2
+module _ (t : tie.In-loop-i invariant-loop decreases-loop invariant-loop2 decreases-loop2) where
+  abbrev h : tie.At-loop-i invariant-loop decreases-loop invariant-loop2 decreases-loop2
   h = t.before
 
   lanes : N h * 4 ≤ scratch_cells (N h)
-  lanes = lanes_fit (start h).args.board (start h).pre.0.checked.lent.sized h.loop.i t.loop-test.taken
+  lanes = lanes_fit (start h).args.board (start h).requires.0.checked.lent.sized h.loop-i.i t.loop-i-test.true
 
-fill-four-requires : tie.Need-fill-four-requires invariant-loop decreases-loop invariant-loop2 decreases-loop2
-fill-four-requires c κs =
-    let t = c.before.before.before in
-    let a = h t in
+fill_four-requires : tie.Need-fill_four-requires invariant-loop decreases-loop invariant-loop2 decreases-loop2
+fill_four-requires c κs =
+    let t = c in
+    let a = h t.before.before.before in
     let s = start a in
-    (s.pre.0, ((chained a).chains.ensures, (t.loop-test.true, (omega (arith, a.loop.inv.long, s.pre.1.0, lanes t), omega (arith, a.loop.inv.size, s.pre.1.1)))))
+    (s.requires.0, ((chained a).chains.ensures, (t.loop-i-test.true, (omega (arith, a.loop-i.invariant.long, s.requires.1.0, lanes t.before.before.before), omega (arith, a.loop-i.invariant.size, s.requires.1.1)))))
 
-abbrev turn-of : tie.After-destination invariant-loop decreases-loop invariant-loop2 decreases-loop2 → tie.In-loop invariant-loop decreases-loop invariant-loop2 decreases-loop2
-turn-of c = c.before.before.before.before.before.before
+abbrev turn_of : tie.After-destination-1 invariant-loop decreases-loop invariant-loop2 decreases-loop2 → tie.In-loop-i invariant-loop decreases-loop invariant-loop2 decreases-loop2
+turn_of c = c.before.before.before.before.before.before
 
-add-i : tie.Need-overflow-add-i invariant-loop decreases-loop invariant-loop2 decreases-loop2
-add-i c = let t = turn-of c in omega (arith, t.loop-test.taken, few (h t))
+overflow_add-i-in-loop-i : tie.Need-overflow_add-i-in-loop-i invariant-loop decreases-loop invariant-loop2 decreases-loop2
+overflow_add-i-in-loop-i c = let t = turn_of c in omega (arith, t.loop-i-test.true, few (h t))
 
-loop-less : tie.Need-loop-smaller invariant-loop decreases-loop invariant-loop2 decreases-loop2
-loop-less c = omega (arith, (turn-of c).loop-test.true)
+loop-i-smaller : tie.Need-loop-i-smaller invariant-loop decreases-loop invariant-loop2 decreases-loop2
+loop-i-smaller c = omega (arith, (turn_of c).loop-i-test.true)
 
-loop-again : tie.Need-loop-preserved invariant-loop decreases-loop invariant-loop2 decreases-loop2
-loop-again c =
-    let t = turn-of c in
+loop-i-preserved : tie.Need-loop-i-preserved invariant-loop decreases-loop invariant-loop2 decreases-loop2
+loop-i-preserved c =
+    let t = turn_of c in
     let a = h t in
-    let G = a.loop.inv in
-    let k = c.before.before.fill-four in
+    let G = a.loop-i.invariant in
+    let k = c.fill_four in
     record {
-      upto = omega (arith, t.loop-test.taken);
-      long = k.auto.1.1.1.1.1.0 ∙ G.long;
-      past = drop_further (N a * 4) (scratch_cells (N a)) a.loop.scratch k.new.1.1.1.1.1.0 (lanes t) k.ensures.1 ∙ G.past;
-      size = k.auto.1.1.1.1.1.1.0 ∙ G.size;
+      upto = omega (arith, t.loop-i-test.true);
+      long = k.auto.scratch ∙ G.long;
+      past = drop_further (N a * 4) (scratch_cells (N a)) a.loop-i.scratch k.new.scratch (lanes t) k.ensures.1 ∙ G.past;
+      size = k.auto.destination ∙ G.size;
       made = λ d₀ e. k.ensures.0 d₀ (G.made d₀ e);
     }
 
 -- ---- one input
 
-loop2-holds : tie.Need-loop2-init invariant-loop decreases-loop invariant-loop2 decreases-loop2
-loop2-holds c = record { upto = c.before.loop.invariant.upto; long = refl; past = refl; size = refl; made = λ d₀ e. e }
+loop-i-2-init : tie.Need-loop-i-2-init invariant-loop decreases-loop invariant-loop2 decreases-loop2
+loop-i-2-init c = record { upto = c.loop-i.invariant.upto; long = refl; past = refl; size = refl; made = λ d₀ e. e }
 
-module _ (t : tie.In-loop2 invariant-loop decreases-loop invariant-loop2 decreases-loop2) where
-  abbrev r : tie.At-loop2 invariant-loop decreases-loop invariant-loop2 decreases-loop2
+module _ (t : tie.In-loop-i-2 invariant-loop decreases-loop invariant-loop2 decreases-loop2) where
+  abbrev r : tie.At-loop-i-2 invariant-loop decreases-loop invariant-loop2 decreases-loop2
   r = t.before
 
-  abbrev from : tie.At-loop invariant-loop decreases-loop invariant-loop2 decreases-loop2
+  abbrev from : tie.At-loop-i invariant-loop decreases-loop invariant-loop2 decreases-loop2
   from = r.before.before
 
   abbrev s : tie.Start invariant-loop decreases-loop invariant-loop2 decreases-loop2
@@ -129,91 +129,91 @@ module _ (t : tie.In-loop2 invariant-loop decreases-loop invariant-loop2 decreas
   n = s.args.board.outputs
 
   abbrev i : ℕ
-  i = r.loop2.i
+  i = r.loop-i-2.i
 
   least : N from ≤ scratch_cells (N from)
-  least = vector_fits s.args.board s.pre.0.checked.lent.sized
+  least = vector_fits s.args.board s.requires.0.checked.lent.sized
 
-  space : N from ≤ length r.loop2.scratch
-  space = omega (arith, least, s.pre.1.0, from.loop.inv.long, r.loop2.inv.long)
+  space : N from ≤ length r.loop-i-2.scratch
+  space = omega (arith, least, s.requires.1.0, from.loop-i.invariant.long, r.loop-i-2.invariant.long)
 
   row : n * i + n ≤ length s.args.destination.now
-  row = omega (arith, row_of n i s.args.board.inputs t.loop2-test.taken, s.pre.1.1)
+  row = omega (arith, row_of n i s.args.board.inputs t.loop-i-2-test.true, s.requires.1.1)
 
-  room : n * i + n ≤ length r.loop2.destination
-  room = omega (arith, row, from.loop.inv.size, r.loop2.inv.size)
+  room : n * i + n ≤ length r.loop-i-2.destination
+  room = omega (arith, row, from.loop-i.invariant.size, r.loop-i-2.invariant.size)
 
-slice-aggregate-delays-from : tie.Need-slice-aggregate-delays-from invariant-loop decreases-loop invariant-loop2 decreases-loop2
-slice-aggregate-delays-from c = chain-long (from c.before)
+slice_bounds-delays_from-end : tie.Need-slice_bounds-delays_from-end invariant-loop decreases-loop invariant-loop2 decreases-loop2
+slice_bounds-delays_from-end c = chain_long (from c.before)
 
-delays-from-requires : tie.Need-delays-from-requires invariant-loop decreases-loop invariant-loop2 decreases-loop2
-delays-from-requires c κs = let t = c.before.before in ((s t).requires.0, ((chained (from t)).chains.ensures, (omega (arith, t.loop2-test.true, (s t).requires.0.checked.sound.room), space t)))
+delays_from-requires : tie.Need-delays_from-requires invariant-loop decreases-loop invariant-loop2 decreases-loop2
+delays_from-requires c κs = let t = c in ((s t.before.before).requires.0, ((chained (from t.before.before)).chains.ensures, (omega (arith, t.loop-i-2-test.true, (s t.before.before).requires.0.checked.sound.room), space t.before.before)))
 
-abbrev one_of : tie.After-scratch2 invariant-loop decreases-loop invariant-loop2 decreases-loop2 → tie.In-loop2 invariant-loop decreases-loop invariant-loop2 decreases-loop2
+abbrev one_of : tie.After-scratch-in-loop-i-2-1 invariant-loop decreases-loop invariant-loop2 decreases-loop2 → tie.In-loop-i-2 invariant-loop decreases-loop invariant-loop2 decreases-loop2
 one_of c = c.before.before.before.before
 
-mul_at : tie.Need-overflow-mul-at invariant-loop decreases-loop invariant-loop2 decreases-loop2
-mul_at c = let t = one_of c in omega (arith, row t, (s t).good)
+overflow_mul-at : tie.Need-overflow_mul-at invariant-loop decreases-loop invariant-loop2 decreases-loop2
+overflow_mul-at c = let t = one_of c in omega (arith, row t, (s t).well_formed)
 
-add-end : tie.Need-overflow-add-end invariant-loop decreases-loop invariant-loop2 decreases-loop2
-add-end c = let t = one_of c in omega (arith, row t, (s t).good)
+overflow_add-end : tie.Need-overflow_add-end invariant-loop decreases-loop invariant-loop2 decreases-loop2
+overflow_add-end c = let t = one_of c in omega (arith, row t, (s t).well_formed)
 
-mul-copy-out : tie.Need-overflow-mul-copy-out invariant-loop decreases-loop invariant-loop2 decreases-loop2
-mul-copy-out c = let t = one_of c in omega (arith, row t, (s t).good)
+offset_bounds-destination-at : tie.Need-offset_bounds-destination-at invariant-loop decreases-loop invariant-loop2 decreases-loop2
+offset_bounds-destination-at c = let t = one_of c in omega (arith, row t, (s t).well_formed)
 
-part-copy-out-end : tie.Need-slice-bounds-copy-out-end invariant-loop decreases-loop invariant-loop2 decreases-loop2
-part-copy-out-end c = omega (arith, room (one_of c))
+slice_bounds-copy_out-end : tie.Need-slice_bounds-copy_out-end invariant-loop decreases-loop invariant-loop2 decreases-loop2
+slice_bounds-copy_out-end c = omega (arith, room (one_of c))
 
-copy-out-requires : tie.Need-copy-out-requires invariant-loop decreases-loop invariant-loop2 decreases-loop2
-copy-out-requires c κs =
-    let t = one_of c.before.before in
-    omega (arith, (s t).pre.0.checked.sound.room, space t, c.before.before.before.delays-from.auto.1.1.1.1.1.0, row_length (n t) (i t) (r t).loop2.destination (room t))
+copy_out-requires : tie.Need-copy_out-requires invariant-loop decreases-loop invariant-loop2 decreases-loop2
+copy_out-requires c κs =
+    let t = one_of c.before in
+    omega (arith, (s t).requires.0.checked.sound.room, space t, c.delays_from.auto.f, row_length (n t) (i t) (r t).loop-i-2.destination (room t))
 
-abbrev last_of : tie.After-destination2 invariant-loop decreases-loop invariant-loop2 decreases-loop2 → tie.After-scratch2 invariant-loop decreases-loop invariant-loop2 decreases-loop2
-last_of c = c.before.before.before.before
+abbrev last_of : tie.After-destination-in-loop-i-2-1 invariant-loop decreases-loop invariant-loop2 decreases-loop2 → tie.After-scratch-in-loop-i-2-1 invariant-loop decreases-loop invariant-loop2 decreases-loop2
+last_of c = c.before.before.before
 
-add-i-2 : tie.Need-overflow-add-i-2 invariant-loop decreases-loop invariant-loop2 decreases-loop2
-add-i-2 c = let t = one_of (last_of c) in omega (arith, t.loop2-test.taken, few (from t))
+overflow_add-i-in-loop-i-2 : tie.Need-overflow_add-i-in-loop-i-2 invariant-loop decreases-loop invariant-loop2 decreases-loop2
+overflow_add-i-in-loop-i-2 c = let t = one_of (last_of c) in omega (arith, t.loop-i-2-test.true, few (from t))
 
-loop2-less : tie.Need-loop2-smaller invariant-loop decreases-loop invariant-loop2 decreases-loop2
-loop2-less c = omega (arith, (one_of (last_of c)).loop2-test.taken)
+loop-i-2-smaller : tie.Need-loop-i-2-smaller invariant-loop decreases-loop invariant-loop2 decreases-loop2
+loop-i-2-smaller c = omega (arith, (one_of (last_of c)).loop-i-2-test.true)
 
-loop2-again : tie.Need-loop2-preserved invariant-loop decreases-loop invariant-loop2 decreases-loop2
-loop2-again c =
+loop-i-2-preserved : tie.Need-loop-i-2-preserved invariant-loop decreases-loop invariant-loop2 decreases-loop2
+loop-i-2-preserved c =
     let t = one_of (last_of c) in
-    let a = (r t).loop2 in
+    let a = (r t).loop-i-2 in
     let x = N (from t) in
-    let d = (last_of c).before.delays-from in
-    let f = d.last.1.1.1.1.1.0 in
-    let k = c.before.copy-out in
+    let d = (last_of c).delays_from in
+    let f = d.new.f in
+    let k = c.copy_out in
     record {
-      upto = omega (arith, t.loop2-test.taken);
-      long = d.kept.1.1.1.1.1.0 ∙ a.inv.long;
-      past = drop_further x (scratch_cells x) a.scratch f (least t) (filled-drop x (delays_from (s t).args.board (s t).args.table.now (i t)) a.scratch f d.ensures) ∙ a.inv.past;
-      size = same_len_mid (n t * i t) (n t * i t + n t - n t * i t) a.destination k.new.0 k.auto.0 ∙ a.inv.size;
-      made = λ d₀ e. row_made (s t).pre.0 (i t) t.loop2-test.taken a.destination a.scratch f k.new.0 (room t) d.ensures k.ensures d₀ (a.inv.made d₀ e);
+      upto = omega (arith, t.loop-i-2-test.true);
+      long = d.auto.f ∙ a.invariant.long;
+      past = drop_further x (scratch_cells x) a.scratch f (least t) (filled-drop x (delays_from (s t).args.board (s t).args.table.now (i t)) a.scratch f d.ensures) ∙ a.invariant.past;
+      size = same_len_mid (n t * i t) (n t * i t + n t - n t * i t) a.destination k.new.row k.auto.row ∙ a.invariant.size;
+      made = λ d₀ e. row_made (s t).requires.0 (i t) t.loop-i-2-test.true a.destination a.scratch f k.new.row (room t) d.ensures k.ensures d₀ (a.invariant.made d₀ e);
     }
 
-same_length : tie.Need-same-length invariant-loop decreases-loop invariant-loop2 decreases-loop2
-same_length c = let l = c.before in l.loop2.invariant.long ∙ l.before.before.loop.invariant.long
+shape_of-scratch : tie.Need-shape_of-scratch invariant-loop decreases-loop invariant-loop2 decreases-loop2
+shape_of-scratch c = let l = c in l.loop-i-2.invariant.long ∙ l.loop-i.invariant.long
 
-same-length-2 : tie.Need-same-length-2 invariant-loop decreases-loop invariant-loop2 decreases-loop2
-same-length-2 c = let l = c.before in l.loop2.invariant.size ∙ l.before.before.loop.invariant.size
+shape_of-destination : tie.Need-shape_of-destination invariant-loop decreases-loop invariant-loop2 decreases-loop2
+shape_of-destination c = let l = c in l.loop-i-2.invariant.size ∙ l.loop-i.invariant.size
 
 returns : tie.Need-returns invariant-loop decreases-loop invariant-loop2 decreases-loop2
 unfolding matrix_cells
 returns c =
-    let l = c.before in
-    let a = l.before.before in
-    let b = start a in
+    let l = c in
+    let a = l in
+    let b = start a.before.before.before in
     let d = b.args.destination.now in
-    let e : l.loop2.i ≡ b.args.board.inputs = omega (arith, l.loop2.invariant.upto, c.loop2-test.false) in (
-      subst (λ (k : ℕ). RowsDone b.args.board b.args.table.now k d l.loop2.destination) e (l.loop2.invariant.made d (a.loop.invariant.made d (rows_none b.args.board.outputs (entry b.args.board b.args.table.now) d))),
-      l.loop2.invariant.past ∙ a.loop.invariant.past,
+    let e : l.loop-i-2.i ≡ b.args.board.inputs = omega (arith, l.loop-i-2.invariant.upto, c.loop-i-2-test.false) in (
+      subst (λ (k : ℕ). RowsDone b.args.board b.args.table.now k d l.loop-i-2.destination) e (l.loop-i-2.invariant.made d (a.loop-i.invariant.made d (rows_none b.args.board.outputs (entry b.args.board b.args.table.now) d))),
+      l.loop-i-2.invariant.past ∙ a.loop-i.invariant.past,
     )
 
-pub fill-matrix-spec : {M : Type 1} → statement M
-fill-matrix-spec =
+pub fill_matrix_spec : {M : Type 1} → statement M
+fill_matrix_spec =
     tie.close
     (tie.spec
     invariant-loop
@@ -221,28 +221,28 @@ fill-matrix-spec =
     invariant-loop2
     decreases-loop2
     (λ c κs. tt)
-    slice-aggregate-chains
+    slice_bounds-chains-end
     chains-requires
-    loop-holds
-    add-loop
-    slice-aggregate-fill-four
-    fill-four-requires
-    add-i
-    loop-less
-    loop-again
-    loop2-holds
-    slice-aggregate-delays-from
-    delays-from-requires
-    mul_at
-    add-end
-    mul-copy-out
+    loop-i-init
+    overflow_add-i
+    slice_bounds-fill_four-end
+    fill_four-requires
+    overflow_add-i-in-loop-i
+    loop-i-smaller
+    loop-i-preserved
+    loop-i-2-init
+    slice_bounds-delays_from-end
+    delays_from-requires
+    overflow_mul-at
+    overflow_add-end
+    offset_bounds-destination-at
     (λ c. omega arith)
     (λ c. omega arith)
-    part-copy-out-end
-    copy-out-requires
-    add-i-2
-    loop2-less
-    loop2-again
-    same_length
-    same-length-2
+    slice_bounds-copy_out-end
+    copy_out-requires
+    overflow_add-i-in-loop-i-2
+    loop-i-2-smaller
+    loop-i-2-preserved
+    shape_of-scratch
+    shape_of-destination
     returns)

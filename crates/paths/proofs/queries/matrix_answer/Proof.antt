@@ -15,23 +15,29 @@ small b s =
     let i : b.inputs ≤ 90 = omega (arith, s.roles, s.few) in
     mul-le-mul o i
 
-mul-if1 : tie.Need-overflow-mul-if1
-mul-if1 c = omega (arith, small c.before.args.board c.before.requires.0.checked.lent.sized)
+overflow_mul-board : tie.Need-overflow_mul-board
+overflow_mul-board c = omega (arith, small c.args.board c.requires.0.checked.lent.sized)
 
-fill-matrix-requires : tie.Need-fill-matrix-requires
-fill-matrix-requires c κs =
-    let s = c.before.before.before.before in
-    (s.requires.0, (s.requires.1, c.before.before.if1.true))
+fill_matrix-requires : tie.Need-fill_matrix-requires
+fill_matrix-requires c κs =
+    let s = c in
+    (s.requires.0, (s.requires.1, c.if-destination-board.true))
+
+returns-then-destination-board : tie.Need-returns-then-destination-board
+returns-then-destination-board c =
+    let f = c in
+    let e = f in
+    (matrix_done _ _ _ _ _ e.if-destination-board.true _ f.fill_matrix.ensures.0, f.fill_matrix.ensures.1)
 
 returns : tie.Need-returns
-returns c =
-    let f = c.before.before in
-    let e = f.before.before.before in
-    (matrix_done _ _ _ _ _ e.if1.true _ f.fill-matrix.ensures.0, f.fill-matrix.ensures.1)
+returns c = (matrix_short _ _ _ _ _ c.if-destination-board.false, refl)
 
-returns-2 : tie.Need-returns-2
-returns-2 c = (matrix_short _ _ _ _ _ c.if1.false, refl)
-
-pub matrix-answer-spec : {M : Type 1} → statement M
-matrix-answer-spec =
-    tie.close (tie.spec mul-if1 fill-matrix-requires (λ c. search rules) (λ c. search rules) returns returns-2)
+pub matrix_answer_spec : {M : Type 1} → statement M
+matrix_answer_spec =
+    tie.close (tie.spec
+    overflow_mul-board
+    fill_matrix-requires
+    (λ c. search rules)
+    (λ c. search rules)
+    returns-then-destination-board
+    returns)

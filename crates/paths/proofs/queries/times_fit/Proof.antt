@@ -17,66 +17,66 @@ use Rattle.timing.specs.Limits.{arrival_limit, absent_wide, fits}
 use Rattle.timing.specs.Table.{read_cell}
 use Rattle.timing.specs.Delays.{arrival_in, arrivals_fit}
 
-abbrev invariant-loop : tie.invariant-loop
+abbrev invariant-loop : tie.invariant-loop-i
 invariant-loop given count i₀ i = (i ≤ count) × (every i (λ k. fits arrival_limit (arrival_in given k)) ≡ true)
 
-abbrev decreases-loop : tie.decreases-loop
+abbrev decreases-loop : tie.decreases-loop-i
 decreases-loop given count i₀ i = count - i
 
-returns : tie.Need-returns invariant-loop decreases-loop
+returns-then-given-count : tie.Need-returns-then-given-count invariant-loop decreases-loop
 unfolding arrivals_fit
-returns c = simp (eqb_other _ _ c.if1.true)
+returns-then-given-count c = simp (eqb_other _ _ c.if-given-count.true)
 
-loop-holds : tie.Need-loop-init invariant-loop decreases-loop
-loop-holds c = (omega arith, every_none _)
+loop-i-init : tie.Need-loop-i-init invariant-loop decreases-loop
+loop-i-init c = (omega arith, every_none _)
 
-module _ (c : tie.After-arrival-fits invariant-loop decreases-loop) where
-  abbrev inside : tie.In-loop invariant-loop decreases-loop
+module _ (c : tie.After-arrival_fits invariant-loop decreases-loop) where
+  abbrev inside : tie.In-loop-i invariant-loop decreases-loop
   inside = c.before.before
 
   abbrev start : tie.Start invariant-loop decreases-loop
   start = inside.before.before.before
 
-  said : fits arrival_limit (arrival_in start.args.given.now inside.before.loop.i) ≡ c.arrival-fits.result
-  said = sym (c.arrival-fits.ensures ∙ ap (λ (z : ℤ). fits arrival_limit (read_cell absent_wide z)) (back w64 _ c.before.arrival-fits-arg.given))
+  said : fits arrival_limit (arrival_in start.args.given.now inside.loop-i.i) ≡ c.arrival_fits.result
+  said = sym (c.arrival_fits.ensures ∙ ap (λ (z : ℤ). fits arrival_limit (read_cell absent_wide z)) (back w64 _ c.arrival_fits-arg-1.given))
 
   long : eqb (length start.args.given.now) start.args.count ≡ true
-  long = T_true {b = eqb (length start.args.given.now) start.args.count} (eq→eqb _ _ inside.before.before.if1.left)
+  long = T_true {b = eqb (length start.args.given.now) start.args.count} (eq→eqb _ _ inside.if-given-count.false)
 
-returns-2 : tie.Need-returns-2 invariant-loop decreases-loop
+returns-then-not-arrival_fits : tie.Need-returns-then-not-arrival_fits invariant-loop decreases-loop
 unfolding arrivals_fit
-returns-2 c =
-    let a = c.before in
-    let broken : every (start a).args.count (λ k. fits arrival_limit (arrival_in (start a).args.given.now k)) ≡ false =
-    every_broken _ _ (inside a).before.loop.i (inside a).loop-test.true (said a ∙ not-true _ c.if2.true) in
-    simp (long a, broken)
+returns-then-not-arrival_fits c =
+    let a = c in
+    let broken : every (start a.before).args.count (λ k. fits arrival_limit (arrival_in (start a.before).args.given.now k)) ≡ false =
+    every_broken _ _ (inside a.before).loop-i.i (inside a.before).loop-i-test.true (said a.before ∙ not-true _ c.if-not-arrival_fits.true-raw) in
+    simp (long a.before, broken)
 
-loop-again : tie.Need-loop-preserved invariant-loop decreases-loop
-loop-again c = let a = c.before in (omega (arith, (inside a).loop-test.true), every_more _ _ (inside a).before.loop.invariant.1 (said a ∙ not-false _ c.if2.false))
+loop-i-preserved : tie.Need-loop-i-preserved invariant-loop decreases-loop
+loop-i-preserved c = let a = c in (omega (arith, (inside a.before).loop-i-test.true), every_more _ _ (inside a.before).loop-i.invariant.1 (said a.before ∙ not-false _ c.if-not-arrival_fits.false-raw))
 
-returns-3 : tie.Need-returns-3 invariant-loop decreases-loop
+returns : tie.Need-returns invariant-loop decreases-loop
 unfolding arrivals_fit
-returns-3 c =
-    let l = c.before in
-    let s = l.before.before in
-    let e : l.loop.i ≡ s.args.count = omega (arith, l.loop.invariant.0, c.loop-test.false) in
-    let all : every s.args.count (λ k. fits arrival_limit (arrival_in s.args.given.now k)) ≡ true = rw e at l.loop.invariant.1 in
-    let long : eqb (length s.args.given.now) s.args.count ≡ true = T_true {b = eqb (length s.args.given.now) s.args.count} (eq→eqb _ _ l.before.if1.false) in
+returns c =
+    let l = c in
+    let s = l in
+    let e : l.loop-i.i ≡ s.args.count = omega (arith, l.loop-i.invariant.0, c.loop-i-test.false) in
+    let all : every s.args.count (λ k. fits arrival_limit (arrival_in s.args.given.now k)) ≡ true = rw e at l.loop-i.invariant.1 in
+    let long : eqb (length s.args.given.now) s.args.count ≡ true = T_true {b = eqb (length s.args.given.now) s.args.count} (eq→eqb _ _ l.if-given-count.false) in
     simp (long, all)
 
-pub times-fit-spec : {M : Type 1} → statement M
-times-fit-spec =
+pub times_fit_spec : {M : Type 1} → statement M
+times_fit_spec =
     tie.close
     (tie.spec
     invariant-loop
     decreases-loop
-    returns
-    loop-holds
+    returns-then-given-count
+    loop-i-init
     (λ c. omega arith)
     (λ c. omega arith)
     (λ c κs. tt)
-    returns-2
+    returns-then-not-arrival_fits
     (λ c. omega arith)
     (λ c. omega arith)
-    loop-again
-    returns-3)
+    loop-i-preserved
+    returns)

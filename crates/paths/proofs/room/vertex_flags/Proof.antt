@@ -6,5 +6,6 @@ use Rattle.paths.proofs.room.vertex_flags.Tie as tie
 returns : tie.Need-returns
 returns c = (length-replicate 90 false, λ v h. get_or-replicate 90 v false false h)
 
-pub vertex-flags-spec : {M : Type 1} → statement M
-vertex-flags-spec = tie.close (tie.spec returns)
+pub vertex_flags_spec : {M : Type 1} → statement M
+vertex_flags_spec = tie.close (tie.spec
+    returns)
