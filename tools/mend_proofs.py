@@ -121,9 +121,9 @@ def opening(text, i):
 
 
 PLAIN = {"args", "ranges", "fits", "good", "well-formed", "type-inv", "well_formed", "lifetimes", "type_inv"}
-FIELDS = {"pre": "requires", "inv": "invariant", "taken": "true", "left": "false", "last": "new", "kept": "auto", "post": "ensures", "came": "branch-raw", "branch": "branch-raw", "type-inv": "type_inv", "well-formed": "well_formed"}
+FIELDS = {"pre": "requires", "inv": "invariant", "taken": "true", "left": "false", "last": "new", "kept": "auto", "post": "ensures", "came": "branch-raw", "branch": "branch-raw", "type-inv": "type_inv", "well-formed": "well_formed", "ok": "type_inv"}
 # what a step has: a name before one of these is a step's, whatever stands before it
-STEP = {"given", "ensures", "result", "invariant", "inv", "true", "false", "taken", "left", "auto", "new", "last", "kept", "type-inv", "type_inv", "lifetimes", "branch", "came", "is", "told"}
+STEP = {"given", "ensures", "result", "invariant", "inv", "true", "false", "taken", "left", "auto", "new", "last", "kept", "type-inv", "type_inv", "ok", "lifetimes", "branch", "came", "is", "told"}
 
 
 def path_number(rest, k):

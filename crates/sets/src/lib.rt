@@ -1,5 +1,6 @@
 // Sets of numbers below 128, a bit for each: two words.
 #![tactic(auto)]
+
 pub mod rows;
 
 ghost use Rattle.std.specs.Prelude.{◌≡◌, true, false, not, ◌&&◌, ◌||◌, ℕ, ◌<◌, T, eqb};

@@ -11,5 +11,7 @@ returns : tie.Need-returns
 unfolding odd
 returns c = ap (λ (x : ℕ). eqb x 1) (and_mask (c.args.x / 2 ^ c.args.i) 1)
 
-pub has-bit-spec : {M : Type 1} → statement M
-has-bit-spec = tie.close (tie.spec (λ c. search rules) returns)
+pub has_bit_spec : {M : Type 1} → statement M
+has_bit_spec = tie.close (tie.spec
+    (λ c. search rules)
+    returns)

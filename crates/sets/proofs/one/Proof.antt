@@ -13,4 +13,6 @@ returns : tie.Need-returns
 returns c j = ap (λ (x : ℕ). odd x j) (shl_exact {a = 1} 1 c.args.i 64 (lit< tt) (omega arith)) ∙ one_digit c.args.i j
 
 pub one_spec : {M : Type 1} → statement M
-one_spec = tie.close (tie.spec (λ c. search rules) returns)
+one_spec = tie.close (tie.spec
+    (λ c. search rules)
+    returns)

@@ -9,13 +9,18 @@ use Rattle.format.specs.declared.Entry.TheVariants as E
 use Rattle.records.proofs.library.count_at.Statement.{statement}
 use Rattle.records.proofs.library.count_at.Tie as tie
 
-returns : tie.Need-returns
-returns c = let a = c.before.before.args in simp (lt-leb (a.at + 4) (length a.bytes.now) (omega arith))
+returns-then-bytes-at-lt4 : tie.Need-returns-then-bytes-at-lt4
+returns-then-bytes-at-lt4 c = let a = c.args in simp (lt-leb (a.at + 4) (length a.bytes.now) (omega arith))
 
-returns-2 : tie.Need-returns-2
-returns-2 c =
-    let a = c.before.before.before.args in
+returns : tie.Need-returns
+returns c =
+    let a = c.args in
     simp (le-leb (a.at + 4) (length a.bytes.now) (omega arith)) (ap (λ (x : ℕ). accepted (E.End x)) c.number.ensures)
 
-pub count-at-spec : {M : Type 1} → statement M
-count-at-spec = tie.close (tie.spec (λ c. search rules) returns (λ c. search rules) (λ c κs. search rules) returns-2)
+pub count_at_spec : {M : Type 1} → statement M
+count_at_spec = tie.close (tie.spec
+    (λ c. search rules)
+    returns-then-bytes-at-lt4
+    (λ c. search rules)
+    (λ c κs. search rules)
+    returns)

@@ -10,46 +10,46 @@ use Rattle.format.specs.LibraryFile.{entry_body, entry_at}
 use Rattle.records.proofs.library.entry_at.Statement.{statement}
 use Rattle.records.proofs.library.entry_at.Tie as tie
 
-returns : tie.Need-returns
+returns-then-bytes-at-lt2 : tie.Need-returns-then-bytes-at-lt2
 unfolding entry_at
-returns c = let a = c.before.before.args in simp (lt-leb (a.at + 2) (length a.bytes.now) (omega arith))
+returns-then-bytes-at-lt2 c = let a = c.args in simp (lt-leb (a.at + 2) (length a.bytes.now) (omega arith))
 
 -- the mark is all there, and known
-module _ (m : tie.After-mark-at) where
+module _ (m : tie.After-mark_at-mark) where
   abbrev s : List ℕ
-  s = m.before.before.before.args.bytes.now
+  s = m.args.bytes.now
 
   abbrev p : ℕ
-  p = m.before.before.before.args.at
+  p = m.args.at
 
-  marked : (k : Mark) → m.mark-at.result ≡ k → entry_body s p k ≡ entry_at s p
+  marked : (k : Mark) → m.mark_at-mark.result ≡ k → entry_body s p k ≡ entry_at s p
   unfolding entry_at
-  marked k e = simp (le-leb (p + 2) (length s) (omega arith)) (ap (entry_body s p) (sym e ∙ m.mark-at.ensures))
+  marked k e = simp (le-leb (p + 2) (length s) (omega arith)) (ap (entry_body s p) (sym e ∙ m.mark_at-mark.ensures))
 
-returns-2 : tie.Need-returns-2
-returns-2 c = marked c.before.before _ c.enum_told.given.1
+returns-in-Board : tie.Need-returns-in-Board
+returns-in-Board c = marked c.before _ c.in-Board.is
 
-returns-3 : tie.Need-returns-3
-returns-3 c = marked c.before.before _ c.enum-told2.given.1
+returns-in-Arc : tie.Need-returns-in-Arc
+returns-in-Arc c = marked c.before _ c.in-Arc.is
 
-returns-4 : tie.Need-returns-4
-returns-4 c = marked c.before.before _ c.enum-told3.given.1
+returns-in-Cell : tie.Need-returns-in-Cell
+returns-in-Cell c = marked c.before _ c.in-Cell.is
 
-returns-5 : tie.Need-returns-5
-returns-5 c = let o = c.before in c.count_at.ensures ∙ marked o.before.before _ o.enum-told4.given.1
+returns-in-End : tie.Need-returns-in-End
+returns-in-End c = let o = c in c.count_at.ensures ∙ marked o.before.before _ o.in-End.is
 
-returns-6 : tie.Need-returns-6
-returns-6 c = let o = c.before in c.ticks-at.ensures ∙ marked o.before.before _ o.enum-told5.given.1
+returns-in-Library : tie.Need-returns-in-Library
+returns-in-Library c = let o = c in c.ticks_at.ensures ∙ marked o.before.before _ o.in-Library.is
 
-returns-7 : tie.Need-returns-7
-returns-7 c = marked c.before.before _ c.enum-told6.given.1
+returns-in-Other : tie.Need-returns-in-Other
+returns-in-Other c = marked c.before _ c.in-Other.is
 
-pub entry-at-spec : {M : Type 1} → statement M
-entry-at-spec =
+pub entry_at_spec : {M : Type 1} → statement M
+entry_at_spec =
     tie.close
     (tie.spec
     (λ c. search rules)
-    returns
+    returns-then-bytes-at-lt2
     (λ c κs. search rules)
     (λ c. search rules)
     (λ c. search rules)
@@ -59,9 +59,9 @@ entry-at-spec =
     (λ c. search rules)
     (λ c κs. search rules)
     (λ c. search rules)
-    returns-2
-    returns-3
-    returns-4
-    returns-5
-    returns-6
-    returns-7)
+    returns-in-Board
+    returns-in-Arc
+    returns-in-Cell
+    returns-in-End
+    returns-in-Library
+    returns-in-Other)

@@ -22,11 +22,11 @@ use Rattle.format.proofs.InRange.{below-fits}
 use Rattle.records.proofs.library.ticks_at.Statement.{statement}
 use Rattle.records.proofs.library.ticks_at.Tie as tie
 
-returns : tie.Need-returns
-returns c = let a = c.before.before.args in simp (lt-leb (a.at + 7) (length a.bytes.now) (omega arith))
+returns-then-bytes-at-lt7 : tie.Need-returns-then-bytes-at-lt7
+returns-then-bytes-at-lt7 c = let a = c.args in simp (lt-leb (a.at + 7) (length a.bytes.now) (omega arith))
 
 -- the record is all there, and its code is read
-module _ (b : tie.After-byte) where
+module _ (b : tie.After-byte-code) where
   abbrev start : tie.Start
   start = b.before.before.before
 
@@ -37,54 +37,54 @@ module _ (b : tie.After-byte) where
   p = start.args.at
 
   whole : leb (p + 7) (length s) ≡ true
-  whole = le-leb (p + 7) (length s) (omega (arith, b.before.if1.left))
+  whole = le-leb (p + 7) (length s) (omega (arith, b.if-bytes-at-lt7.false))
 
-  code_is : code s p ≡ b.byte.result
-  code_is = sym b.byte.ensures.0
+  code_is : code s p ≡ b.byte-code.result
+  code_is = sym b.byte-code.ensures.0
 
-returns-2 : tie.Need-returns-2
-returns-2 c = let b = c.before in simp (whole b, code_is b, le-ltb b.byte.result library_cells c.if2.true)
+returns-then-code-ge-CODES : tie.Need-returns-then-code-ge-CODES
+returns-then-code-ge-CODES c = let b = c in simp (whole b.before, code_is b.before, le-ltb b.byte-code.result library_cells c.if-code-ge-CODES.true)
 
 -- the code is below 32, and the ticks are asked
-module _ (f : tie.After-ticks-fit) where
-  abbrev e : tie.Else2
+module _ (f : tie.After-ticks_fit) where
+  abbrev e : tie.Else-code-ge-CODES
   e = f.before.before
 
   abbrev d : ℤ
   d = ticks (s e.before) (p e.before)
 
-  handed-on : to_z w64 (of_z w64 f.before.decode.result) ≡ d
-  handed-on = back w64 _ f.before.decode.ok ∙ f.before.decode.ensures
+  handed_on : to_z w64 (of_z w64 f.decode-ticks.result) ≡ d
+  handed_on = back w64 _ f.decode-ticks.type_inv ∙ f.decode-ticks.ensures
 
-  entry : (b : Bool) → f.ticks-fit.result ≡ b → entry_body (s e.before) (p e.before) M.Library ≡ require b WrongLibrary (accepted (E.Ticks e.before.byte.result d))
+  entry : (b : Bool) → f.ticks_fit.result ≡ b → entry_body (s e.before) (p e.before) M.Library ≡ require b WrongLibrary (accepted (E.Ticks e.byte-code.result d))
   entry b q =
-      let fit : ticks_fit d ≡ b = sym (ap ticks_fit handed-on) ∙ sym f.ticks-fit.ensures ∙ q in
-      simp (whole e.before, code_is e.before, lt-ltb e.before.byte.result library_cells e.if2.left, fit)
+      let fit : ticks_fit d ≡ b = sym (ap ticks_fit handed_on) ∙ sym f.ticks_fit.ensures ∙ q in
+      simp (whole e.before, code_is e.before, lt-ltb e.byte-code.result library_cells e.if-code-ge-CODES.false, fit)
 
-returns-3 : tie.Need-returns-3
-returns-3 c = sym (entry c.before false (not-true _ c.if3.true))
+returns-then-not-ticks_fit : tie.Need-returns-then-not-ticks_fit
+returns-then-not-ticks_fit c = sym (entry c.before false (not-true _ c.if-not-ticks_fit.true-raw))
 
 narrow-requires : tie.Need-narrow-requires
-narrow-requires c κs = below-fits ticks_limit (to_z w64 (of_z w64 c.before.before.decode.result)) (omega arith) (true_is (sym c.before.ticks-fit.ensures ∙ not-false _ c.if3.false))
+narrow-requires c κs = below-fits ticks_limit (to_z w64 (of_z w64 c.decode-ticks.result)) (omega arith) (true_is (sym c.ticks_fit.ensures ∙ not-false _ c.if-not-ticks_fit.false-raw))
 
-returns-4 : tie.Need-returns-4
-returns-4 c =
-    let f = c.before.before in
-    (λ i. accepted (E.Ticks (e f).before.byte.result ((back w32 _ c.narrow.type-inv ∙ c.narrow.ensures ∙ handed-on f) i)))
-    ∙ sym (entry f true (not-false _ c.before.if3.false))
+returns : tie.Need-returns
+returns c =
+    let f = c in
+    (λ i. accepted (E.Ticks (e f.before.before).byte-code.result ((back w32 _ c.narrow.type_inv ∙ c.narrow.ensures ∙ handed_on f.before.before) i)))
+    ∙ sym (entry f.before.before true (not-false _ c.if-not-ticks_fit.false-raw))
 
-pub ticks-at-spec : {M : Type 1} → statement M
-ticks-at-spec =
+pub ticks_at_spec : {M : Type 1} → statement M
+ticks_at_spec =
     tie.close
     (tie.spec
     (λ c. search rules)
-    returns
+    returns-then-bytes-at-lt7
     (λ c. search rules)
     (λ c κs. search rules)
-    returns-2
+    returns-then-code-ge-CODES
     (λ c. search rules)
     (λ c κs. search rules)
     (λ c κs. search rules)
-    returns-3
+    returns-then-not-ticks_fit
     narrow-requires
-    returns-4)
+    returns)

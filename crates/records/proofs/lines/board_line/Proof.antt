@@ -14,23 +14,22 @@ use Rattle.records.proofs.lines.board_line.Tie as tie
 held : (s : tie.Start) → to_z w32 s.args.vertices ≡ pos s.args.vertices
 held s = to_z_pos w32 (omega (arith, s.requires.1.1.0))
 
-triple-line-requires : tie.Need-triple-line-requires
-triple-line-requires c κs =
-    let s = c.before.before.before in
-    simp (held s) (omega (arith, s.requires.0), (omega (arith, s.requires.1.0), (le→leb s.args.vertices delay_limit (omega (arith, s.requires.1.1.0)), s.requires.1.1.1)))
+triple_line-requires : tie.Need-triple_line-requires
+triple_line-requires c κs =
+    let s = c in
+    simp (held s.before.before.before.before) (omega (arith, s.requires.0), (omega (arith, s.requires.1.0), (le→leb s.args.vertices delay_limit (omega (arith, s.requires.1.1.0)), s.requires.1.1.1)))
 
 returns : tie.Need-returns
 returns c =
-    let l = c.before.before in
-    let s = l.before.before.before.before in
-    rw (held s) at l.triple-line.ensures
+    let l = c in
+    let s = l in
+    rw (held s.before.before.before.before.before.before.before) at l.triple_line.ensures
 
-pub board-line-spec : {M : Type 1} → statement M
-board-line-spec =
+pub board_line_spec : {M : Type 1} → statement M
+board_line_spec =
     tie.close
     (tie.spec
     (λ c. search rules)
-    (λ c. search rules)
-    triple-line-requires
+    triple_line-requires
     (λ c. search rules)
     returns)

@@ -6,14 +6,17 @@ use Rattle.records.proofs.lines.negated.Tie as tie
 less : (c : tie.Start) → Below c.args.d
 less c = below c.args.d c.ranges.d c.requires.0 c.requires.1
 
-cast-result : tie.Need-overflow-cast-result
-cast-result c = let b = less c in simp b.flipped (tt, record { fits = omega (arith, b.small) })
+overflow_cast-result : tie.Need-overflow_cast-result
+overflow_cast-result c = let b = less c in simp b.flipped (tt, record { fits = omega (arith, b.small) })
 
-add-result : tie.Need-overflow-add-result
-add-result c = let b = less c in simp b.flipped (omega (arith, b.small))
+overflow_add-result : tie.Need-overflow_add-result
+overflow_add-result c = let b = less c in simp b.flipped (omega (arith, b.small))
 
 returns : tie.Need-returns
 returns c = let b = less c in simp b.flipped (b.value, omega arith, omega (arith, b.small))
 
-pub negated-spec : {M : Type 1} → statement M
-negated-spec = tie.close (tie.spec cast-result add-result returns)
+pub negated_spec : {M : Type 1} → statement M
+negated_spec = tie.close (tie.spec
+    overflow_cast-result
+    overflow_add-result
+    returns)

@@ -24,72 +24,72 @@ module _ (s : tie.Start) where
   abbrev Left : List (List ℕ) → List ℕ → ℕ → Type 0
   Left ws out p = WordsLeft (line first (x ∷ second ∷ y ∷ [])) s.args.out.now s.args.at ws out p
 
-module _ (c : tie.After-put-text) where
+module _ (c : tie.After-put_text-a) where
   abbrev s : tie.Start
   s = c.before.before.before.before.before
 
-  left-x : Left s (x s ∷ second s ∷ y s ∷ []) c.put-text.new.0 c.put-text.result
-  left-x = first_word c.put-text.ensures
+  left_x : Left s (x s ∷ second s ∷ y s ∷ []) c.put_text-a.new.out c.put_text-a.result
+  left_x = first_word c.put_text-a.ensures
 
-module _ (c : tie.After-put-number) where
-  abbrev a : tie.After-put-text
+module _ (c : tie.After-put_number-b) where
+  abbrev a : tie.After-put_text-a
   a = c.before.before.before.before
 
-  left-second : Left (s a) (second (s a) ∷ y (s a) ∷ []) c.put-number.new.0 c.put-number.result
-  left-second = next_word (left-x a) c.put-number.ensures
+  left_second : Left (s a) (second (s a) ∷ y (s a) ∷ []) c.put_number-b.new.out c.put_number-b.result
+  left_second = next_word (left_x a) c.put_number-b.ensures
 
-module _ (c : tie.After-put-text2) where
-  abbrev space : tie.After-put-byte
+module _ (c : tie.After-put_text-d) where
+  abbrev space : tie.After-put_byte-c
   space = c.before.before.before.before
 
-  abbrev b : tie.After-put-number
+  abbrev b : tie.After-put_number-b
   b = space.before.before.before.before
 
-  left-y : Left (s (a b)) (y (s (a b)) ∷ []) c.put-text2.new.0 c.put-text2.result
-  left-y = next_word (left-second b) (appends_more space.put_byte.ensures c.put-text2.ensures)
+  left_y : Left (s (a b)) (y (s (a b)) ∷ []) c.put_text-d.new.out c.put_text-d.result
+  left_y = next_word (left_second b) (appends_more space.put_byte-c.ensures c.put_text-d.ensures)
 
-module _ (c : tie.After-put-number2) where
-  abbrev d : tie.After-put-text2
+module _ (c : tie.After-put_number-e) where
+  abbrev d : tie.After-put_text-d
   d = c.before.before.before.before
 
-  left-none : Left (s (a (b d))) [] c.put-number2.new.0 c.put-number2.result
-  left-none = next_word (left-y d) c.put-number2.ensures
+  left_none : Left (s (a (b d))) [] c.put_number-e.new.out c.put_number-e.result
+  left_none = next_word (left_y d) c.put_number-e.ensures
 
-put-text-requires : tie.Need-put-text-requires
-put-text-requires c κs =
-    let s = c.before.before.before.before in
-    first_fits (first s) (x s ∷ second s ∷ y s ∷ []) s.args.out.now s.args.at s.requires.1.1
+put_text-a-requires : tie.Need-put_text-a-requires
+put_text-a-requires c κs =
+    let s = c in
+    first_fits (first s.before.before.before.before) (x s.before.before.before.before ∷ second s.before.before.before.before ∷ y s.before.before.before.before ∷ []) s.args.out.now s.args.at s.requires.1.1
 
-put-number-requires : tie.Need-put-number-requires
-put-number-requires c κs = let t = c.before.before.before in ((s t).requires.0, word_fits (left-x t) (s t).requires.1.1)
+put_number-b-requires : tie.Need-put_number-b-requires
+put_number-b-requires c κs = let t = c in ((s t.before.before.before).requires.0, word_fits (left_x t.before.before.before) (s t.before.before.before).requires.1.1)
 
-put-byte-requires : tie.Need-put-byte-requires
-put-byte-requires c κs = let t = c.before.before.before in omega (arith, word_fits (left-second t) (s (a t)).pre.1.1)
+put_byte-c-requires : tie.Need-put_byte-c-requires
+put_byte-c-requires c κs = let t = c in omega (arith, word_fits (left_second t.before.before.before) (s (a t.before.before.before)).requires.1.1)
 
-put-text-requires-2 : tie.Need-put-text-requires-2
-put-text-requires-2 c κs =
-    let space = c.before.before.before in
-    let t = space.before.before.before.before in
-    omega (arith, word_fits (left-second t) (s (a t)).pre.1.1, space.put_byte.ensures.end, space.put_byte.auto.0)
+put_text-d-requires : tie.Need-put_text-d-requires
+put_text-d-requires c κs =
+    let space = c in
+    let t = space in
+    omega (arith, word_fits (left_second t.before.before.before.before.before.before.before) (s (a t.before.before.before.before.before.before.before)).requires.1.1, space.put_byte-c.ensures.end, space.put_byte-c.auto.out)
 
-put-number-requires-2 : tie.Need-put-number-requires-2
-put-number-requires-2 c κs = let t = c.before.before.before in ((s (a (b t))).pre.1.0, word_fits (left-y t) (s (a (b t))).pre.1.1)
+put_number-e-requires : tie.Need-put_number-e-requires
+put_number-e-requires c κs = let t = c in ((s (a (b t.before.before.before))).requires.1.0, word_fits (left_y t.before.before.before) (s (a (b t.before.before.before))).requires.1.1)
 
-put-byte-requires-2 : tie.Need-put-byte-requires-2
-put-byte-requires-2 c κs = let t = c.before.before.before in omega (arith, end_fits (left-none t) (s (a (b (d t)))).pre.1.1)
+put_byte-requires : tie.Need-put_byte-requires
+put_byte-requires c κs = let t = c in omega (arith, end_fits (left_none t.before.before.before) (s (a (b (d t.before.before.before)))).requires.1.1)
 
 returns : tie.Need-returns
-returns c = let end = c.before.before in line_end (left-none end.before.before.before.before) end.put-byte2.ensures
+returns c = let end = c in line_end (left_none end.before.before.before.before.before.before) end.put_byte.ensures
 
-pub pair-line-spec : {M : Type 1} → statement M
-pair-line-spec =
+pub pair_line_spec : {M : Type 1} → statement M
+pair_line_spec =
     tie.close
     (tie.spec
-    put-text-requires
-    put-number-requires
-    put-byte-requires
-    put-text-requires-2
-    put-number-requires-2
-    put-byte-requires-2
+    put_text-a-requires
+    put_number-b-requires
+    put_byte-c-requires
+    put_text-d-requires
+    put_number-e-requires
+    put_byte-requires
     (λ c. search rules)
     returns)

@@ -23,20 +23,20 @@ module _ (c : tie.Start) where
   held : to_z w32 (of_z w32 d) ≡ d
   held = to_z-of_z {w = w32} c.ranges.d
 
-signed : (c : tie.Then1) → Below (d c.before.before)
-signed c = let s = c.before.before in below (d s) s.ranges.d s.requires.0 (less_yes (d s) (pos 0) (rw (held s) at c.if1.true))
+signed : (c : tie.Then-d-lt0) → Below (d c.before.before)
+signed c = let s = c in below (d s.before.before) s.ranges.d s.requires.0 (less_yes (d s.before.before) (pos 0) (rw (held s.before.before) at c.if-d-lt0.true))
 
-unsigned : (c : tie.Else1) → Above (d c.before.before)
-unsigned c = let s = c.before.before in above (d s) s.ranges.d s.requires.0 (rw (held s) at c.if1.false)
+unsigned : (c : tie.Else-d-lt0) → Above (d c.before.before)
+unsigned c = let s = c in above (d s.before.before) s.ranges.d s.requires.0 (rw (held s.before.before) at c.if-d-lt0.false)
 
-put-byte-requires : tie.Need-put-byte-requires
-put-byte-requires c κs =
-    let s = c.before.before.before in
+put_byte-next-requires : tie.Need-put_byte-next-requires
+put_byte-next-requires c κs =
+    let s = c in
     let b = signed c.before in
-    omega (arith, s.requires.1, ap length (minus (d s) (b.k + 1) b.value (omega arith)))
+    omega (arith, s.requires.1, ap length (minus (d s.before.before.before) (b.k + 1) b.value (omega arith)))
 
 module _ (c : tie.After-negated) where
-  abbrev sign : tie.After-put-byte
+  abbrev sign : tie.After-put_byte-next
   sign = c.before.before.before.before
 
   abbrev start : tie.Start
@@ -45,40 +45,40 @@ module _ (c : tie.After-negated) where
   printed : signed_decimal (d start) ≡ 45 ∷ decimal c.negated.result
   printed = ap signed_decimal (sym (held start)) ∙ minus (to_z w32 (of_z w32 (d start))) c.negated.result c.negated.ensures.0 c.negated.ensures.1
 
-put-decimal-requires : tie.Need-put-decimal-requires
-put-decimal-requires c κs = (c.negated.ensures.2, omega (arith, (start c).requires.1, ap length (printed c), (sign c).put_byte.ensures.end, (sign c).put_byte.auto.0))
+put_decimal-requires : tie.Need-put_decimal-requires
+put_decimal-requires c κs = (c.negated.ensures.2, omega (arith, (start c).requires.1, ap length (printed c), (sign c).put_byte-next.ensures.end, (sign c).put_byte-next.auto.out))
+
+returns-then-d-lt0 : tie.Need-returns-then-d-lt0
+returns-then-d-lt0 c =
+    let digits = c in
+    let n = digits in
+    appends_same (sym (printed n.before.before.before)) (appends_more (sign n.before.before.before).put_byte-next.ensures digits.put_decimal.ensures)
+
+overflow_cast-d : tie.Need-overflow_cast-d
+overflow_cast-d c = let u = unsigned c.before in simp (held c.before.before.before) (u.sign, u.fits)
+
+put_decimal-requires-2 : tie.Need-put_decimal-requires-2
+put_decimal-requires-2 c κs =
+    let s = c in
+    let u = unsigned c.before in
+    simp (held s.before.before.before) (u.small, omega (arith, s.requires.1, ap length u.plain))
 
 returns : tie.Need-returns
 returns c =
-    let digits = c.before.before in
-    let n = digits.before in
-    appends_same (sym (printed n)) (appends_more (sign n).put_byte.ensures digits.put-decimal.ensures)
+    let digits = c in
+    let e = digits in
+    appends_same (ap (λ (z : ℤ). decimal (nat_abs z)) (held e.before.before.before.before.before.before) ∙ sym (unsigned e.before.before.before.before).plain) digits.put_decimal-2.ensures
 
-cast-put-decimal : tie.Need-overflow-cast-put-decimal
-cast-put-decimal c = let u = unsigned c.before in simp (held c.before.before.before) (u.sign, u.fits)
-
-put-decimal-requires-2 : tie.Need-put-decimal-requires-2
-put-decimal-requires-2 c κs =
-    let s = c.before.before.before in
-    let u = unsigned c.before in
-    simp (held s) (u.small, omega (arith, s.requires.1, ap length u.plain))
-
-returns-2 : tie.Need-returns-2
-returns-2 c =
-    let digits = c.before.before in
-    let e = digits.before.before in
-    appends_same (ap (λ (z : ℤ). decimal (nat_abs z)) (held e.before.before) ∙ sym (unsigned e).plain) digits.put-decimal2.ensures
-
-pub put-delay-spec : {M : Type 1} → statement M
-put-delay-spec =
+pub put_delay_spec : {M : Type 1} → statement M
+put_delay_spec =
     tie.close
     (tie.spec
-    put-byte-requires
+    put_byte-next-requires
     (λ c κs. search rules)
-    put-decimal-requires
+    put_decimal-requires
     (λ c. search rules)
-    returns
-    cast-put-decimal
-    put-decimal-requires-2
+    returns-then-d-lt0
+    overflow_cast-d
+    put_decimal-requires-2
     (λ c. search rules)
-    returns-2)
+    returns)

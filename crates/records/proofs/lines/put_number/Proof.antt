@@ -4,7 +4,11 @@ use Rattle.records.proofs.lines.put_number.Statement.{statement}
 use Rattle.records.proofs.lines.put_number.Tie as tie
 
 returns : tie.Need-returns
-returns c = let d = c.before.before in appends_more d.before.before.before.before.put_byte.ensures d.put-decimal.ensures
+returns c = let d = c in appends_more d.put_byte-next.ensures d.put_decimal.ensures
 
-pub put-number-spec : {M : Type 1} → statement M
-put-number-spec = tie.close (tie.spec (λ c κs. search rules) (λ c κs. search rules) (λ c. search rules) returns)
+pub put_number_spec : {M : Type 1} → statement M
+put_number_spec = tie.close (tie.spec
+    (λ c κs. search rules)
+    (λ c κs. search rules)
+    (λ c. search rules)
+    returns)

@@ -8,18 +8,18 @@ use Rattle.records.proofs.Remaining.{Remains, remains_all, remains_length, remai
 use Rattle.records.proofs.lines.put_text.Statement.{statement}
 use Rattle.records.proofs.lines.put_text.Tie as tie
 
-abbrev invariant-loop : tie.invariant-loop
+abbrev invariant-loop : tie.invariant-loop-i
 invariant-loop out₀ at text next₀ i₀ out next i = (i ≤ length text) × Remains text out₀ at (drop i text) out next
 
-abbrev decreases-loop : tie.decreases-loop
+abbrev decreases-loop : tie.decreases-loop-i
 decreases-loop out₀ at text next₀ i₀ out next i = length text - i
 
-loop-holds : tie.Need-loop-init invariant-loop decreases-loop
-loop-holds c = (omega arith, remains_all refl)
+loop-i-init : tie.Need-loop-i-init invariant-loop decreases-loop
+loop-i-init c = (omega arith, remains_all refl)
 
 -- in a turn
-module _ (c : tie.In-loop invariant-loop decreases-loop) where
-  abbrev head : tie.At-loop invariant-loop decreases-loop
+module _ (c : tie.In-loop-i invariant-loop decreases-loop) where
+  abbrev head : tie.At-loop-i invariant-loop decreases-loop
   head = c.before
 
   abbrev s : tie.Start invariant-loop decreases-loop
@@ -29,45 +29,45 @@ module _ (c : tie.In-loop invariant-loop decreases-loop) where
   text = s.args.text.now
 
   abbrev i : ℕ
-  i = head.loop.i
+  i = head.loop-i.i
 
-  next-left : drop i text ≡ (get_or text i 0 ∷ []) ++ drop (i + 1) text
-  next-left = let e : suc i ≡ i + 1 = omega arith in drop-cons text i 0 c.loop-test.true ∙ ap (λ (j : ℕ). get_or text i 0 ∷ drop j text) e
+  next_left : drop i text ≡ (get_or text i 0 ∷ []) ++ drop (i + 1) text
+  next_left = let e : suc i ≡ i + 1 = omega arith in drop-cons text i 0 c.loop-i-test.true ∙ ap (λ (j : ℕ). get_or text i 0 ∷ drop j text) e
 
-shared-slice-read-put-byte : tie.Need-shared-slice-read-put-byte invariant-loop decreases-loop
-shared-slice-read-put-byte c = c.before.before.loop-test.true
+bounds-text-i : tie.Need-bounds-text-i invariant-loop decreases-loop
+bounds-text-i c = c.loop-i-test.true
 
-put-byte-requires : tie.Need-put-byte-requires invariant-loop decreases-loop
-put-byte-requires c κs =
-    let t = c.before.before in
-    let room = remains_fits (head t).loop.invariant.1 (s t).requires (get_or (text t) (i t) 0 ∷ []) (drop (i t + 1) (text t)) (next-left t) in
+put_byte-next-requires : tie.Need-put_byte-next-requires invariant-loop decreases-loop
+put_byte-next-requires c κs =
+    let t = c in
+    let room = remains_fits (head t.before.before).loop-i.invariant.1 (s t.before.before).requires (get_or (text t.before.before) (i t.before.before) 0 ∷ []) (drop (i t.before.before + 1) (text t.before.before)) (next_left t.before.before) in
     omega (arith, room)
 
-loop-again : tie.Need-loop-preserved invariant-loop decreases-loop
-loop-again c =
-    let p = c.before.before in
-    let t = p.before.before.before in
-    (omega (arith, t.loop-test.true), remains_next (head t).loop.invariant.1 (next-left t) p.put_byte.ensures)
+loop-i-preserved : tie.Need-loop-i-preserved invariant-loop decreases-loop
+loop-i-preserved c =
+    let p = c in
+    let t = p in
+    (omega (arith, t.loop-i-test.true), remains_next (head t.before.before.before.before.before).loop-i.invariant.1 (next_left t.before.before.before.before.before) p.put_byte-next.ensures)
 
-same_length : tie.Need-same-length invariant-loop decreases-loop
-same_length c = remains_length c.before.loop.invariant.1
+shape_of-out : tie.Need-shape_of-out invariant-loop decreases-loop
+shape_of-out c = remains_length c.loop-i.invariant.1
 
 returns : tie.Need-returns invariant-loop decreases-loop
 returns c =
-    let l = c.before in
-    remains_none l.loop.invariant.1 (drop_of_length-le l.before.before.before.args.text.now {i = l.loop.i} (omega (arith, c.loop-test.false)))
+    let l = c in
+    remains_none l.loop-i.invariant.1 (drop_of_length-le l.args.text.now {i = l.loop-i.i} (omega (arith, c.loop-i-test.false)))
 
-pub put-text-spec : {M : Type 1} → statement M
-put-text-spec =
+pub put_text_spec : {M : Type 1} → statement M
+put_text_spec =
     tie.close
     (tie.spec
     invariant-loop
     decreases-loop
-    loop-holds
-    shared-slice-read-put-byte
-    put-byte-requires
+    loop-i-init
+    bounds-text-i
+    put_byte-next-requires
     (λ c. omega arith)
     (λ c. omega arith)
-    loop-again
-    same_length
+    loop-i-preserved
+    shape_of-out
     returns)

@@ -27,79 +27,79 @@ module _ (s : tie.Start) where
 
   -- as the code holds it
   held : to_z w32 (of_z w32 s.args.z) ≡ s.args.z
-  held = to_z-of_z {w = w32} s.fits.z
+  held = to_z-of_z {w = w32} s.ranges.z
 
   abbrev Left : List (List ℕ) → List ℕ → ℕ → Type 0
   Left ws out p = WordsLeft (line word (x ∷ y ∷ z ∷ [])) s.args.out.now s.args.at ws out p
 
-module _ (c : tie.After-put-text) where
+module _ (c : tie.After-put_text-a) where
   abbrev s : tie.Start
   s = c.before.before.before.before
 
-  left-x : Left s (x s ∷ y s ∷ z s ∷ []) c.put-text.new.0 c.put-text.result
-  left-x = first_word c.put-text.ensures
+  left_x : Left s (x s ∷ y s ∷ z s ∷ []) c.put_text-a.new.out c.put_text-a.result
+  left_x = first_word c.put_text-a.ensures
 
-module _ (c : tie.After-put-number) where
-  abbrev a : tie.After-put-text
+module _ (c : tie.After-put_number-b) where
+  abbrev a : tie.After-put_text-a
   a = c.before.before.before.before
 
-  left-y : Left (s a) (y (s a) ∷ z (s a) ∷ []) c.put-number.new.0 c.put-number.result
-  left-y = next_word (left-x a) c.put-number.ensures
+  left_y : Left (s a) (y (s a) ∷ z (s a) ∷ []) c.put_number-b.new.out c.put_number-b.result
+  left_y = next_word (left_x a) c.put_number-b.ensures
 
-module _ (c : tie.After-put-number2) where
-  abbrev b : tie.After-put-number
+module _ (c : tie.After-put_number-c) where
+  abbrev b : tie.After-put_number-b
   b = c.before.before.before.before
 
-  left-z : Left (s (a b)) (z (s (a b)) ∷ []) c.put-number2.new.0 c.put-number2.result
-  left-z = next_word (left-y b) c.put-number2.ensures
+  left_z : Left (s (a b)) (z (s (a b)) ∷ []) c.put_number-c.new.out c.put_number-c.result
+  left_z = next_word (left_y b) c.put_number-c.ensures
 
-module _ (c : tie.After-put-delay) where
-  abbrev space : tie.After-put-byte
+module _ (c : tie.After-put_delay-e) where
+  abbrev space : tie.After-put_byte-d
   space = c.before.before.before.before
 
-  abbrev d : tie.After-put-number2
+  abbrev d : tie.After-put_number-c
   d = space.before.before.before.before
 
-  left-none : Left (s (a (b d))) [] c.put-delay.new.0 c.put-delay.result
-  left-none = next_word (left-z d) (appends_more space.put_byte.ensures (appends_same (ap signed_decimal (held (s (a (b d))))) c.put-delay.ensures))
+  left_none : Left (s (a (b d))) [] c.put_delay-e.new.out c.put_delay-e.result
+  left_none = next_word (left_z d) (appends_more space.put_byte-d.ensures (appends_same (ap signed_decimal (held (s (a (b d))))) c.put_delay-e.ensures))
 
-put-text-requires : tie.Need-put-text-requires
-put-text-requires c κs =
-    let s = c.before.before.before in
-    first_fits (word s) (x s ∷ y s ∷ z s ∷ []) s.args.out.now s.args.at s.requires.1.1.1
+put_text-a-requires : tie.Need-put_text-a-requires
+put_text-a-requires c κs =
+    let s = c in
+    first_fits (word s.before.before.before) (x s.before.before.before ∷ y s.before.before.before ∷ z s.before.before.before ∷ []) s.args.out.now s.args.at s.requires.1.1.1
 
-put-number-requires : tie.Need-put-number-requires
-put-number-requires c κs = let t = c.before.before.before in ((s t).requires.0, word_fits (left-x t) (s t).requires.1.1.1)
+put_number-b-requires : tie.Need-put_number-b-requires
+put_number-b-requires c κs = let t = c in ((s t.before.before.before).requires.0, word_fits (left_x t.before.before.before) (s t.before.before.before).requires.1.1.1)
 
-put-number-requires-2 : tie.Need-put-number-requires-2
-put-number-requires-2 c κs = let t = c.before.before.before in ((s (a t)).pre.1.0, word_fits (left-y t) (s (a t)).pre.1.1.1)
+put_number-c-requires : tie.Need-put_number-c-requires
+put_number-c-requires c κs = let t = c in ((s (a t.before.before.before)).requires.1.0, word_fits (left_y t.before.before.before) (s (a t.before.before.before)).requires.1.1.1)
 
-put-byte-requires : tie.Need-put-byte-requires
-put-byte-requires c κs = let t = c.before.before.before in omega (arith, word_fits (left-z t) (s (a (b t))).pre.1.1.1)
+put_byte-d-requires : tie.Need-put_byte-d-requires
+put_byte-d-requires c κs = let t = c in omega (arith, word_fits (left_z t.before.before.before) (s (a (b t.before.before.before))).requires.1.1.1)
 
-put-delay-requires : tie.Need-put-delay-requires
-put-delay-requires c κs =
-    let space = c.before.before.before in
-    let t = space.before.before.before.before in
-    let s = s (a (b t)) in
-    let room = word_fits (left-z t) s.pre.1.1.1 in
-    simp (held s) (s.pre.1.1.0, omega (arith, room, space.put_byte.ensures.end, space.put_byte.auto.0))
+put_delay-e-requires : tie.Need-put_delay-e-requires
+put_delay-e-requires c κs =
+    let space = c in
+    let t = space in
+    let s = s (a (b t.before.before.before.before.before.before.before)) in
+    let room = word_fits (left_z t.before.before.before.before.before.before.before) s.requires.1.1.1 in
+    simp (held s) (s.requires.1.1.0, omega (arith, room, space.put_byte-d.ensures.end, space.put_byte-d.auto.out))
 
-put-byte-requires-2 : tie.Need-put-byte-requires-2
-put-byte-requires-2 c κs = let t = c.before.before.before in omega (arith, end_fits (left-none t) (s (a (b (d t)))).pre.1.1.1)
+put_byte-requires : tie.Need-put_byte-requires
+put_byte-requires c κs = let t = c in omega (arith, end_fits (left_none t.before.before.before) (s (a (b (d t.before.before.before)))).requires.1.1.1)
 
 returns : tie.Need-returns
-returns c = let end = c.before.before in line_end (left-none end.before.before.before.before) end.put-byte2.ensures
+returns c = let end = c in line_end (left_none end.before.before.before.before.before.before) end.put_byte.ensures
 
-pub triple-line-spec : {M : Type 1} → statement M
-triple-line-spec =
+pub triple_line_spec : {M : Type 1} → statement M
+triple_line_spec =
     tie.close
     (tie.spec
-    put-text-requires
-    put-number-requires
-    put-number-requires-2
-    put-byte-requires
-    put-delay-requires
-    put-byte-requires-2
+    put_text-a-requires
+    put_number-b-requires
+    put_number-c-requires
+    put_byte-d-requires
+    put_delay-e-requires
+    put_byte-requires
     (λ c. search rules)
     returns)

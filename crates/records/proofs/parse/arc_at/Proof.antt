@@ -22,64 +22,64 @@ use Rattle.records.proofs.Ends.{ends_legal, arc_is}
 use Rattle.records.proofs.parse.arc_at.Statement.{statement}
 use Rattle.records.proofs.parse.arc_at.Tie as tie
 
-decode-requires : tie.Need-decode-requires
-decode-requires c κs = let o = c.before in search (rules, (ends_legal _ _ _ 8 _ _ (said ends_meaning o.before.before.ends_at.ensures o.ends.given.1)).0)
+decode-d-requires : tie.Need-decode-d-requires
+decode-d-requires c κs = let o = c in search (rules, (ends_legal _ _ _ 8 _ _ (said ends_meaning o.ends_at-ends.ensures o.in-Of.is)).0)
 
 -- both ends are vertices, and the delay is handed on as its bits
-module _ (r : tie.After-in-range) where
-  abbrev o : tie.After-ends
-  o = r.before.before.before
+module _ (r : tie.After-in_range) where
+  abbrev o : tie.In-Of
+  o = r.before.before
 
-  abbrev k : tie.After-ends-at
-  k = o.before.before
+  abbrev k : tie.After-ends_at-ends
+  k = o.before
 
   abbrev start : tie.Start
   start = k.before.before
 
   abbrev u : ℕ
-  u = o.ends.given.0.0
+  u = o.in-Of.u
 
   abbrev v : ℕ
-  v = o.ends.given.0.1.0
+  v = o.in-Of.v
 
   abbrev d : ℤ
   d = signed_at 4 start.args.bytes.now (start.args.at + 4)
 
-  handed-on : to_z w64 (of_z w64 r.before.decode.result) ≡ d
-  handed-on = back w64 _ r.before.decode.ok ∙ r.before.decode.ensures
+  handed_on : to_z w64 (of_z w64 r.decode-d.result) ≡ d
+  handed_on = back w64 _ r.decode-d.type_inv ∙ r.decode-d.ensures
 
   range : fits delay_limit (at d) ≡ r.in_range.result
-  range = sym (r.in_range.ensures ∙ ap (λ (z : ℤ). fits delay_limit (at z)) handed-on)
+  range = sym (r.in_range.ensures ∙ ap (λ (z : ℤ). fits delay_limit (at z)) handed_on)
 
   arc : (b : Bool) → r.in_range.result ≡ b → body start.args.n start.args.bytes.now start.args.at M.Arc ≡ require b WrongField (accepted (R.Arc u v d))
-  arc b e = arc_is _ _ _ (said ends_meaning k.ends_at.ensures o.ends.given.1) ∙ ap (λ (x : Bool). require x WrongField (accepted (R.Arc u v d))) (range ∙ e)
+  arc b e = arc_is _ _ _ (said ends_meaning k.ends_at-ends.ensures o.in-Of.is) ∙ ap (λ (x : Bool). require x WrongField (accepted (R.Arc u v d))) (range ∙ e)
 
-returns : tie.Need-returns
-returns t = sym (arc t.before false (not-true _ t.if1.true))
+returns-then-not-in_range : tie.Need-returns-then-not-in_range
+returns-then-not-in_range t = sym (arc t.before false (not-true _ t.if-not-in_range.true-raw))
 
 narrow-requires : tie.Need-narrow-requires
-narrow-requires e κs = true_is (sym e.before.in_range.ensures ∙ not-false _ e.if1.false)
+narrow-requires e κs = true_is (sym e.in_range.ensures ∙ not-false _ e.if-not-in_range.false-raw)
 
-returns-2 : tie.Need-returns-2
-returns-2 a =
-    let r = a.before.before in
-    (λ i. accepted (R.Arc (u r) (v r) ((back w32 _ a.narrow.type-inv ∙ a.narrow.ensures ∙ handed-on r) i)))
-    ∙ sym (arc r true (not-false _ a.before.if1.false))
+returns-else-not-in_range : tie.Need-returns-else-not-in_range
+returns-else-not-in_range a =
+    let r = a in
+    (λ i. accepted (R.Arc (u r.before.before) (v r.before.before) ((back w32 _ a.narrow.type_inv ∙ a.narrow.ensures ∙ handed_on r.before.before) i)))
+    ∙ sym (arc r.before.before true (not-false _ a.if-not-in_range.false-raw))
 
-returns-3 : tie.Need-returns-3
-returns-3 c = let o = c.before in sym (arc_is _ _ _ (said ends_meaning o.before.before.ends_at.ensures o.ends2.given.1))
+returns-in-Refused : tie.Need-returns-in-Refused
+returns-in-Refused c = let o = c in sym (arc_is _ _ _ (said ends_meaning o.ends_at-ends.ensures o.in-Refused.is))
 
-pub arc-at-spec : {M : Type 1} → statement M
-arc-at-spec =
+pub arc_at_spec : {M : Type 1} → statement M
+arc_at_spec =
     tie.close
     (tie.spec
     (λ c κs. search rules)
     (λ c. search rules)
     (λ c. search rules)
-    decode-requires
+    decode-d-requires
     (λ c κs. search rules)
-    returns
+    returns-then-not-in_range
     narrow-requires
     (λ c. search rules)
-    returns-2
-    returns-3)
+    returns-else-not-in_range
+    returns-in-Refused)

@@ -9,26 +9,26 @@ use Rattle.records.proofs.parse.cell_at.Statement.{statement}
 use Rattle.records.proofs.parse.cell_at.Tie as tie
 
 -- what is known of the ends
-ends-are : (k : tie.After-ends-at) (x : Ends) → k.ends_at.result ≡ x → let a = k.before.before.args in ends_of a.n a.bytes.now a.at 5 ≡ ends_meaning x
-ends-are k x e = said ends_meaning k.ends_at.ensures e
+ends_are : (k : tie.After-ends_at-ends) (x : Ends) → k.ends_at-ends.result ≡ x → let a = k.args in ends_of a.n a.bytes.now a.at 5 ≡ ends_meaning x
+ends_are k x e = said ends_meaning k.ends_at-ends.ensures e
 
-shared-slice-read-t11 : tie.Need-shared-slice-read-t11
-shared-slice-read-t11 c = let o = c.before.before in omega (arith, (ends_legal _ _ _ 5 _ _ (ends-are o.before.before _ o.ends.given.1)).0)
+bounds-bytes-at : tie.Need-bounds-bytes-at
+bounds-bytes-at c = let o = c in omega (arith, (ends_legal _ _ _ 5 _ _ (ends_are o.before.before _ o.in-Of.is)).0)
 
-returns : tie.Need-returns
-returns c = let o = c.before.before in sym (cell_is _ _ _ (ends-are o.before.before _ o.ends.given.1))
+returns-in-Of : tie.Need-returns-in-Of
+returns-in-Of c = let o = c in sym (cell_is _ _ _ (ends_are o.before.before _ o.in-Of.is))
 
-returns-2 : tie.Need-returns-2
-returns-2 c = let o = c.before in sym (cell_is _ _ _ (ends-are o.before.before _ o.ends2.given.1))
+returns-in-Refused : tie.Need-returns-in-Refused
+returns-in-Refused c = let o = c in sym (cell_is _ _ _ (ends_are o.before _ o.in-Refused.is))
 
-pub cell-at-spec : {M : Type 1} → statement M
-cell-at-spec =
+pub cell_at_spec : {M : Type 1} → statement M
+cell_at_spec =
     tie.close
     (tie.spec
     (λ c κs. search rules)
     (λ c. search rules)
     (λ c. search rules)
-    shared-slice-read-t11
+    bounds-bytes-at
     (λ c. search rules)
-    returns
-    returns-2)
+    returns-in-Of
+    returns-in-Refused)

@@ -9,14 +9,17 @@ use Rattle.records.proofs.parse.cell_of.Tie as tie
 inside : (c : tie.Start) → let a = c.args in a.n * a.u + a.v < a.n * a.n
 inside c = let a = c.args in omega (arith, row_in a.n a.u c.requires.1.0, c.requires.1.1)
 
-mul-result : tie.Need-overflow-mul-result
-mul-result c = omega (arith, inside c, area c.args.n max_vertices c.requires.0)
+overflow_mul-result : tie.Need-overflow_mul-result
+overflow_mul-result c = omega (arith, inside c, area c.args.n max_vertices c.requires.0)
 
-add-result : tie.Need-overflow-add-result
-add-result c = omega (arith, inside c, area c.args.n max_vertices c.requires.0)
+overflow_add-result : tie.Need-overflow_add-result
+overflow_add-result c = omega (arith, inside c, area c.args.n max_vertices c.requires.0)
 
 returns : tie.Need-returns
 returns c = (refl, inside c)
 
-pub cell-of-spec : {M : Type 1} → statement M
-cell-of-spec = tie.close (tie.spec mul-result add-result returns)
+pub cell_of_spec : {M : Type 1} → statement M
+cell_of_spec = tie.close (tie.spec
+    overflow_mul-result
+    overflow_add-result
+    returns)

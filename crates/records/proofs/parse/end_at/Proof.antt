@@ -9,13 +9,18 @@ use Rattle.format.specs.declared.Record.TheVariants as R
 use Rattle.records.proofs.parse.end_at.Statement.{statement}
 use Rattle.records.proofs.parse.end_at.Tie as tie
 
-returns : tie.Need-returns
-returns c n = let a = c.before.before.args in simp (lt-leb (a.at + 4) (length a.bytes.now) (omega arith))
+returns-then-bytes-at-lt4 : tie.Need-returns-then-bytes-at-lt4
+returns-then-bytes-at-lt4 c n = let a = c.args in simp (lt-leb (a.at + 4) (length a.bytes.now) (omega arith))
 
-returns-2 : tie.Need-returns-2
-returns-2 c n =
-    let a = c.before.before.before.args in
+returns : tie.Need-returns
+returns c n =
+    let a = c.args in
     simp (le-leb (a.at + 4) (length a.bytes.now) (omega arith)) (ap (λ (x : ℕ). accepted (R.End x)) c.number.ensures)
 
-pub end-at-spec : {M : Type 1} → statement M
-end-at-spec = tie.close (tie.spec (λ c. search rules) returns (λ c. search rules) (λ c κs. search rules) returns-2)
+pub end_at_spec : {M : Type 1} → statement M
+end_at_spec = tie.close (tie.spec
+    (λ c. search rules)
+    returns-then-bytes-at-lt4
+    (λ c. search rules)
+    (λ c κs. search rules)
+    returns)

@@ -11,9 +11,9 @@ use Rattle.records.specs.Records.{ends_of}
 use Rattle.records.proofs.parse.ends_at.Statement.{statement}
 use Rattle.records.proofs.parse.ends_at.Tie as tie
 
-returns : tie.Need-returns
+returns-then-bytes-at : tie.Need-returns-then-bytes-at
 unfolding ends_of
-returns c = let a = c.before.before.args in simp (lt-leb (a.at + a.size) (length a.bytes.now) (omega arith))
+returns-then-bytes-at c = let a = c.args in simp (lt-leb (a.at + a.size) (length a.bytes.now) (omega arith))
 
 -- the record is all there, and its ends are asked
 module _ (v : tie.After-vertices) where
@@ -21,32 +21,32 @@ module _ (v : tie.After-vertices) where
   start = v.before.before.before.before.before
 
   whole : leb (start.args.at + start.args.size) (length start.args.bytes.now) ≡ true
-  whole = le-leb (start.args.at + start.args.size) (length start.args.bytes.now) (omega (arith, v.before.before.before.if1.left))
+  whole = le-leb (start.args.at + start.args.size) (length start.args.bytes.now) (omega (arith, v.if-bytes-at.false))
 
-  from_is : from start.args.n start.args.bytes.now start.args.at ≡ v.before.before.byte.result
-  from_is = sym v.before.before.byte.ensures.0
+  from_is : from start.args.n start.args.bytes.now start.args.at ≡ v.byte-u.result
+  from_is = sym v.byte-u.ensures.0
 
-  to_is : to start.args.n start.args.bytes.now start.args.at ≡ v.before.byte2.result
-  to_is = sym v.before.byte2.ensures.0
+  to_is : to start.args.n start.args.bytes.now start.args.at ≡ v.byte-v.result
+  to_is = sym v.byte-v.ensures.0
 
-returns-2 : tie.Need-returns-2
+returns-then-not-vertices : tie.Need-returns-then-not-vertices
 unfolding ends_of
-returns-2 c = let v = c.before in simp (whole v, from_is v, to_is v, sym v.vertices.ensures ∙ not-true _ c.if2.true)
+returns-then-not-vertices c = let v = c in simp (whole v.before, from_is v.before, to_is v.before, sym v.vertices.ensures ∙ not-true _ c.if-not-vertices.true-raw)
 
-returns-3 : tie.Need-returns-3
+returns : tie.Need-returns
 unfolding ends_of
-returns-3 c = let v = c.before in simp (whole v, from_is v, to_is v, sym v.vertices.ensures ∙ not-false _ c.if2.false)
+returns c = let v = c in simp (whole v.before, from_is v.before, to_is v.before, sym v.vertices.ensures ∙ not-false _ c.if-not-vertices.false-raw)
 
-pub ends-at-spec : {M : Type 1} → statement M
-ends-at-spec =
+pub ends_at_spec : {M : Type 1} → statement M
+ends_at_spec =
     tie.close
     (tie.spec
     (λ c. search rules)
-    returns
+    returns-then-bytes-at
     (λ c. search rules)
     (λ c κs. search rules)
     (λ c. search rules)
     (λ c κs. search rules)
     (λ c κs. search rules)
-    returns-2
-    returns-3)
+    returns-then-not-vertices
+    returns)

@@ -10,52 +10,52 @@ use Rattle.format.specs.Records.{body, record_at}
 use Rattle.records.proofs.parse.record_at.Statement.{statement}
 use Rattle.records.proofs.parse.record_at.Tie as tie
 
-returns : tie.Need-returns
+returns-then-bytes-at-lt2 : tie.Need-returns-then-bytes-at-lt2
 unfolding record_at
-returns c = let a = c.before.before.args in simp (lt-leb (a.at + 2) (length a.bytes.now) (omega arith))
+returns-then-bytes-at-lt2 c = let a = c.args in simp (lt-leb (a.at + 2) (length a.bytes.now) (omega arith))
 
 -- the mark is all there, and known
-module _ (m : tie.After-mark-at) where
+module _ (m : tie.After-mark_at-mark) where
   abbrev s : List ℕ
-  s = m.before.before.before.args.bytes.now
+  s = m.args.bytes.now
 
   abbrev n : ℕ
-  n = m.before.before.before.args.n
+  n = m.args.n
 
   abbrev p : ℕ
-  p = m.before.before.before.args.at
+  p = m.args.at
 
-  marked : (k : Mark) → m.mark-at.result ≡ k → body n s p k ≡ record_at n s p
+  marked : (k : Mark) → m.mark_at-mark.result ≡ k → body n s p k ≡ record_at n s p
   unfolding record_at
-  marked k e = simp (le-leb (p + 2) (length s) (omega arith)) (ap (body n s p) (sym e ∙ m.mark-at.ensures))
+  marked k e = simp (le-leb (p + 2) (length s) (omega arith)) (ap (body n s p) (sym e ∙ m.mark_at-mark.ensures))
 
-returns-2 : tie.Need-returns-2
-returns-2 c = marked c.before.before _ c.enum_told.given.1
+returns-in-Board : tie.Need-returns-in-Board
+returns-in-Board c = marked c.before _ c.in-Board.is
 
-returns-3 : tie.Need-returns-3
-returns-3 c = let o = c.before in c.arc-at.ensures ∙ marked o.before.before _ o.enum-told2.given.1
+returns-in-Arc : tie.Need-returns-in-Arc
+returns-in-Arc c = let o = c in c.arc_at.ensures ∙ marked o.before.before _ o.in-Arc.is
 
-returns-4 : tie.Need-returns-4
-returns-4 c = let o = c.before in c.cell_at.ensures ∙ marked o.before.before _ o.enum-told3.given.1
+returns-in-Cell : tie.Need-returns-in-Cell
+returns-in-Cell c = let o = c in c.cell_at.ensures ∙ marked o.before.before _ o.in-Cell.is
 
-returns-5 : tie.Need-returns-5
-returns-5 c =
-    let o = c.before in
-    let m = o.before.before in
-    c.end-at.ensures (n m) ∙ marked m _ o.enum-told4.given.1
+returns-in-End : tie.Need-returns-in-End
+returns-in-End c =
+    let o = c in
+    let m = o in
+    c.end_at.ensures (n m.before.before) ∙ marked m.before.before _ o.in-End.is
 
-returns-6 : tie.Need-returns-6
-returns-6 c = marked c.before.before _ c.enum-told5.given.1
+returns-in-Library : tie.Need-returns-in-Library
+returns-in-Library c = marked c.before _ c.in-Library.is
 
-returns-7 : tie.Need-returns-7
-returns-7 c = marked c.before.before _ c.enum-told6.given.1
+returns-in-Other : tie.Need-returns-in-Other
+returns-in-Other c = marked c.before _ c.in-Other.is
 
-pub record-at-spec : {M : Type 1} → statement M
-record-at-spec =
+pub record_at_spec : {M : Type 1} → statement M
+record_at_spec =
     tie.close
     (tie.spec
     (λ c. search rules)
-    returns
+    returns-then-bytes-at-lt2
     (λ c κs. search rules)
     (λ c. search rules)
     (λ c. search rules)
@@ -66,9 +66,9 @@ record-at-spec =
     (λ c κs. search rules)
     (λ c. search rules)
     (λ c. search rules)
-    returns-2
-    returns-3
-    returns-4
-    returns-5
-    returns-6
-    returns-7)
+    returns-in-Board
+    returns-in-Arc
+    returns-in-Cell
+    returns-in-End
+    returns-in-Library
+    returns-in-Other)

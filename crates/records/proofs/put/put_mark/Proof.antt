@@ -4,7 +4,11 @@ use Rattle.records.proofs.put.put_mark.Statement.{statement}
 use Rattle.records.proofs.put.put_mark.Tie as tie
 
 returns : tie.Need-returns
-returns c = let b = c.before.before in appends_more b.before.before.before.before.put_byte.ensures b.put-byte2.ensures
+returns c = let b = c in appends_more b.put_byte-next.ensures b.put_byte.ensures
 
-pub put-mark-spec : {M : Type 1} → statement M
-put-mark-spec = tie.close (tie.spec (λ c κs. search rules) (λ c κs. search rules) (λ c. search rules) returns)
+pub put_mark_spec : {M : Type 1} → statement M
+put_mark_spec = tie.close (tie.spec
+    (λ c κs. search rules)
+    (λ c κs. search rules)
+    (λ c. search rules)
+    returns)

@@ -13,10 +13,14 @@ use Rattle.records.proofs.put.put_signed.Tie as tie
 
 returns : tie.Need-returns
 returns c =
-    let a = c.before.before in
-    let s = a.before.before.before in
+    let a = c in
+    let s = a in
     let w = s.args.width in
-    subst (λ (z : ℤ). Appends (tabulate w (byte_of (pattern w z))) s.args.out.now s.args.at a.encode.new.0 (s.args.at + w)) (to_z-of_z {w = w64} s.ranges.x) (appends_number _ _ _ _ _ a.encode.ensures)
+    subst (λ (z : ℤ). Appends (tabulate w (byte_of (pattern w z))) s.args.out.now s.args.at a.encode.new.bytes (s.args.at + w)) (to_z-of_z {w = w64} s.ranges.x) (appends_number _ _ _ _ _ a.encode.ensures)
 
-pub put-signed-spec : {M : Type 1} → statement M
-put-signed-spec = tie.close (tie.spec (λ c κs. search rules) (λ c. search rules) (λ c. search rules) returns)
+pub put_signed_spec : {M : Type 1} → statement M
+put_signed_spec = tie.close (tie.spec
+    (λ c κs. search rules)
+    (λ c. search rules)
+    (λ c. search rules)
+    returns)

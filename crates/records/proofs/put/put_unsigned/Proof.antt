@@ -4,7 +4,11 @@ use Rattle.records.proofs.put.put_unsigned.Statement.{statement}
 use Rattle.records.proofs.put.put_unsigned.Tie as tie
 
 returns : tie.Need-returns
-returns c = let a = c.before.before in appends_number _ _ _ _ _ a.put-number.ensures
+returns c = let a = c in appends_number _ _ _ _ _ a.put_number.ensures
 
-pub put-unsigned-spec : {M : Type 1} → statement M
-put-unsigned-spec = tie.close (tie.spec (λ c κs. search rules) (λ c. search rules) (λ c. search rules) returns)
+pub put_unsigned_spec : {M : Type 1} → statement M
+put_unsigned_spec = tie.close (tie.spec
+    (λ c κs. search rules)
+    (λ c. search rules)
+    (λ c. search rules)
+    returns)

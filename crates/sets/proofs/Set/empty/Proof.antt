@@ -5,5 +5,6 @@ use Rattle.sets.proofs.Set.empty.Tie as tie
 returns : tie.Need-returns
 returns c = empty-member
 
-pub empty-spec : {M : Type 1} → statement M
-empty-spec = tie.close (tie.spec returns)
+pub empty_spec : {M : Type 1} → statement M
+empty_spec = tie.close (tie.spec
+    returns)

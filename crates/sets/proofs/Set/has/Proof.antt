@@ -4,11 +4,15 @@ use Rattle.sets.proofs.Members.{low, high}
 use Rattle.sets.proofs.Set.has.Statement.{statement}
 use Rattle.sets.proofs.Set.has.Tie as tie
 
+returns-then-v-lt64 : tie.Need-returns-then-v-lt64
+returns-then-v-lt64 c = c.has_bit.ensures ∙ sym (low c.args.self c.args.v c.if-v-lt64.true)
+
 returns : tie.Need-returns
-returns c = c.has-bit.ensures ∙ sym (low c.before.before.args.self c.before.before.args.v c.before.if1.true)
+returns c = c.has_bit-2.ensures ∙ sym (high c.args.self c.args.v c.if-v-lt64.false c.requires)
 
-returns-2 : tie.Need-returns-2
-returns-2 c = c.has-bit2.ensures ∙ sym (high c.before.before.args.self c.before.before.args.v c.before.if1.false c.before.before.requires)
-
-pub has-spec : {M : Type 1} → statement M
-has-spec = tie.close (tie.spec (λ c κs. search rules) returns (λ c κs. search rules) returns-2)
+pub has_spec : {M : Type 1} → statement M
+has_spec = tie.close (tie.spec
+    (λ c κs. search rules)
+    returns-then-v-lt64
+    (λ c κs. search rules)
+    returns)

@@ -3,11 +3,15 @@ use Rattle.sets.proofs.Members.{minus_low, minus_high}
 use Rattle.sets.proofs.Set.minus.Statement.{statement}
 use Rattle.sets.proofs.Set.minus.Tie as tie
 
+returns-then-v-lt64 : tie.Need-returns-then-v-lt64
+returns-then-v-lt64 c = minus_low c.args.v c.one.result c.args.self c.if-v-lt64.true c.one.ensures
+
 returns : tie.Need-returns
-returns c = minus_low c.before.before.before.before.args.v c.before.before.one.result c.before.before.before.before.args.self c.before.before.before.if1.true c.before.before.one.ensures
+returns c = minus_high c.args.v c.one-2.result c.args.self c.if-v-lt64.false c.requires c.one-2.ensures
 
-returns-2 : tie.Need-returns-2
-returns-2 c = minus_high c.before.before.before.before.args.v c.before.before.one2.result c.before.before.before.before.args.self c.before.before.before.if1.false c.before.before.before.before.requires c.before.before.one2.ensures
-
-pub minus-spec : {M : Type 1} → statement M
-minus-spec = tie.close (tie.spec (λ c κs. search rules) returns (λ c κs. search rules) returns-2)
+pub minus_spec : {M : Type 1} → statement M
+minus_spec = tie.close (tie.spec
+    (λ c κs. search rules)
+    returns-then-v-lt64
+    (λ c κs. search rules)
+    returns)

@@ -3,7 +3,8 @@ use Rattle.sets.proofs.Set.or.Statement.{statement}
 use Rattle.sets.proofs.Set.or.Tie as tie
 
 returns : tie.Need-returns
-returns c = or-member c.before.before.before.before.args.self c.before.before.before.before.args.other
+returns c = or-member c.args.self c.args.other
 
-pub or-spec : {M : Type 1} → statement M
-or-spec = tie.close (tie.spec returns)
+pub or_spec : {M : Type 1} → statement M
+or_spec = tie.close (tie.spec
+    returns)

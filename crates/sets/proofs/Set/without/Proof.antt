@@ -5,5 +5,6 @@ use Rattle.sets.proofs.Set.without.Tie as tie
 returns : tie.Need-returns
 returns c = but_member _ _
 
-pub without-spec : {M : Type 1} → statement M
-without-spec = tie.close (tie.spec returns)
+pub without_spec : {M : Type 1} → statement M
+without_spec = tie.close (tie.spec
+    returns)
