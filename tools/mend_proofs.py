@@ -163,6 +163,9 @@ class File:
             if norm(p[2][1]) == norm(f) and f:
                 return [p[2][1]] + self.inner(i, rest[1:])
         if hit is None:
+            if f.endswith("_lem"):
+                # a step whose name a lemma had too
+                return self.field(place, [f[:-4]] + rest[1:], here)
             return rest
         # an arm that is one step now
         if place is not None:
@@ -557,34 +560,36 @@ class File:
         return head + res.split("\n") if body or len(b) > i + 1 else head
 
     def branches(self, t):
-        """What a branch tells has names now."""
+        """What a branch tells has names now: its parts, which were numbered."""
         joins = {}
-        for m in re.finditer(r"pub record By-\d+-(Joined\S+?)-((?:then|else)-\S+) : Type 0 where\n((?: +pub .*\n(?: {14,}.*\n)*)*)", self.lts):
-            fs = re.findall(r"(?m)^ +pub (\S+)-is :", m[3])
-            joins.setdefault(m[1], fs)
+        for m in re.finditer(r"( *)pub record By-\d+-(Joined\S+?)-(?:then|else|in)\S* : Type 0 where\n((?: +.*\n)*)", self.lts):
+            deep = m[1] + "  "
+            fs = re.findall(rf"(?m)^{deep}pub (\S+) :", m[3].split("\n\n")[0] + "\n")
+            joins.setdefault(m[2], []).append(fs)
         for i, p in enumerate(self.n.places):
-            if not re.match(r"Joined\d+", p[0]):
+            if not re.match(r"Joined", p[0]):
                 continue
-            step, fs = p[2][1], joins.get(self.n.by_name[i], joins.get(p[0], []))
+            step, ways = p[2][1], joins.get(self.n.by_name[i], joins.get(p[0], []))
             pos = 0
             while True:
                 k = t.find("." + step + ".branch-raw", pos)
                 if k < 0:
                     break
                 pos = k + 1
-                e = re.search(r"\n(?=\S)|$", t[k:])
-                seg = t[k : k + e.start()]
-                new = re.sub(r"\b([a-z])\.0\.(taken|true)\b", rf"\1.{step}.true", seg)
-                new = re.sub(r"\b([a-z])\.0\.(left|false)\b", rf"\1.{step}.false", new)
-                new = re.sub(r"\b([a-z])\.0\.(fact)\b", rf"\1.{step}.true", new)
-                for v in set(re.findall(r"λ ([a-z])\. ", seg)):
-                    if len(fs) == 1:
-                        new = re.sub(rf"\b{v}\.1(?![.\d])", f"{v}.{fs[0]}-is", new)
-                    else:
-                        for j, f in enumerate(fs):
-                            pat = "1" + ".1" * j + ("" if j == len(fs) - 1 else ".0")
-                            new = re.sub(rf"\b{v}\.{re.escape(pat)}(?![.\d])", f"{v}.{f}-is", new)
-                t = t[:k] + new + t[k + e.start() :]
+                e = k
+                for fs in ways:
+                    q = re.search(r"\(λ (\S+)\.\s", t[e : e + 4000])
+                    if not q:
+                        break
+                    s = e + q.start()
+                    e = matching(t, s) + 1
+                    seg, v = t[s:e], q[1]
+                    new = re.sub(rf"(?<![\w.]){v}\.0\.(taken|true|fact)(?![\w-])", f"{v}.{fs[0] if fs else 0}.true", seg)
+                    new = re.sub(rf"(?<![\w.]){v}\.0\.(left|false)(?![\w-])", f"{v}.{fs[0] if fs else 0}.false", new)
+                    for j, f in enumerate(fs):
+                        new = re.sub(rf"(?<![\w.]){v}\.{j}(?![\d])", f"{v}.{f}", new)
+                    t = t[:s] + new + t[e:]
+                    e += len(new) - len(seg)
         return t
 
     def shape_place(self, shape):

@@ -1,5 +1,6 @@
 // Each step's plan on a table that has passed its checks: its conditions, and its new table.
 #![tactic(auto)]
+
 pub mod common;
 pub mod merge_back;
 pub mod rewrite;

@@ -1,5 +1,6 @@
 // The rows of a table as sets of vertices, and whether a path leads from one vertex to another.
 #![tactic(auto)]
+
 ghost use Rattle.std.specs.Prelude.{◌≡◌, ◌&&◌, ℕ, ◌*◌, ◌<◌, ◌≤◌, ltb, length};
 ghost use Rattle.graph.specs.Delay.{present};
 ghost use Rattle.graph.specs.Graph.{Graph, longest};

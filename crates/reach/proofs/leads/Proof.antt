@@ -20,105 +20,105 @@ within : {n : ℕ} {g : Graph} {words : List ℕ} → Rowed n g words → Within
 within r = record { in_range = r.inside }
 
 -- whatever graph it is
-abbrev invariant-loop : tie.invariant-loop
+abbrev invariant-loop : tie.invariant-loop-met
 invariant-loop words n v u met₀ done₀ met done = (g : Graph) (r : Rowed n g words) → Walked n g (within r) v met done
 
-abbrev decreases-loop : tie.decreases-loop
+abbrev decreases-loop : tie.decreases-loop-met
 decreases-loop words n v u met₀ done₀ met done = left_out done
 
-at-requires : tie.Need-at-requires invariant-loop decreases-loop
-at-requires c κs = let s = c.before in omega (arith, s.requires.1.0, s.requires.1.1.1.1.sets.long)
+at-met-requires : tie.Need-at-met-requires invariant-loop decreases-loop
+at-met-requires c κs = let s = c in omega (arith, s.requires.1.0, s.requires.1.1.1.1.sets.long)
 
-loop-holds : tie.Need-loop-init invariant-loop decreases-loop
-loop-holds c g r =
-    let a = c.before in
-    let s = a.before.before in
-    walked_start s.args.n g (within r) s.args.words.now r.sets s.args.v s.requires.1.0 a.at.result c.empty.result a.at.ensures c.empty.ensures
+loop-met-init : tie.Need-loop-met-init invariant-loop decreases-loop
+loop-met-init c g r =
+    let a = c in
+    let s = a in
+    walked_start s.args.n g (within r) s.args.words.now r.sets s.args.v s.requires.1.0 a.at-met.result c.empty-done.result a.at-met.ensures c.empty-done.ensures
 
 has-requires : tie.Need-has-requires invariant-loop decreases-loop
-has-requires c κs = let s = c.before.before.before.before in omega (arith, s.requires.1.1.0, s.requires.0)
+has-requires c κs = let s = c in omega (arith, s.requires.1.1.0, s.requires.0)
 
 -- none is left
-returns : tie.Need-returns invariant-loop decreases-loop
-returns c g r =
-    let e = c.before in
-    let w = e.before in
-    let h = w.before.before in
-    let l = h.before in
-    let s = l.before.before.before.before in
-    walked_all s.args.n g (within r) s.args.v l.loop.met l.loop.done (l.loop.invariant g r) s.args.u (sym h.has.ensures ∙ not-true _ w.before.if1.true)
-    (λ x t. split (true_or-not (holds l.loop.done x)) (λ k. k)
-    (λ k. absurd (subst T (e.is-empty.ensures.0 c.if2.true x) (subst T (sym (w.without.ensures x)) (and_i (holds l.loop.met x) (not (holds l.loop.done x)) t k)))))
+returns-then-is_empty : tie.Need-returns-then-is_empty invariant-loop decreases-loop
+returns-then-is_empty c g r =
+    let e = c in
+    let w = e in
+    let h = w in
+    let l = h in
+    let s = l in
+    walked_all s.args.n g (within r) s.args.v l.loop-met.met l.loop-met.done (l.loop-met.invariant g r) s.args.u (sym h.has.ensures ∙ not-true _ w.loop-met-test.true-raw)
+    (λ x t. split (true_or-not (holds l.loop-met.done x)) (λ k. k)
+    (λ k. absurd (subst T (e.is_empty.ensures.0 c.if-is_empty.true x) (subst T (sym (w.without-left.ensures x)) (and_i (holds l.loop-met.met x) (not (holds l.loop-met.done x)) t k)))))
 
-first-requires : tie.Need-first-requires invariant-loop decreases-loop
-first-requires c κs = c.before.is-empty.ensures.1 c.if2.false
+first-x-requires : tie.Need-first-x-requires invariant-loop decreases-loop
+first-x-requires c κs = c.is_empty.ensures.1 c.if-is_empty.false
 
 -- one that is left: met, and not done
-module _ (c : tie.After-first invariant-loop decreases-loop) where
-  abbrev head : tie.At-loop invariant-loop decreases-loop
+module _ (c : tie.After-first-x invariant-loop decreases-loop) where
+  abbrev head : tie.At-loop-met invariant-loop decreases-loop
   head = c.before.before.before.before.before.before
 
   abbrev start : tie.Start invariant-loop decreases-loop
   start = head.before.before.before.before
 
   abbrev x : ℕ
-  x = c.first.result
+  x = c.first-x.result
 
-  is-left : T (holds head.loop.met x) × T (not (holds head.loop.done x))
-  is-left = and_e (holds head.loop.met x) (not (holds head.loop.done x)) (subst T (c.before.before.before.without.ensures x) c.first.ensures)
+  is_left : T (holds head.loop-met.met x) × T (not (holds head.loop-met.done x))
+  is_left = and_e (holds head.loop-met.met x) (not (holds head.loop-met.done x)) (subst T (c.without-left.ensures x) c.first-x.ensures)
 
   below : x < start.args.n
   below =
-      let r = start.pre.1.1.1.1 in
-      walked_in_lem start.args.n start.pre.1.1.1.0 (within r) start.args.v head.loop.met head.loop.done (head.loop.inv start.pre.1.1.1.0 r) x is-left.0
+      let r = start.requires.1.1.1.1 in
+      walked_in_lem start.args.n start.requires.1.1.1.0 (within r) start.args.v head.loop-met.met head.loop-met.done (head.loop-met.invariant start.requires.1.1.1.0 r) x is_left.0
 
-plus-requires : tie.Need-plus-requires invariant-loop decreases-loop
-plus-requires c κs = omega (arith, below c, (start c).requires.0)
+plus-done-requires : tie.Need-plus-done-requires invariant-loop decreases-loop
+plus-done-requires c κs = omega (arith, below c, (start c).requires.0)
 
-at-requires-2 : tie.Need-at-requires-2 invariant-loop decreases-loop
-at-requires-2 c κs = let f = c.before in omega (arith, below f, (start f).requires.1.1.1.1.sets.long)
+at-requires : tie.Need-at-requires invariant-loop decreases-loop
+at-requires c κs = let f = c in omega (arith, below f.before, (start f.before).requires.1.1.1.1.sets.long)
 
-loop-less : tie.Need-loop-smaller invariant-loop decreases-loop
-loop-less c =
-    let p = c.before.before in
-    let f = p.before in
-    plus_fewer (x f) (head f).loop.done p.plus.result (omega (arith, below f, (start f).requires.0)) (T-not-false (is-left f).1) p.plus.ensures
+loop-met-smaller : tie.Need-loop-met-smaller invariant-loop decreases-loop
+loop-met-smaller c =
+    let p = c in
+    let f = p in
+    plus_fewer (x f.before.before.before) (head f.before.before.before).loop-met.done p.plus-done.result (omega (arith, below f.before.before.before, (start f.before.before.before).requires.0)) (T-not-false (is_left f.before.before.before).1) p.plus-done.ensures
 
-loop-again : tie.Need-loop-preserved invariant-loop decreases-loop
-loop-again c g r =
-    let a = c.before in
-    let p = a.before in
-    let f = p.before in
-    let s = start f in
-    let l = (head f).loop in
-    walked_turn s.args.n g (within r) s.args.words.now r.sets s.args.v l.met l.done (l.inv g r) (x f) (is-left f).0
-    a.at2.result c.or.result p.plus.result a.at2.ensures c.or.ensures p.plus.ensures
+loop-met-preserved : tie.Need-loop-met-preserved invariant-loop decreases-loop
+loop-met-preserved c g r =
+    let a = c in
+    let p = a in
+    let f = p in
+    let s = start f.before.before.before in
+    let l = (head f.before.before.before).loop-met in
+    walked_turn s.args.n g (within r) s.args.words.now r.sets s.args.v l.met l.done (l.invariant g r) (x f.before.before.before) (is_left f.before.before.before).0
+    a.at.result c.or-met.result p.plus-done.result a.at.ensures c.or-met.ensures p.plus-done.ensures
 
 -- u is met
-returns-2 : tie.Need-returns-2 invariant-loop decreases-loop
-returns-2 c g r =
-    let h = c.before in
-    let l = h.before in
-    let s = l.before.before.before.before in
-    walked_there s.args.n g (within r) s.args.v l.loop.met l.loop.done (l.loop.invariant g r) s.args.u (sym h.has.ensures ∙ not-false _ c.if1.false)
+returns : tie.Need-returns invariant-loop decreases-loop
+returns c g r =
+    let h = c in
+    let l = h in
+    let s = l in
+    walked_there s.args.n g (within r) s.args.v l.loop-met.met l.loop-met.done (l.loop-met.invariant g r) s.args.u (sym h.has.ensures ∙ not-false _ c.loop-met-test.false-raw)
 
-pub leads-spec : {M : Type 1} → statement M
-leads-spec =
+pub leads_spec : {M : Type 1} → statement M
+leads_spec =
     tie.close
     (tie.spec
     invariant-loop
     decreases-loop
-    at-requires
+    at-met-requires
     (λ c κs. search rules)
-    loop-holds
+    loop-met-init
     has-requires
     (λ c κs. search rules)
     (λ c κs. search rules)
-    returns
-    first-requires
-    plus-requires
-    at-requires-2
+    returns-then-is_empty
+    first-x-requires
+    plus-done-requires
+    at-requires
     (λ c κs. search rules)
-    loop-less
-    loop-again
-    returns-2)
+    loop-met-smaller
+    loop-met-preserved
+    returns)

@@ -6,92 +6,92 @@ use Rattle.reach.proofs.Sources.{Left, left_all, left_turn, left_one}
 use Rattle.reach.proofs.one_source.Statement.{statement}
 use Rattle.reach.proofs.one_source.Tie as tie
 
-abbrev invariant-loop : tie.invariant-loop
+abbrev invariant-loop : tie.invariant-loop-u
 invariant-loop words₀ n a b u₀ words u = Left n b words₀ u words
 
-abbrev decreases-loop : tie.decreases-loop
+abbrev decreases-loop : tie.decreases-loop-u
 decreases-loop words₀ n a b u₀ words u = n - u
 
-loop-holds : tie.Need-loop-init invariant-loop decreases-loop
-loop-holds c = left_all _ _ _
+loop-u-init : tie.Need-loop-u-init invariant-loop decreases-loop
+loop-u-init c = left_all _ _ _
 
 -- in a turn
-module _ (c : tie.In-loop invariant-loop decreases-loop) where
-  abbrev loop : tie.At-loop invariant-loop decreases-loop
+module _ (c : tie.In-loop-u invariant-loop decreases-loop) where
+  abbrev loop : tie.At-loop-u invariant-loop decreases-loop
   loop = c.before
 
   abbrev start : tie.Start invariant-loop decreases-loop
   start = loop.before.before
 
-  inside : 2 * loop.loop.u + 1 < length loop.loop.words
-  inside = omega (arith, c.loop-test.true, loop.loop.inv.long, start.pre.1.0)
+  inside : 2 * loop.loop-u.u + 1 < length loop.loop-u.words
+  inside = omega (arith, c.loop-u-test.true, loop.loop-u.invariant.long, start.requires.1.0)
 
 at-requires : tie.Need-at-requires invariant-loop decreases-loop
-at-requires c κs = inside c.before
+at-requires c κs = inside c
 
-minus-requires : tie.Need-minus-requires invariant-loop decreases-loop
-minus-requires c κs = let s = start c.before.before in omega (arith, s.pre.0, s.pre.1.1.1)
+minus-rest-requires : tie.Need-minus-rest-requires invariant-loop decreases-loop
+minus-rest-requires c κs = let s = start c.before in omega (arith, s.requires.0, s.requires.1.1.1)
 
 put-requires : tie.Need-put-requires invariant-loop decreases-loop
-put-requires c κs = inside c.before.before.before.before
+put-requires c κs = inside c.before.before.before
 
-add-u : tie.Need-overflow-add-u invariant-loop decreases-loop
-add-u c = let i = c.before.before.before.before.before.before.before in omega (arith, i.loop-test.true, (start i).requires.0)
+overflow_add-u : tie.Need-overflow_add-u invariant-loop decreases-loop
+overflow_add-u c = let i = c in omega (arith, i.loop-u-test.true, (start i.before.before.before.before.before.before).requires.0)
 
-loop-less : tie.Need-loop-smaller invariant-loop decreases-loop
-loop-less c = omega (arith, c.before.before.before.before.before.before.before.loop-test.true)
+loop-u-smaller : tie.Need-loop-u-smaller invariant-loop decreases-loop
+loop-u-smaller c = omega (arith, c.loop-u-test.true)
 
-loop-again : tie.Need-loop-preserved invariant-loop decreases-loop
-loop-again c =
-    let p = c.before.before in
-    let m = p.before.before in
-    let a = m.before in
-    let i = a.before.before in
-    left_turn (loop i).loop.invariant i.loop-test.true a.at.result m.minus.result a.at.ensures m.minus.ensures p.put.new.0 p.put.ensures
+loop-u-preserved : tie.Need-loop-u-preserved invariant-loop decreases-loop
+loop-u-preserved c =
+    let p = c in
+    let m = p in
+    let a = m in
+    let i = a in
+    left_turn (loop i.before.before.before.before.before.before).loop-u.invariant i.loop-u-test.true a.at.result m.minus-rest.result a.at.ensures m.minus-rest.ensures p.put.new.words p.put.ensures
 
 -- after the turns
-module _ (c : tie.After-loop invariant-loop decreases-loop) where
+module _ (c : tie.After-loop-u invariant-loop decreases-loop) where
   abbrev before : tie.Start invariant-loop decreases-loop
   before = c.before.before.before
 
-  inside-a : 2 * before.args.a + 1 < length c.before.loop.words
-  inside-a = omega (arith, c.before.loop.invariant.long, before.pre.1.0, before.pre.1.1.0)
+  inside_a : 2 * before.args.a + 1 < length c.loop-u.words
+  inside_a = omega (arith, c.loop-u.invariant.long, before.requires.1.0, before.requires.1.1.0)
 
 at-requires-2 : tie.Need-at-requires-2 invariant-loop decreases-loop
-at-requires-2 c κs = inside-a c.before
+at-requires-2 c κs = inside_a c
 
-plus-requires : tie.Need-plus-requires invariant-loop decreases-loop
-plus-requires c κs = let s = before c.before.before in omega (arith, s.pre.0, s.pre.1.1.1)
+plus-with-requires : tie.Need-plus-with-requires invariant-loop decreases-loop
+plus-with-requires c κs = let s = before c.before in omega (arith, s.requires.0, s.requires.1.1.1)
 
 put-requires-2 : tie.Need-put-requires-2 invariant-loop decreases-loop
-put-requires-2 c κs = inside-a c.before.before.before.before
+put-requires-2 c κs = inside_a c.before.before.before
 
-same_length : tie.Need-same-length invariant-loop decreases-loop
-same_length c = let p = c.before.before in p.put2.ensures.long ∙ p.before.before.before.before.before.before.loop.invariant.long
+shape_of-words : tie.Need-shape_of-words invariant-loop decreases-loop
+shape_of-words c = let p = c in p.put-2.ensures.long ∙ p.loop-u.invariant.long
 
 returns : tie.Need-returns invariant-loop decreases-loop
 returns c =
-    let p = c.before.before in
-    let m = p.before.before in
-    let a = m.before in
-    let l = a.before.before in
-    left_one l.before.loop.invariant l.loop-test.false (before l).args.a (before l).requires.1.1.0 a.at2.result m.plus.result a.at2.ensures m.plus.ensures p.put2.new.0 p.put2.ensures
+    let p = c in
+    let m = p in
+    let a = m in
+    let l = a in
+    left_one l.loop-u.invariant l.loop-u-test.false (before l.before.before.before.before.before.before).args.a (before l.before.before.before.before.before.before).requires.1.1.0 a.at-2.result m.plus-with.result a.at-2.ensures m.plus-with.ensures p.put-2.new.words p.put-2.ensures
 
-pub one-source-spec : {M : Type 1} → statement M
-one-source-spec =
+pub one_source_spec : {M : Type 1} → statement M
+one_source_spec =
     tie.close
     (tie.spec
     invariant-loop
     decreases-loop
-    loop-holds
+    loop-u-init
     at-requires
-    minus-requires
+    minus-rest-requires
     put-requires
-    add-u
-    loop-less
-    loop-again
+    overflow_add-u
+    loop-u-smaller
+    loop-u-preserved
     at-requires-2
-    plus-requires
+    plus-with-requires
     put-requires-2
-    same_length
+    shape_of-words
     returns)

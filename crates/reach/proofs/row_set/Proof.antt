@@ -16,49 +16,49 @@ use Rattle.reach.proofs.Gathering.{Below, below-start, below_more, below_same}
 use Rattle.reach.proofs.row_set.Statement.{statement}
 use Rattle.reach.proofs.row_set.Tie as tie
 
-abbrev invariant-loop : tie.invariant-loop
+abbrev invariant-loop : tie.invariant-loop-v
 invariant-loop row n s₀ v₀ s v = (v ≤ n) × Below (λ u. present (cell_at row u)) v s
 
-abbrev decreases-loop : tie.decreases-loop
+abbrev decreases-loop : tie.decreases-loop-v
 decreases-loop row n s₀ v₀ s v = n - v
 
-loop-holds : tie.Need-loop-init invariant-loop decreases-loop
-loop-holds c = (omega arith, below-start (λ u. present (cell_at c.before.args.row.now u)) c.empty.result c.empty.ensures)
+loop-v-init : tie.Need-loop-v-init invariant-loop decreases-loop
+loop-v-init c = (omega arith, below-start (λ u. present (cell_at c.args.row.now u)) c.empty-s.result c.empty-s.ensures)
 
-said : (c : tie.After-is-arc invariant-loop decreases-loop) → present (cell_at c.before.before.before.before.before.args.row.now c.before.before.before.loop.v) ≡ c.is-arc.result
-said c = sym (c.is-arc.ensures ∙ ap (λ (z : ℤ). present (read_cell absent_cell z)) (back w32 _ c.before.is-arc-arg.given))
+said : (c : tie.After-is_arc invariant-loop decreases-loop) → present (cell_at c.args.row.now c.loop-v.v) ≡ c.is_arc.result
+said c = sym (c.is_arc.ensures ∙ ap (λ (z : ℤ). present (read_cell absent_cell z)) (back w32 _ c.is_arc-arg-1.given))
 
-loop-again : tie.Need-loop-preserved invariant-loop decreases-loop
-loop-again c =
-    let a = c.before in
-    let f : ℕ → Bool = λ u. present (cell_at a.before.before.before.before.before.args.row.now u) in
-    let v = a.before.before.before.loop.v in
-    let s = a.before.before.before.loop.s in
-    let h = a.before.before.before.loop.invariant.1 in (
+loop-v-preserved : tie.Need-loop-v-preserved invariant-loop decreases-loop
+loop-v-preserved c =
+    let a = c in
+    let f : ℕ → Bool = λ u. present (cell_at a.args.row.now u) in
+    let v = a.loop-v.v in
+    let s = a.loop-v.s in
+    let h = a.loop-v.invariant.1 in (
       omega arith,
-      split c.if1.branch
-          (λ w. subst (λ (z : Set). Below f (v + 1) z) (sym w.2) (below_more f v s w.1.result h (said a ∙ w.0.taken) w.1.ensures))
-          (λ w. subst (λ (z : Set). Below f (v + 1) z) (sym w.1) (below_same f v s h (said a ∙ w.0.left))),
+      split c.if-is_arc.branch-raw
+          (λ w. subst (λ (z : Set). Below f (v + 1) z) (sym w.s-is) (below_more f v s w.plus-s.result h (said a.before ∙ w.if-is_arc.true) w.plus-s.ensures))
+          (λ w. subst (λ (z : Set). Below f (v + 1) z) (sym w.s-is) (below_same f v s h (said a.before ∙ w.if-is_arc.false))),
     )
 
 returns : tie.Need-returns invariant-loop decreases-loop
 returns c =
-    let e : c.before.loop.v ≡ c.before.before.before.args.n = omega arith in
-    subst (λ (z : ℕ). Below (λ u. present (cell_at c.before.before.before.args.row.now u)) z c.before.loop.s) e c.before.loop.invariant.1
+    let e : c.loop-v.v ≡ c.args.n = omega arith in
+    subst (λ (z : ℕ). Below (λ u. present (cell_at c.args.row.now u)) z c.loop-v.s) e c.loop-v.invariant.1
 
-pub row-set-spec : {M : Type 1} → statement M
-row-set-spec =
+pub row_set_spec : {M : Type 1} → statement M
+row_set_spec =
     tie.close
     (tie.spec
     invariant-loop
     decreases-loop
     (λ c κs. search rules)
-    loop-holds
+    loop-v-init
     (λ c. omega arith)
     (λ c. omega arith)
     (λ c κs. search rules)
     (λ c κs. omega arith)
     (λ c. omega arith)
     (λ c. omega arith)
-    loop-again
+    loop-v-preserved
     returns)

@@ -9,60 +9,60 @@ use Rattle.reach.proofs.Gathering.{rows_turn}
 use Rattle.reach.proofs.row_sets.Statement.{statement}
 use Rattle.reach.proofs.row_sets.Tie as tie
 
-abbrev invariant-loop : tie.invariant-loop
+abbrev invariant-loop : tie.invariant-loop-u
 invariant-loop board table words₀ n u₀ words u = (u ≤ n) × (length words ≡ length words₀) × ((x : ℕ) → x < u → Targets (graph_of n table) x (set_at words x))
 
-abbrev decreases-loop : tie.decreases-loop
+abbrev decreases-loop : tie.decreases-loop-u
 decreases-loop board table words₀ n u₀ words u = n - u
 
-loop-holds : tie.Need-loop-init invariant-loop decreases-loop
-loop-holds c = (omega arith, refl, λ x l. absurd (omega arith))
+loop-u-init : tie.Need-loop-u-init invariant-loop decreases-loop
+loop-u-init c = (omega arith, refl, λ x l. absurd (omega arith))
 
 targets-requires : tie.Need-targets-requires invariant-loop decreases-loop
-targets-requires c κs = (c.before.before.before.before.requires.0, c.before.loop-test.true)
+targets-requires c κs = (c.requires.0, c.loop-u-test.true)
 
 put-requires : tie.Need-put-requires invariant-loop decreases-loop
 put-requires c κs =
-    let i = c.before.before in
-    let h : 2 * i.before.loop.u + 1 < length i.before.loop.words = omega (arith, i.loop-test.true, i.before.loop.invariant.1, i.before.before.before.requires.1) in h
+    let i = c in
+    let h : 2 * i.loop-u.u + 1 < length i.loop-u.words = omega (arith, i.loop-u-test.true, i.loop-u.invariant.1, i.requires.1) in h
 
-add-u : tie.Need-overflow-add-u invariant-loop decreases-loop
-add-u c = let i = c.before.before.before.before.before in omega (arith, i.loop-test.true, i.before.before.before.requires.0.sized.few)
+overflow_add-u : tie.Need-overflow_add-u invariant-loop decreases-loop
+overflow_add-u c = let i = c in omega (arith, i.loop-u-test.true, i.requires.0.sized.few)
 
-loop-less : tie.Need-loop-smaller invariant-loop decreases-loop
-loop-less c = let i = c.before.before.before.before.before in omega (arith, i.loop-test.true)
+loop-u-smaller : tie.Need-loop-u-smaller invariant-loop decreases-loop
+loop-u-smaller c = let i = c in omega (arith, i.loop-u-test.true)
 
-loop-again : tie.Need-loop-preserved invariant-loop decreases-loop
-loop-again c =
-    let p = c.before.before in
-    let i = p.before.before.before in
-    let l = i.before in
-    let s = l.before.before in (
-      omega (arith, i.loop-test.true),
-      p.put.ensures.long ∙ l.loop.invariant.1,
-      rows_turn (graph_of s.args.board.vertices s.args.table.now) l.loop.words p.put.new.0 l.loop.u p.before.targets.result l.loop.invariant.2 p.before.targets.ensures p.put.ensures,
+loop-u-preserved : tie.Need-loop-u-preserved invariant-loop decreases-loop
+loop-u-preserved c =
+    let p = c in
+    let i = p in
+    let l = i in
+    let s = l in (
+      omega (arith, i.loop-u-test.true),
+      p.put.ensures.long ∙ l.loop-u.invariant.1,
+      rows_turn (graph_of s.args.board.vertices s.args.table.now) l.loop-u.words p.put.new.words l.loop-u.u p.targets.result l.loop-u.invariant.2 p.targets.ensures p.put.ensures,
     )
 
-same_length : tie.Need-same-length invariant-loop decreases-loop
-same_length c = c.before.loop.invariant.1
+shape_of-words : tie.Need-shape_of-words invariant-loop decreases-loop
+shape_of-words c = c.loop-u.invariant.1
 
 returns : tie.Need-returns invariant-loop decreases-loop
 returns c =
-    let l = c.before in
-    let s = l.before.before in
-    record { long = omega (arith, s.requires.1, l.loop.invariant.1); row = λ u h. l.loop.invariant.2 u (omega (arith, c.loop-test.false)) }
+    let l = c in
+    let s = l in
+    record { long = omega (arith, s.requires.1, l.loop-u.invariant.1); row = λ u h. l.loop-u.invariant.2 u (omega (arith, c.loop-u-test.false)) }
 
-pub row-sets-spec : {M : Type 1} → statement M
-row-sets-spec =
+pub row_sets_spec : {M : Type 1} → statement M
+row_sets_spec =
     tie.close
     (tie.spec
     invariant-loop
     decreases-loop
-    loop-holds
+    loop-u-init
     targets-requires
     put-requires
-    add-u
-    loop-less
-    loop-again
-    same_length
+    overflow_add-u
+    loop-u-smaller
+    loop-u-preserved
+    shape_of-words
     returns)

@@ -22,35 +22,35 @@ module _ (c : tie.Start) where
   row : n * c.args.u + n ≤ n * n
   row = row_in n c.args.u c.requires.1
 
-mul_at : tie.Need-overflow-mul-at
-mul_at c = omega (arith, row c, c.requires.0.room)
+overflow_mul-at : tie.Need-overflow_mul-at
+overflow_mul-at c = omega (arith, row c, c.requires.0.room)
 
-mul-row-set : tie.Need-overflow-mul-row-set
-mul-row-set c = omega (arith, row c, c.requires.0.room)
+offset_bounds-table-at : tie.Need-offset_bounds-table-at
+offset_bounds-table-at c = omega (arith, row c, c.requires.0.room)
 
-sub-row-set : tie.Need-overflow-sub-row-set
-sub-row-set c = omega (arith, row c, c.requires.0.room)
+slice_bounds-row_set-count : tie.Need-slice_bounds-row_set-count
+slice_bounds-row_set-count c = omega (arith, row c, c.requires.0.room)
 
-part-row-set-start : tie.Need-slice-bounds-row-set-start
-part-row-set-start c = omega (arith, row c, c.requires.0.room)
+slice_bounds-row_set-start : tie.Need-slice_bounds-row_set-start
+slice_bounds-row_set-start c = omega (arith, row c, c.requires.0.room)
 
-row-set-requires : tie.Need-row-set-requires
-row-set-requires c κs = let s = c.before in (s.requires.0.sized.few, lent_long (n s) (t s) s.args.u s.requires.0.room s.requires.1)
+row_set-requires : tie.Need-row_set-requires
+row_set-requires c κs = let s = c in (s.requires.0.sized.few, lent_long (n s.before) (t s.before) s.args.u s.requires.0.room s.requires.1)
 
 returns : tie.Need-returns
 returns c =
-    let s = c.before.before in
-    row_targets (n s) (graph_of (n s) (t s)) (graph_of_within (n s) (t s)) s.args.u (cell_at (lent (n s) (t s) s.args.u s.requires.0.room s.requires.1)) c.row-set.result
-    (lent_cell (n s) (t s) s.args.u s.requires.0.room s.requires.1) c.row-set.ensures
+    let s = c in
+    row_targets (n s.before.before) (graph_of (n s.before.before) (t s.before.before)) (graph_of_within (n s.before.before) (t s.before.before)) s.args.u (cell_at (lent (n s.before.before) (t s.before.before) s.args.u s.requires.0.room s.requires.1)) c.row_set.result
+    (lent_cell (n s.before.before) (t s.before.before) s.args.u s.requires.0.room s.requires.1) c.row_set.ensures
 
-pub targets-spec : {M : Type 1} → statement M
-targets-spec =
+pub targets_spec : {M : Type 1} → statement M
+targets_spec =
     tie.close
     (tie.spec
-    mul_at
-    mul-row-set
-    sub-row-set
-    part-row-set-start
+    overflow_mul-at
+    offset_bounds-table-at
+    slice_bounds-row_set-count
+    slice_bounds-row_set-start
     (λ c. search rules)
-    row-set-requires
+    row_set-requires
     returns)

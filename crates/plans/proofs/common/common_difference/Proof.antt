@@ -24,11 +24,11 @@ invariant-compare xs ys seen₀ j₀ s j = (j ≤ length xs) × (s ≡ seen j (a
 abbrev decreases-compare : tie.decreases-compare
 decreases-compare xs ys seen₀ j₀ s j = length xs - j
 
-compare-holds : tie.Need-compare-init invariant-compare decreases-compare
-compare-holds c = (omega arith, seen_none _ _)
+compare-init : tie.Need-compare-init invariant-compare decreases-compare
+compare-init c = (omega arith, seen_none _ _)
 
 -- a turn
-module _ (c : tie.Else1 invariant-compare decreases-compare) where
+module _ (c : tie.Else-j-xs invariant-compare decreases-compare) where
   abbrev start : tie.Start invariant-compare decreases-compare
   start = c.before.before
 
@@ -39,71 +39,71 @@ module _ (c : tie.Else1 invariant-compare decreases-compare) where
   ys = start.args.ys.now
 
   abbrev j : ℕ
-  j = c.before.compare.j
+  j = c.compare.j
 
-mul-seen-next-2 : tie.Need-overflow-mul-seen-next-2 invariant-compare decreases-compare
-mul-seen-next-2 c = omega (arith, (start c.before).pre.long)
+offset_bounds-ys-j : tie.Need-offset_bounds-ys-j invariant-compare decreases-compare
+offset_bounds-ys-j c = omega (arith, (start c.before).requires.long)
 
-shared-slice-copy-out-seen-next-2 : tie.Need-shared-slice-copy-out-seen-next-2 invariant-compare decreases-compare
-shared-slice-copy-out-seen-next-2 c = omega (arith, (start c.before).pre.long)
+bounds-ys-j : tie.Need-bounds-ys-j invariant-compare decreases-compare
+bounds-ys-j c = omega (arith, (start c.before).requires.long)
 
 -- the two cells, as the code has them
-x-is : (c : tie.After-seen-next-arg invariant-compare decreases-compare) → let t = c.before in to_z w64 (of_z w64 (get_or (xs t) (j t) (pos 0))) ≡ get_or (xs t) (j t) (pos 0)
-x-is c = back w64 _ c.seen-next-arg.given
+x_is : (c : tie.After-seen_next-arg-1 invariant-compare decreases-compare) → let t = c in to_z w64 (of_z w64 (get_or (xs t.before) (j t.before) (pos 0))) ≡ get_or (xs t.before) (j t.before) (pos 0)
+x_is c = back w64 _ c.seen_next-arg-1.given
 
-y-is : (c : tie.After-seen-next-arg2 invariant-compare decreases-compare) → let t = c.before.before in to_z w64 (of_z w64 (get_or (ys t) (j t) (pos 0))) ≡ get_or (ys t) (j t) (pos 0)
-y-is c = back w64 _ c.seen-next-arg2.given
+y_is : (c : tie.After-seen_next-arg-in-compare-1 invariant-compare decreases-compare) → let t = c in to_z w64 (of_z w64 (get_or (ys t.before.before) (j t.before.before) (pos 0))) ≡ get_or (ys t.before.before) (j t.before.before) (pos 0)
+y_is c = back w64 _ c.seen_next-arg-in-compare-1.given
 
-seen-next-requires : tie.Need-seen-next-requires invariant-compare decreases-compare
-seen-next-requires c κs =
-    let t = c.before.before in
-    simp (x-is c.before, y-is c) ((start t).requires.near_x (j t) (omega arith), (start t).requires.near_y (j t) (omega (arith, (start t).requires.long)))
+seen_next-seen-requires : tie.Need-seen_next-seen-requires invariant-compare decreases-compare
+seen_next-seen-requires c κs =
+    let t = c in
+    simp (x_is c.before, y_is c) ((start t.before.before).requires.near_x (j t.before.before) (omega arith), (start t.before.before).requires.near_y (j t.before.before) (omega (arith, (start t.before.before).requires.long)))
 
 -- what is seen after the turn
-turned : (c : tie.After-seen-next invariant-compare decreases-compare) → let t = c.before.before.before in c.Seen-next.result ≡ seen (j t + 1) (arrival_in (xs t)) (arrival_in (ys t))
+turned : (c : tie.After-seen_next-seen invariant-compare decreases-compare) → let t = c in c.seen_next-seen.result ≡ seen (j t.before.before.before + 1) (arrival_in (xs t.before.before.before)) (arrival_in (ys t.before.before.before))
 turned c =
-    let t = c.before.before.before in
-    c.Seen-next.ensures
-    ∙ (λ i. compared (t.before.compare.invariant.1 i) (read_cell absent_wide (x-is c.before.before i)) (read_cell absent_wide (y-is c.before i)))
-    ∙ seen_more (arrival_in (xs t)) (arrival_in (ys t)) (j t)
+    let t = c in
+    c.seen_next-seen.ensures
+    ∙ (λ i. compared (t.compare.invariant.1 i) (read_cell absent_wide (x_is c.before.before i)) (read_cell absent_wide (y_is c.before i)))
+    ∙ seen_more (arrival_in (xs t.before.before.before)) (arrival_in (ys t.before.before.before)) (j t.before.before.before)
 
-compare-again : tie.Need-compare-preserved invariant-compare decreases-compare
-compare-again c = (omega arith, turned c.before)
+compare-preserved : tie.Need-compare-preserved invariant-compare decreases-compare
+compare-preserved c = (omega arith, turned c.before)
 
-returns : tie.Need-returns invariant-compare decreases-compare
-returns c =
-    let l = c.before.before in
-    let s = l.before in
+returns-then-j-xs : tie.Need-returns-then-j-xs invariant-compare decreases-compare
+returns-then-j-xs c =
+    let l = c in
+    let s = l in
     let a = arrival_in s.args.xs.now in
     let b = arrival_in s.args.ys.now in
-    let e : l.compare.j ≡ length s.args.xs.now = omega (arith, c.before.if1.true, l.compare.invariant.0) in
+    let e : l.compare.j ≡ length s.args.xs.now = omega (arith, c.if-j-xs.true, l.compare.invariant.0) in
     ap difference_meaning (c.settle.ensures ∙ ap settled (l.compare.invariant.1 ∙ ap (λ (k : ℕ). seen k a b) e)) ∙ seen_common a b (length s.args.xs.now)
 
-returns-2 : tie.Need-returns-2 invariant-compare decreases-compare
-returns-2 c =
-    let p = c.before.before in
-    let t = p.before.before.before in
-    let a = arrival_in (xs t) in
-    let b = arrival_in (ys t) in
-    sym (ap (λ (s : Seen). difference_meaning (settled s)) (seen_clash a b (j t + 1) (length (xs t)) (omega (arith, t.if1.false)) (sym (turned p) ∙ c.enum_told.given.1)))
-    ∙ seen_common a b (length (xs t))
+returns-in-Clash : tie.Need-returns-in-Clash invariant-compare decreases-compare
+returns-in-Clash c =
+    let p = c in
+    let t = p in
+    let a = arrival_in (xs t.before.before.before.before) in
+    let b = arrival_in (ys t.before.before.before.before) in
+    sym (ap (λ (s : Seen). difference_meaning (settled s)) (seen_clash a b (j t.before.before.before.before + 1) (length (xs t.before.before.before.before)) (omega (arith, t.if-j-xs.false)) (sym (turned p.before) ∙ c.in-Clash.is)))
+    ∙ seen_common a b (length (xs t.before.before.before.before))
 
-pub common-difference-spec : {M : Type 1} → statement M
-common-difference-spec =
+pub common_difference_spec : {M : Type 1} → statement M
+common_difference_spec =
     tie.close
     (tie.spec
     invariant-compare
     decreases-compare
-    compare-holds
+    compare-init
     (λ c κs. tt)
     (λ c. omega arith)
     (λ c. omega arith)
-    mul-seen-next-2
-    shared-slice-copy-out-seen-next-2
-    seen-next-requires
+    offset_bounds-ys-j
+    bounds-ys-j
+    seen_next-seen-requires
     (λ c. search rules)
     (λ c. omega arith)
     (λ c. omega arith)
-    compare-again
-    returns
-    returns-2)
+    compare-preserved
+    returns-then-j-xs
+    returns-in-Clash)

@@ -13,29 +13,29 @@ use Rattle.plans.proofs.DifferenceCells.{eq_z_same, eq_z_other, neither, number_
 use Rattle.plans.proofs.common.seen_next.Statement.{statement}
 use Rattle.plans.proofs.common.seen_next.Tie as tie
 
-returns : tie.Need-returns
-returns c =
-    let s = c.before.before in
-    let x = same_bits {w = w64} {b = absent_wide} s.ranges.x (sfits_lit tt) c.before.if1.true in
-    let y = same_bits {w = w64} {b = absent_wide} s.ranges.y (sfits_lit tt) c.if2.true in
+returns-then-y-eq-ABSENT_WIDE : tie.Need-returns-then-y-eq-ABSENT_WIDE
+returns-then-y-eq-ABSENT_WIDE c =
+    let s = c in
+    let x = same_bits {w = w64} {b = absent_wide} s.ranges.x (sfits_lit tt) c.if-x-eq-ABSENT_WIDE.true in
+    let y = same_bits {w = w64} {b = absent_wide} s.ranges.y (sfits_lit tt) c.if-y-eq-ABSENT_WIDE.true in
     simp (read_absent absent_wide s.args.x x, read_absent absent_wide s.args.y y) (neither s.args.seen)
 
-returns-2 : tie.Need-returns-2
-returns-2 c =
-    let s = c.before.before in
-    let x = same_bits {w = w64} {b = absent_wide} s.ranges.x (sfits_lit tt) c.before.if1.true in
-    let y = other_bits w64 {b = absent_wide} c.if2.false in
+returns-then-x-eq-ABSENT_WIDE : tie.Need-returns-then-x-eq-ABSENT_WIDE
+returns-then-x-eq-ABSENT_WIDE c =
+    let s = c in
+    let x = same_bits {w = w64} {b = absent_wide} s.ranges.x (sfits_lit tt) c.if-x-eq-ABSENT_WIDE.true in
+    let y = other_bits w64 {b = absent_wide} c.if-y-eq-ABSENT_WIDE.false in
     simp (read_absent absent_wide s.args.x x, read_at absent_wide s.args.y y)
 
-returns-3 : tie.Need-returns-3
-returns-3 c =
-    let s = c.before.before in
-    let x = other_bits w64 {b = absent_wide} c.before.if1.false in
-    let y = same_bits {w = w64} {b = absent_wide} s.ranges.y (sfits_lit tt) c.if3.true in
+returns-then-y-eq-ABSENT_WIDE-2 : tie.Need-returns-then-y-eq-ABSENT_WIDE-2
+returns-then-y-eq-ABSENT_WIDE-2 c =
+    let s = c in
+    let x = other_bits w64 {b = absent_wide} c.if-x-eq-ABSENT_WIDE.false in
+    let y = same_bits {w = w64} {b = absent_wide} s.ranges.y (sfits_lit tt) c.if-y-eq-ABSENT_WIDE-2.true in
     simp (read_at absent_wide s.args.x x, read_absent absent_wide s.args.y y)
 
 -- both are joined
-module _ (c : tie.Else3) where
+module _ (c : tie.Else-y-eq-ABSENT_WIDE-2) where
   abbrev start : tie.Start
   start = c.before.before
 
@@ -45,64 +45,64 @@ module _ (c : tie.Else3) where
   abbrev y : ℤ
   y = start.args.y
 
-  x-there : x ≢ absent_wide
-  x-there = other_bits w64 c.before.if1.false
+  x_there : x ≢ absent_wide
+  x_there = other_bits w64 c.if-x-eq-ABSENT_WIDE.false
 
-  y-there : y ≢ absent_wide
-  y-there = other_bits w64 c.if3.false
+  y_there : y ≢ absent_wide
+  y_there = other_bits w64 c.if-y-eq-ABSENT_WIDE-2.false
 
-  x-near : (neg_ℤ (pos arrival_limit) ≤ℤ x) × (x ≤ℤ pos arrival_limit)
-  x-near = number_bounds start.pre.0 x-there
+  x_near : (neg_ℤ (pos arrival_limit) ≤ℤ x) × (x ≤ℤ pos arrival_limit)
+  x_near = number_bounds start.requires.0 x_there
 
-  y-near : (neg_ℤ (pos arrival_limit) ≤ℤ y) × (y ≤ℤ pos arrival_limit)
-  y-near = number_bounds start.pre.1 y-there
+  y_near : (neg_ℤ (pos arrival_limit) ≤ℤ y) × (y ≤ℤ pos arrival_limit)
+  y_near = number_bounds start.requires.1 y_there
 
-  d-is : to_z w64 (of_z w64 (to_z w64 (of_z w64 y) -ℤ to_z w64 (of_z w64 x))) ≡ y -ℤ x
-  d-is = handed w64 (ap₂ ◌-ℤ◌ (to_z-of_z start.fits.y) (to_z-of_z start.fits.x)) (difference_fits x-near y-near)
+  d_is : to_z w64 (of_z w64 (to_z w64 (of_z w64 y) -ℤ to_z w64 (of_z w64 x))) ≡ y -ℤ x
+  d_is = handed w64 (ap₂ ◌-ℤ◌ (to_z-of_z start.ranges.y) (to_z-of_z start.ranges.x)) (difference_fits x_near y_near)
 
-sub-d : tie.Need-overflow-sub-d
-sub-d c = simp (to_z-of_z {w = w64} (start c).ranges.y, to_z-of_z {w = w64} (start c).ranges.x) (search (difference_fits, x-near c, y-near c))
+overflow_sub-d : tie.Need-overflow_sub-d
+overflow_sub-d c = simp (to_z-of_z {w = w64} (start c).ranges.y, to_z-of_z {w = w64} (start c).ranges.x) (search (difference_fits, x_near c, y_near c))
 
-returns-4 : tie.Need-returns-4
-returns-4 c =
-    let e = c.before.before in
-    simp (d-is e, read_at absent_wide (x e) (x-there e), read_at absent_wide (y e) (y-there e), c.enum_told.given.1)
+returns-in-Nothing : tie.Need-returns-in-Nothing
+returns-in-Nothing c =
+    let e = c in
+    simp (d_is e.before, read_at absent_wide (x e.before) (x_there e.before), read_at absent_wide (y e.before) (y_there e.before), c.in-Nothing.is)
 
 -- the difference that came in, as the code has it
-e-is : (c : tie.After-known-told) → to_z w64 (of_z w64 c.before.seen.given.0.0) ≡ c.before.seen.given.0.0
-e-is c = search rules
+e_is : (c : tie.In-One) → to_z w64 (of_z w64 c.in-One.e) ≡ c.in-One.e
+e_is c = search rules
 
-returns-5 : tie.Need-returns-5
-returns-5 c =
-    let k = c.before in
-    let e = k.before.before.before in
-    let q = sym (d-is e) ∙ ap (to_z w64) c.if4.true ∙ e-is k in
-    simp (e-is k, read_at absent_wide (x e) (x-there e), read_at absent_wide (y e) (y-there e), k.before.seen.given.1, eq_z_same q)
+returns-then-d-e : tie.Need-returns-then-d-e
+returns-then-d-e c =
+    let k = c in
+    let e = k in
+    let q = sym (d_is e.before.before) ∙ ap (to_z w64) c.if-d-e.true ∙ e_is k.before in
+    simp (e_is k.before, read_at absent_wide (x e.before.before) (x_there e.before.before), read_at absent_wide (y e.before.before) (y_there e.before.before), k.in-One.is, eq_z_same q)
 
-returns-6 : tie.Need-returns-6
-returns-6 c =
-    let k = c.before in
-    let e = k.before.before.before in
-    let q : y e -ℤ x e ≢ k.before.seen.given.0.0 = λ q. c.if4.false (ap (of_z w64) (ap₂ ◌-ℤ◌ (to_z-of_z (start e).ranges.y) (to_z-of_z (start e).ranges.x) ∙ q)) in
-    simp (read_at absent_wide (x e) (x-there e), read_at absent_wide (y e) (y-there e), k.before.seen.given.1, eq_z_other q)
+returns-else-d-e : tie.Need-returns-else-d-e
+returns-else-d-e c =
+    let k = c in
+    let e = k in
+    let q : y e.before.before -ℤ x e.before.before ≢ k.in-One.e = λ q. c.if-d-e.false (ap (of_z w64) (ap₂ ◌-ℤ◌ (to_z-of_z (start e.before.before).ranges.y) (to_z-of_z (start e.before.before).ranges.x) ∙ q)) in
+    simp (read_at absent_wide (x e.before.before) (x_there e.before.before), read_at absent_wide (y e.before.before) (y_there e.before.before), k.in-One.is, eq_z_other q)
 
-returns-7 : tie.Need-returns-7
-returns-7 c =
-    let e = c.before.before in
-    simp (read_at absent_wide (x e) (x-there e), read_at absent_wide (y e) (y-there e), c.enum-told2.given.1)
+returns-in-Clash : tie.Need-returns-in-Clash
+returns-in-Clash c =
+    let e = c in
+    simp (read_at absent_wide (x e.before) (x_there e.before), read_at absent_wide (y e.before) (y_there e.before), c.in-Clash.is)
 
-pub seen-next-spec : {M : Type 1} → statement M
-seen-next-spec =
+pub seen_next_spec : {M : Type 1} → statement M
+seen_next_spec =
     tie.close
     (tie.spec
-    returns
-    returns-2
-    returns-3
-    sub-d
+    returns-then-y-eq-ABSENT_WIDE
+    returns-then-x-eq-ABSENT_WIDE
+    returns-then-y-eq-ABSENT_WIDE-2
+    overflow_sub-d
     (λ c. search rules)
     (λ c. search rules)
     (λ c. search rules)
-    returns-4
-    returns-5
-    returns-6
-    returns-7)
+    returns-in-Nothing
+    returns-then-d-e
+    returns-else-d-e
+    returns-in-Clash)

@@ -5,14 +5,20 @@ use Rattle.plans.specs.Comparing.{settled}
 use Rattle.plans.proofs.common.settle.Statement.{statement}
 use Rattle.plans.proofs.common.settle.Tie as tie
 
-returns : tie.Need-returns
-returns c = sym (ap settled c.enum_told.given.1)
+returns-in-Nothing : tie.Need-returns-in-Nothing
+returns-in-Nothing c = sym (ap settled c.in-Nothing.is)
 
-returns-2 : tie.Need-returns-2
-returns-2 c = ap Common (search rules) ∙ sym (ap settled c.before.seen.given.1)
+returns-in-One : tie.Need-returns-in-One
+returns-in-One c = ap Common (search rules) ∙ sym (ap settled c.in-One.is)
 
-returns-3 : tie.Need-returns-3
-returns-3 c = sym (ap settled c.enum-told2.given.1)
+returns-in-Clash : tie.Need-returns-in-Clash
+returns-in-Clash c = sym (ap settled c.in-Clash.is)
 
-pub settle-spec : {M : Type 1} → statement M
-settle-spec = tie.close (tie.spec (λ c. search rules) (λ c. search rules) (λ c. search rules) returns returns-2 returns-3)
+pub settle_spec : {M : Type 1} → statement M
+settle_spec = tie.close (tie.spec
+    (λ c. search rules)
+    (λ c. search rules)
+    (λ c. search rules)
+    returns-in-Nothing
+    returns-in-One
+    returns-in-Clash)

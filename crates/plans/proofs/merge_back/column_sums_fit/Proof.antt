@@ -23,16 +23,16 @@ use Rattle.plans.proofs.merge_back.column_sums_fit.Tie as tie
 abbrev right : ℕ → List ℤ → ℕ → ℤ → ℕ → Bool
 right n table v d u = fits delay_limit (graph_of n table u v ⊕ at d)
 
-abbrev invariant-loop : tie.invariant-loop
+abbrev invariant-loop : tie.invariant-loop-u
 invariant-loop table v d n u₀ u = (u ≤ n) × (every u (right n table v (to_z w32 d)) ≡ true)
 
-abbrev decreases-loop : tie.decreases-loop
+abbrev decreases-loop : tie.decreases-loop-u
 decreases-loop table v d n u₀ u = n - u
 
-loop-holds : tie.Need-loop-init invariant-loop decreases-loop
-loop-holds c = (omega arith, every_none _)
+loop-u-init : tie.Need-loop-u-init invariant-loop decreases-loop
+loop-u-init c = (omega arith, every_none _)
 
-module _ (c : tie.In-loop invariant-loop decreases-loop) where
+module _ (c : tie.In-loop-u invariant-loop decreases-loop) where
   abbrev start : tie.Start invariant-loop decreases-loop
   start = c.before.before
 
@@ -46,60 +46,60 @@ module _ (c : tie.In-loop invariant-loop decreases-loop) where
   v = start.args.v
 
   abbrev u : ℕ
-  u = c.before.loop.u
+  u = c.loop-u.u
 
   row : n * u + n ≤ n * n
-  row = row_in n u c.loop-test.true
+  row = row_in n u c.loop-u-test.true
 
-mul_at : tie.Need-overflow-mul-at invariant-loop decreases-loop
-mul_at c = omega (arith, row c, (start c).requires.0.room)
+overflow_mul-at : tie.Need-overflow_mul-at invariant-loop decreases-loop
+overflow_mul-at c = omega (arith, row c, (start c).requires.0.room)
 
-add_at : tie.Need-overflow-add-at invariant-loop decreases-loop
-add_at c = omega (arith, row c, (start c).requires.0.room)
+overflow_add-at : tie.Need-overflow_add-at invariant-loop decreases-loop
+overflow_add-at c = omega (arith, row c, (start c).requires.0.room)
 
-mul-sum-fits : tie.Need-overflow-mul-sum-fits invariant-loop decreases-loop
-mul-sum-fits c = omega (arith, row c, (start c).requires.0.room)
+offset_bounds-table-at : tie.Need-offset_bounds-table-at invariant-loop decreases-loop
+offset_bounds-table-at c = omega (arith, row c, (start c).requires.0.room)
 
-shared-slice-copy-out-sum-fits : tie.Need-shared-slice-copy-out-sum-fits invariant-loop decreases-loop
-shared-slice-copy-out-sum-fits c = omega (arith, row c, (start c).requires.0.room, (start c).requires.1.0)
+bounds-table-at : tie.Need-bounds-table-at invariant-loop decreases-loop
+bounds-table-at c = omega (arith, row c, (start c).requires.0.room, (start c).requires.1.0)
 
 -- a turn's sum, with the number as the loop carries it
-said : (c : tie.After-sum-fits invariant-loop decreases-loop) → let i = c.before.before in right (n i) (t i) (v i) (to_z w32 (of_z w32 (start i).args.d)) (u i) ≡ c.sum_fits.result
+said : (c : tie.After-sum_fits invariant-loop decreases-loop) → let i = c in right (n i.before.before) (t i.before.before) (v i.before.before) (to_z w32 (of_z w32 (start i.before.before).args.d)) (u i.before.before) ≡ c.sum_fits.result
 said c =
-    let i = c.before.before in
-    let s = start i in
+    let i = c in
+    let s = start i.before.before in
     sym (c.sum_fits.ensures
-    ∙ ap₂ (λ (x y : Delay). fits delay_limit (x ⊕ y)) (ap (read_cell absent_cell) (back w32 _ c.before.sum-fits-arg.given) ∙ sym (graph_of_at (n i) (t i) (u i) (v i) i.loop-test.true s.pre.1.0))
-    (ap (read_cell absent_cell) (to_z-of_z s.fits.d) ∙ delay_cell s.args.d s.pre.1.1 ∙ ap at (sym (to_z-of_z s.fits.d))))
+    ∙ ap₂ (λ (x y : Delay). fits delay_limit (x ⊕ y)) (ap (read_cell absent_cell) (back w32 _ c.sum_fits-arg-1.given) ∙ sym (graph_of_at (n i.before.before) (t i.before.before) (u i.before.before) (v i.before.before) i.loop-u-test.true s.requires.1.0))
+    (ap (read_cell absent_cell) (to_z-of_z s.ranges.d) ∙ delay_cell s.args.d s.requires.1.1 ∙ ap at (sym (to_z-of_z s.ranges.d))))
+
+returns-then-not-sum_fits : tie.Need-returns-then-not-sum_fits invariant-loop decreases-loop
+returns-then-not-sum_fits c =
+    let i = c in
+    sym (every_broken (n i.before.before.before) (right (n i.before.before.before) (t i.before.before.before) (v i.before.before.before) (start i.before.before.before).args.d) (u i.before.before.before) i.loop-u-test.true (rw (to_z-of_z {w = w32} (start i.before.before.before).ranges.d) at (said c.before) ∙ not-true _ c.if-not-sum_fits.true-raw))
+
+loop-u-preserved : tie.Need-loop-u-preserved invariant-loop decreases-loop
+loop-u-preserved c = let i = c in (omega (arith, i.loop-u-test.true), every_more _ _ i.loop-u.invariant.1 (said c.before ∙ not-false _ c.if-not-sum_fits.false-raw))
 
 returns : tie.Need-returns invariant-loop decreases-loop
 returns c =
-    let i = c.before.before.before in
-    sym (every_broken (n i) (right (n i) (t i) (v i) (start i).args.d) (u i) i.loop-test.true (rw (to_z-of_z {w = w32} (start i).ranges.d) at (said c.before) ∙ not-true _ c.if1.true))
+    let s = c in
+    let e : c.loop-u.u ≡ s.args.board.vertices = omega arith in
+    sym (rw (e, to_z-of_z {w = w32} s.ranges.d) at c.loop-u.invariant.1)
 
-loop-again : tie.Need-loop-preserved invariant-loop decreases-loop
-loop-again c = let i = c.before.before.before in (omega (arith, i.loop-test.true), every_more _ _ i.before.loop.invariant.1 (said c.before ∙ not-false _ c.if1.false))
-
-returns-2 : tie.Need-returns-2 invariant-loop decreases-loop
-returns-2 c =
-    let s = c.before.before in
-    let e : c.before.loop.u ≡ s.args.board.vertices = omega arith in
-    sym (rw (e, to_z-of_z {w = w32} s.ranges.d) at c.before.loop.invariant.1)
-
-pub column-sums-fit-spec : {M : Type 1} → statement M
-column-sums-fit-spec =
+pub column_sums_fit_spec : {M : Type 1} → statement M
+column_sums_fit_spec =
     tie.close
     (tie.spec
     invariant-loop
     decreases-loop
-    loop-holds
-    mul_at
-    add_at
-    mul-sum-fits
-    shared-slice-copy-out-sum-fits
+    loop-u-init
+    overflow_mul-at
+    overflow_add-at
+    offset_bounds-table-at
+    bounds-table-at
     (λ c κs. tt)
-    returns
+    returns-then-not-sum_fits
     (λ c. omega arith)
     (λ c. omega arith)
-    loop-again
-    returns-2)
+    loop-u-preserved
+    returns)

@@ -48,112 +48,112 @@ module _ (c : tie.Start) where
 and_none : (a : Bool) → (a && false) ≡ false
 and_none a = is_false (a && false) (λ t. (and_e a false t).1)
 
-is-output-requires : tie.Need-is-output-requires
-is-output-requires c κs = c.requires.0.sized
+is_output-requires : tie.Need-is_output-requires
+is_output-requires c κs = c.requires.0.sized
 
-returns : tie.Need-returns
+returns-then-not-is_output : tie.Need-returns-then-not-is_output
 unfolding merge_back_verdict
-returns c = simp (sym c.before.is_output_lem.ensures ∙ not-true _ c.if1.true)
+returns-then-not-is_output c = simp (sym c.is_output_lem.ensures ∙ not-true _ c.if-not-is_output.true-raw)
 
 -- o has passed the first condition
-module _ (c : tie.Else1) where
+module _ (c : tie.Else-not-is_output) where
   abbrev start : tie.Start
   start = c.before.before
 
   output : is_output (m start) (outs start) (o start) ≡ true
-  output = sym c.before.is_output_lem.ensures ∙ not-false _ c.if1.false
+  output = sym c.is_output_lem.ensures ∙ not-false _ c.if-not-is_output.false-raw
 
   inside : o start < n start
-  inside = output_below (m start) (outs start) (n start) (o start) start.pre.0.sized.roles (true_is output)
+  inside = output_below (m start) (outs start) (n start) (o start) start.requires.0.sized.roles (true_is output)
 
-next-into-requires : tie.Need-next-into-requires
-next-into-requires c κs = ((start c).requires.0, (inside c, omega arith))
+next_into-v-requires : tie.Need-next_into-v-requires
+next_into-v-requires c κs = ((start c).requires.0, (inside c, omega arith))
 
 -- the first vertex with an arc to o
-module _ (c : tie.After-next-into) where
-  abbrev role : tie.Else1
+module _ (c : tie.After-next_into-v) where
+  abbrev role : tie.Else-not-is_output
   role = c.before
 
   abbrev s : tie.Start
   s = start role
 
   abbrev v : ℕ
-  v = c.next-into.result
+  v = c.next_into-v.result
 
-  v-is : v ≡ driver (n s) (g s) (o s)
+  v_is : v ≡ driver (n s) (g s) (o s)
   unfolding driver
-  v-is = next_first (n s) (g s) (o s) v c.next-into.ensures
+  v_is = next_first (n s) (g s) (o s) v c.next_into-v.ensures
 
-is-inner-requires : tie.Need-is-inner-requires
-is-inner-requires c κs = (s c).requires.0.sized
+is_inner-requires : tie.Need-is_inner-requires
+is_inner-requires c κs = (s c).requires.0.sized
 
 -- what the call says of the driver
-inner-said : (c : tie.After-is-inner) → let i = s c.before in is_inner (m i) (outs i) (n i) (driver (n i) (g i) (o i)) ≡ c.is-inner.result
-inner-said c = let i = s c.before in sym (c.is-inner.ensures ∙ ap (is_inner (m i) (outs i) (n i)) (v-is c.before))
+inner_said : (c : tie.After-is_inner) → let i = s c.before in is_inner (m i) (outs i) (n i) (driver (n i) (g i) (o i)) ≡ c.is_inner.result
+inner_said c = let i = s c.before in sym (c.is_inner.ensures ∙ ap (is_inner (m i) (outs i) (n i)) (v_is c.before))
 
-returns-2 : tie.Need-returns-2
+returns-then-not-is_inner : tie.Need-returns-then-not-is_inner
 unfolding merge_back_verdict
-returns-2 c =
-    let f = c.before.before in
-    simp (output (role f), inner-said c.before ∙ not-true _ c.if2.true, and_none (eqb (fan_in (n (s f)) (g (s f)) (o (s f))) 1))
+returns-then-not-is_inner c =
+    let f = c in
+    simp (output (role f.before.before), inner_said c.before ∙ not-true _ c.if-not-is_inner.true-raw, and_none (eqb (fan_in (n (s f.before.before)) (g (s f.before.before)) (o (s f.before.before))) 1))
 
 -- the driver is inner
-module _ (c : tie.Else2) where
-  abbrev first : tie.After-next-into
+module _ (c : tie.Else-not-is_inner) where
+  abbrev first : tie.After-next_into-v
   first = c.before.before
 
   inner : is_inner (m (s first)) (outs (s first)) (n (s first)) (driver (n (s first)) (g (s first)) (o (s first))) ≡ true
-  inner = inner-said c.before ∙ not-false _ c.if2.false
+  inner = inner_said c.before ∙ not-false _ c.if-not-is_inner.false-raw
 
   below : driver (n (s first)) (g (s first)) (o (s first)) < n (s first)
   below = inner_below (m (s first)) (outs (s first)) (n (s first)) (driver (n (s first)) (g (s first)) (o (s first))) (true_is inner)
 
   v_below : v first < n (s first)
-  v_below = omega (arith, v-is first, below)
+  v_below = omega (arith, v_is first, below)
 
   row : n (s first) * v first + n (s first) ≤ n (s first) * n (s first)
   row = row_in (n (s first)) (v first) v_below
 
   drives : Drives (n (s first)) (t (s first)) (driver (n (s first)) (g (s first)) (o (s first))) (o (s first)) (driver_delay (n (s first)) (g (s first)) (o (s first)))
-  drives = driver_drives (n (s first)) (t (s first)) (o (s first)) (s first).pre.1 (inside (role first)) below
+  drives = driver_drives (n (s first)) (t (s first)) (o (s first)) (s first).requires.1 (inside (role first)) below
 
-add-next-into : tie.Need-overflow-add-next-into
-add-next-into c = omega (arith, v_below c, (s (first c)).pre.0.sized.few)
+overflow_add-v : tie.Need-overflow_add-v
+overflow_add-v c = omega (arith, v_below c, (s (first c)).requires.0.sized.few)
 
-next-into-requires-2 : tie.Need-next-into-requires-2
-next-into-requires-2 c κs = ((s (first c)).pre.0, (inside (role (first c)), omega (arith, v_below c)))
+next_into-requires : tie.Need-next_into-requires
+next_into-requires c κs = ((s (first c)).requires.0, (inside (role (first c)), omega (arith, v_below c)))
 
 -- what the second search says
-single : (c : tie.After-next-into2) → let i = s (first c.before) in eqb c.next-into2.result (n i) ≡ eqb (fan_in (n i) (g i) (o i)) 1
+single : (c : tie.After-next_into) → let i = s (first c.before) in eqb c.next_into.result (n i) ≡ eqb (fan_in (n i) (g i) (o i)) 1
 single c =
-    let e = c.before in
-    one_says (n (s (first e))) (g (s (first e))) (o (s (first e))) (v (first e)) (first e).next-into.ensures (v_below e) c.next-into2.result c.next-into2.ensures
+    let e = c in
+    one_says (n (s (first e.before))) (g (s (first e.before))) (o (s (first e.before))) (v (first e.before)) (first e.before).next_into-v.ensures (v_below e.before) c.next_into.result c.next_into.ensures
 
-returns-3 : tie.Need-returns-3
+returns-then-next_into-n : tie.Need-returns-then-next_into-n
 unfolding merge_back_verdict
-returns-3 c =
-    let e = c.before.before in
-    simp (output (role (first e)), sym (single c.before) ∙ ne_eqb _ (n (s (first e))) c.if3.true)
+returns-then-next_into-n c =
+    let e = c in
+    simp (output (role (first e.before.before)), sym (single c.before) ∙ ne_eqb _ (n (s (first e.before.before))) c.if-next_into-n.true)
 
 -- one arc leads to o
-one : (c : tie.Else3) → let i = s (first c.before.before) in eqb (fan_in (n i) (g i) (o i)) 1 ≡ true
-one c = sym (single c.before) ∙ eq-eqb _ (n (s (first c.before.before))) c.if3.false
+one : (c : tie.Else-next_into-n) → let i = s (first c.before.before) in eqb (fan_in (n i) (g i) (o i)) 1 ≡ true
+one c = sym (single c.before) ∙ eq-eqb _ (n (s (first c.before.before))) c.if-next_into-n.false
 
-mul_at : tie.Need-overflow-mul-at
-mul_at c = let e = c.before.before in omega (arith, row e, (s (first e)).pre.0.room)
+overflow_mul-at : tie.Need-overflow_mul-at
+overflow_mul-at c = let e = c in omega (arith, row e.before.before, (s (first e.before.before)).requires.0.room)
 
-add_at : tie.Need-overflow-add-at
-add_at c = let e = c.before.before in omega (arith, row e, (s (first e)).pre.0.room, inside (role (first e)))
+overflow_add-at : tie.Need-overflow_add-at
+overflow_add-at c = let e = c in omega (arith, row e.before.before, (s (first e.before.before)).requires.0.room, inside (role (first e.before.before)))
 
-mul-d : tie.Need-overflow-mul-d
-mul-d c = let e = c.before.before in omega (arith, row e, (s (first e)).pre.0.room, inside (role (first e)))
+offset_bounds-table-at : tie.Need-offset_bounds-table-at
+offset_bounds-table-at c = let e = c in omega (arith, row e.before.before, (s (first e.before.before)).requires.0.room, inside (role (first e.before.before)))
 
-shared-slice-copy-out-d : tie.Need-shared-slice-copy-out-d
-shared-slice-copy-out-d c = let e = c.before.before in omega (arith, row e, (s (first e)).pre.0.room, inside (role (first e)))
+bounds-table-at : tie.Need-bounds-table-at
+bounds-table-at c = let e = c in omega (arith, row e.before.before, (s (first e.before.before)).requires.0.room, inside (role (first e.before.before)))
 
 -- the delay has been read
-module _ (c : tie.After-d) where
-  abbrev e : tie.Else2
+module _ (c : tie.After-d-1) where
+  abbrev e : tie.Else-not-is_inner
   e = c.before.before.before
 
   abbrev i : tie.Start
@@ -162,52 +162,52 @@ module _ (c : tie.After-d) where
   abbrev d : ℤ
   d = to_z w32 (of_z w32 (get_or (t i) (n i * v (first e) + o i) (pos 0)))
 
-  d-is : d ≡ driver_delay (n i) (g i) (o i)
-  d-is = cell_ticks_lem d (driver_delay (n i) (g i) (o i))
-      (ap (read_cell absent_cell) (back w32 _ c.d.given)
+  d_is : d ≡ driver_delay (n i) (g i) (o i)
+  d_is = cell_ticks_lem d (driver_delay (n i) (g i) (o i))
+      (ap (read_cell absent_cell) (back w32 _ c.d-1.given)
       ∙ sym (graph_of_at (n i) (t i) (v (first e)) (o i) (v_below e) (inside (role (first e))))
-      ∙ ap (λ (x : ℕ). g i x (o i)) (v-is (first e)) ∙ (drives e).arc)
+      ∙ ap (λ (x : ℕ). g i x (o i)) (v_is (first e)) ∙ (drives e).arc)
 
-same-drives : {N : ℕ} {t : List ℤ} {o v w : ℕ} {d z : ℤ} → v ≡ w → d ≡ z → Drives N t w o z → Drives N t v o d
-same-drives p q h = rw (p, q) h
+same_drives : {N : ℕ} {t : List ℤ} {o v w : ℕ} {d z : ℤ} → v ≡ w → d ≡ z → Drives N t w o z → Drives N t v o d
+same_drives p q h = rw (p, q) h
 
-merge-fits-requires : tie.Need-merge-fits-requires
-merge-fits-requires c κs = ((i c).requires.0, ((i c).requires.1, same-drives (v-is (first (e c))) (d-is c) (drives (e c))))
+merge_fits-requires : tie.Need-merge_fits-requires
+merge_fits-requires c κs = ((i c).requires.0, ((i c).requires.1, same_drives (v_is (first (e c))) (d_is c) (drives (e c))))
 
-said : (c : tie.After-merge-fits) → let q = i c.before in merge_fits (n q) (g q) (driver (n q) (g q) (o q)) (o q) (driver_delay (n q) (g q) (o q)) ≡ c.merge-fits.result
+said : (c : tie.After-merge_fits) → let q = i c.before in merge_fits (n q) (g q) (driver (n q) (g q) (o q)) (o q) (driver_delay (n q) (g q) (o q)) ≡ c.merge_fits.result
 said c =
-    let a = c.before in
-    sym (c.merge-fits.ensures ∙ ap₂ (λ (x : ℕ) (y : ℤ). merge_fits (n (i a)) (g (i a)) x (o (i a)) y) (v-is (first (e a))) (d-is a))
+    let a = c in
+    sym (c.merge_fits.ensures ∙ ap₂ (λ (x : ℕ) (y : ℤ). merge_fits (n (i a.before)) (g (i a.before)) x (o (i a.before)) y) (v_is (first (e a.before))) (d_is a.before))
 
-returns-4 : tie.Need-returns-4
+returns-then-not-merge_fits : tie.Need-returns-then-not-merge_fits
 unfolding merge_back_verdict
-returns-4 c =
-    let a = c.before.before in
-    simp (output (role (first (e a))), one a.before, inner (e a), said c.before ∙ not-true _ c.if4.true)
+returns-then-not-merge_fits c =
+    let a = c in
+    simp (output (role (first (e a.before.before))), one a.before.before.before, inner (e a.before.before), said c.before ∙ not-true _ c.if-not-merge_fits.true-raw)
 
-returns-5 : tie.Need-returns-5
+returns : tie.Need-returns
 unfolding merge_back_verdict
-returns-5 c =
-    let a = c.before.before in
-    simp (output (role (first (e a))), one a.before, inner (e a), said c.before ∙ not-false _ c.if4.false)
-    (ap₂ (λ (x : ℕ) (y : ℤ). accepted (x, y)) (v-is (first (e a))) (d-is a))
+returns c =
+    let a = c in
+    simp (output (role (first (e a.before.before))), one a.before.before.before, inner (e a.before.before), said c.before ∙ not-false _ c.if-not-merge_fits.false-raw)
+    (ap₂ (λ (x : ℕ) (y : ℤ). accepted (x, y)) (v_is (first (e a.before.before))) (d_is a.before.before))
 
-pub merge-back-verdict-spec : {M : Type 1} → statement M
-merge-back-verdict-spec =
+pub merge_back_verdict_spec : {M : Type 1} → statement M
+merge_back_verdict_spec =
     tie.close
     (tie.spec
-    is-output-requires
-    returns
-    next-into-requires
-    is-inner-requires
-    returns-2
-    add-next-into
-    next-into-requires-2
-    returns-3
-    mul_at
-    add_at
-    mul-d
-    shared-slice-copy-out-d
-    merge-fits-requires
-    returns-4
-    returns-5)
+    is_output-requires
+    returns-then-not-is_output
+    next_into-v-requires
+    is_inner-requires
+    returns-then-not-is_inner
+    overflow_add-v
+    next_into-requires
+    returns-then-next_into-n
+    overflow_mul-at
+    overflow_add-at
+    offset_bounds-table-at
+    bounds-table-at
+    merge_fits-requires
+    returns-then-not-merge_fits
+    returns)

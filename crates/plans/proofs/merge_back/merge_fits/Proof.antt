@@ -38,64 +38,64 @@ module _ (c : tie.Start) where
   row : n * v + n ≤ n * n
   row = row_in n v c.requires.1.1.from_below
 
-column-sums-fit-requires : tie.Need-column-sums-fit-requires
-column-sums-fit-requires c κs = (c.requires.0, (c.requires.1.1.from_below, rw (to_z-of_z {w = w32} c.ranges.d) c.requires.1.1.legal))
+column_sums_fit-requires : tie.Need-column_sums_fit-requires
+column_sums_fit-requires c κs = (c.requires.0, (c.requires.1.1.from_below, rw (to_z-of_z {w = w32} c.ranges.d) c.requires.1.1.legal))
 
-sums : (c : tie.After-column-sums-fit) → let s = c.before in every (n s) (λ u. fits delay_limit (g s u (v s) ⊕ at (d s))) ≡ c.column-sums-fit.result
-sums c = sym (rw (to_z-of_z {w = w32} c.before.ranges.d) at c.column-sums-fit.ensures)
+sums : (c : tie.After-column_sums_fit) → let s = c in every (n s.before) (λ u. fits delay_limit (g s.before u (v s.before) ⊕ at (d s.before))) ≡ c.column_sums_fit.result
+sums c = sym (rw (to_z-of_z {w = w32} c.ranges.d) at c.column_sums_fit.ensures)
 
-returns : tie.Need-returns
+returns-then-not-column_sums_fit : tie.Need-returns-then-not-column_sums_fit
 unfolding merge_fits
-returns c = simp (sums c.before ∙ not-true _ c.if1.true)
+returns-then-not-column_sums_fit c = simp (sums c.before ∙ not-true _ c.if-not-column_sums_fit.true-raw)
 
-mul-from : tie.Need-overflow-mul-from
-mul-from c = let s = c.before.before in omega (arith, row s, s.requires.0.room)
+overflow_mul-from : tie.Need-overflow_mul-from
+overflow_mul-from c = let s = c in omega (arith, row s.before.before, s.requires.0.room)
 
 negated-requires : tie.Need-negated-requires
-negated-requires c κs = let s = c.before.before in rw (to_z-of_z {w = w32} s.ranges.d) s.requires.1.1.legal
+negated-requires c κs = let s = c in rw (to_z-of_z {w = w32} s.ranges.d) s.requires.1.1.legal
 
-mul-row-sums-fit : tie.Need-overflow-mul-row-sums-fit
-mul-row-sums-fit c = let s = c.before.before.before in omega (arith, row s, s.requires.0.room)
+offset_bounds-table-from : tie.Need-offset_bounds-table-from
+offset_bounds-table-from c = let s = c in omega (arith, row s.before.before.before, s.requires.0.room)
 
-sub-row-sums-fit : tie.Need-overflow-sub-row-sums-fit
-sub-row-sums-fit c = let s = c.before.before.before in omega (arith, row s, s.requires.0.room)
+slice_bounds-row_sums_fit-count : tie.Need-slice_bounds-row_sums_fit-count
+slice_bounds-row_sums_fit-count c = let s = c in omega (arith, row s.before.before.before, s.requires.0.room)
 
-part-row-sums-fit-start : tie.Need-slice-bounds-row-sums-fit-start
-part-row-sums-fit-start c = let s = c.before.before.before in omega (arith, row s, s.requires.0.room)
+slice_bounds-row_sums_fit-start : tie.Need-slice_bounds-row_sums_fit-start
+slice_bounds-row_sums_fit-start c = let s = c in omega (arith, row s.before.before.before, s.requires.0.room)
 
 -- what the call gives
 lowered : (c : tie.After-negated) → to_z w32 (of_z w32 c.negated.result) ≡ neg_ℤ (d c.before.before.before)
-lowered c = let s = c.before.before.before in negated_is s.ranges.d s.requires.1.1.legal c.negated.ensures
+lowered c = let s = c in negated_is s.ranges.d s.requires.1.1.legal c.negated.ensures
 
-row-sums-fit-requires : tie.Need-row-sums-fit-requires
-row-sums-fit-requires c κs =
-    let a = c.before in
-    let s = a.before.before.before in
-    (lent_long (n s) s.args.table.now (v s) s.requires.0.room s.requires.1.1.from_below, (rw (lowered a) (negated_fits (d s) s.requires.1.1.legal), lent_fits_lem (n s) s.args.table.now (v s) s.requires.0.room s.requires.1.1.from_below s.requires.1.0))
+row_sums_fit-requires : tie.Need-row_sums_fit-requires
+row_sums_fit-requires c κs =
+    let a = c in
+    let s = a in
+    (lent_long (n s.before.before.before.before) s.args.table.now (v s.before.before.before.before) s.requires.0.room s.requires.1.1.from_below, (rw (lowered a.before) (negated_fits (d s.before.before.before.before) s.requires.1.1.legal), lent_fits_lem (n s.before.before.before.before) s.args.table.now (v s.before.before.before.before) s.requires.0.room s.requires.1.1.from_below s.requires.1.0))
 
-differences : (c : tie.After-row-sums-fit) → let s = c.before.before.before.before.before in every (n s) (λ t. eqb t s.args.o || fits delay_limit (g s (v s) t ⊕ at (neg_ℤ (d s)))) ≡ c.row-sums-fit.result
+differences : (c : tie.After-row_sums_fit) → let s = c in every (n s.before.before.before.before.before) (λ t. eqb t s.args.o || fits delay_limit (g s.before.before.before.before.before (v s.before.before.before.before.before) t ⊕ at (neg_ℤ (d s.before.before.before.before.before)))) ≡ c.row_sums_fit.result
 differences c =
-    let a = c.before.before in
-    let s = a.before.before.before in
-    sym (c.row-sums-fit.ensures
-    ∙ every_same (n s) _ _ (λ t l. ap₂ (λ (x : ℤ) (y : Delay). fits delay_limit (at x ⊕ y)) (lowered a) (lent_cell (n s) s.args.table.now (v s) s.requires.0.room s.requires.1.1.from_below t l))
-    ∙ lowered_same (n s) (g s) (v s) s.args.o (d s) s.requires.1.1.arc)
+    let a = c in
+    let s = a in
+    sym (c.row_sums_fit.ensures
+    ∙ every_same (n s.before.before.before.before.before) _ _ (λ t l. ap₂ (λ (x : ℤ) (y : Delay). fits delay_limit (at x ⊕ y)) (lowered a.before.before) (lent_cell (n s.before.before.before.before.before) s.args.table.now (v s.before.before.before.before.before) s.requires.0.room s.requires.1.1.from_below t l))
+    ∙ lowered_same (n s.before.before.before.before.before) (g s.before.before.before.before.before) (v s.before.before.before.before.before) s.args.o (d s.before.before.before.before.before) s.requires.1.1.arc)
 
-returns-2 : tie.Need-returns-2
+returns : tie.Need-returns
 unfolding merge_fits
-returns-2 c = let e = c.before.before.before in simp (sums e.before ∙ not-false _ e.if1.false, differences c)
+returns c = let e = c in simp (sums e.before.before.before.before ∙ not-false _ e.if-not-column_sums_fit.false-raw, differences c)
 
-pub merge-fits-spec : {M : Type 1} → statement M
-merge-fits-spec =
+pub merge_fits_spec : {M : Type 1} → statement M
+merge_fits_spec =
     tie.close
     (tie.spec
-    column-sums-fit-requires
-    returns
-    mul-from
+    column_sums_fit-requires
+    returns-then-not-column_sums_fit
+    overflow_mul-from
     negated-requires
-    mul-row-sums-fit
-    sub-row-sums-fit
-    part-row-sums-fit-start
+    offset_bounds-table-from
+    slice_bounds-row_sums_fit-count
+    slice_bounds-row_sums_fit-start
     (λ c. omega arith)
-    row-sums-fit-requires
-    returns-2)
+    row_sums_fit-requires
+    returns)

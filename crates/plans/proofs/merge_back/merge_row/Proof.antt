@@ -23,20 +23,20 @@ use Rattle.plans.proofs.MergedRows.{driver_row, output_row, other_row}
 use Rattle.plans.proofs.merge_back.merge_row.Statement.{statement}
 use Rattle.plans.proofs.merge_back.merge_row.Tie as tie
 
-returns : tie.Need-returns
-returns c =
-    let t = c.before.before.before in
-    let a = t.before.args in
-    c.before.clear.ensures ∙ driver_row a.row.now a.via.now a.v a.o a.d a.u t.if1.true
+returns-then-u-v : tie.Need-returns-then-u-v
+returns-then-u-v c =
+    let t = c in
+    let a = t.args in
+    c.clear.ensures ∙ driver_row a.row.now a.via.now a.v a.o a.d a.u t.if-u-v.true
 
-mul-into : tie.Need-overflow-mul-into
-mul-into c = omega (arith, c.before.requires.redirectable.from_inside)
+offset_bounds-row-v : tie.Need-offset_bounds-row-v
+offset_bounds-row-v c = omega (arith, c.requires.redirectable.from_inside)
 
-slice-copy-out-into : tie.Need-slice-copy-out-into
-slice-copy-out-into c = c.before.requires.redirectable.from_inside
+slice_copy_out-into : tie.Need-slice_copy_out-into
+slice_copy_out-into c = c.requires.redirectable.from_inside
 
 -- the cell of u→v has been read
-module _ (c : tie.After-into) where
+module _ (c : tie.After-into-1) where
   abbrev start : tie.Start
   start = c.before.before
 
@@ -58,62 +58,62 @@ module _ (c : tie.After-into) where
   abbrev u : ℕ
   u = start.args.u
 
-  into-is : to_z w32 (of_z w32 (get_or row v (pos 0))) ≡ get_or row v (pos 0)
-  into-is = back w32 _ c.into.given
+  into_is : to_z w32 (of_z w32 (get_or row v (pos 0))) ≡ get_or row v (pos 0)
+  into_is = back w32 _ c.into-1.given
 
 negated-requires : tie.Need-negated-requires
-negated-requires c κs = let i = c.before.before in rw (to_z-of_z {w = w32} (start i).ranges.d) (start i).requires.redirectable.legal
+negated-requires c κs = let i = c in rw (to_z-of_z {w = w32} (start i.before.before).ranges.d) (start i.before.before).requires.redirectable.legal
 
 lowered : (c : tie.After-negated) → read_cell absent_cell (to_z w32 (of_z w32 c.negated.result)) ≡ at (neg_ℤ (d c.before.before.before))
-lowered c = let i = c.before.before.before in negated_cell (start i).ranges.d (start i).requires.redirectable.legal c.negated.ensures
+lowered c = let i = c in negated_cell (start i.before.before.before).ranges.d (start i.before.before.before).requires.redirectable.legal c.negated.ensures
 
-join-row-requires : tie.Need-join-row-requires
-join-row-requires c κs = let i = c.before.before.before in ((start i).requires.few, rw (lowered c) (start i).requires.lowered_fit)
+join_row-requires : tie.Need-join_row-requires
+join_row-requires c κs = let i = c in ((start i.before.before.before).requires.few, rw (lowered c) (start i.before.before.before).requires.lowered_fit)
 
 -- what `redirect` makes of the row that it is given
-module _ (c : tie.Joined2) where
-  abbrev i : tie.After-into
+module _ (c : tie.Joined-u-o) where
+  abbrev i : tie.After-into-1
   i = c.before
 
-  ready : (length c.if2.row ≡ length (row i))
-      × (tabulate (length c.if2.row) (redirected_cell c.if2.row (cell_at (row i) (v i)) (v i) (o i) (d i)) ≡ tabulate (length (row i)) (merged_cell (row i) (via i) (v i) (o i) (d i) (u i)))
-  ready = split c.if2.branch
+  ready : (length c.if-u-o.row ≡ length (row i))
+      × (tabulate (length c.if-u-o.row) (redirected_cell c.if-u-o.row (cell_at (row i) (v i)) (v i) (o i) (d i)) ≡ tabulate (length (row i)) (merged_cell (row i) (via i) (v i) (o i) (d i) (u i)))
+  ready = split c.if-u-o.branch-raw
       (λ w.
-      let joined : c.if2.row ≡ tabulate (length (row i)) (joined_cell (row i) (via i) (at (neg_ℤ (d i)))) =
+      let joined : c.if-u-o.row ≡ tabulate (length (row i)) (joined_cell (row i) (via i) (at (neg_ℤ (d i)))) =
       w.5 ∙ w.3.ensures ∙ ap (λ (x : Delay). tabulate (length (row i)) (joined_cell (row i) (via i) x)) (lowered (record { before = record { before = record { before = i; if2 = w.0 }; join-row-arg = w.1 }; negated = w.2 })) in
-      (ap length joined ∙ length-tabulate _ (length (row i)), output_row (row i) (via i) (v i) (o i) (d i) (u i) i.before.if1.left w.0.taken c.if2.row joined))
-      (λ w. (ap length w.1, other_row (row i) (via i) (v i) (o i) (d i) (u i) i.before.if1.left w.0.left c.if2.row w.1))
+      (ap length joined ∙ length-tabulate _ (length (row i)), output_row (row i) (via i) (v i) (o i) (d i) (u i) i.if-u-v.false w.0.taken c.if-u-o.row joined))
+      (λ w. (ap length w.join_row-arg-1, other_row (row i) (via i) (v i) (o i) (d i) (u i) i.if-u-v.false w.if-u-o.false c.if-u-o.row w.join_row-arg-1))
 
 redirect-requires : tie.Need-redirect-requires
 redirect-requires c κs =
-    let j = c.before in
-    let p = (start (i j)).pre.redirectable in
+    let j = c in
+    let p = (start (i j.before)).requires.redirectable in
     record {
-      from_inside = omega (arith, (ready j).0, p.from_inside);
-      to_inside = omega (arith, (ready j).0, p.to_inside);
-      legal = rw (to_z-of_z {w = w32} (start (i j)).fits.d) p.legal;
-      sum_fits = rw (to_z-of_z {w = w32} (start (i j)).fits.d, into-is (i j)) p.sum_fits;
+      from_inside = omega (arith, (ready j.before).0, p.from_inside);
+      to_inside = omega (arith, (ready j.before).0, p.to_inside);
+      legal = rw (to_z-of_z {w = w32} (start (i j.before)).ranges.d) p.legal;
+      sum_fits = rw (to_z-of_z {w = w32} (start (i j.before)).ranges.d, into_is (i j.before)) p.sum_fits;
     }
 
-same-length-2 : tie.Need-same-length-2
-same-length-2 c = search (rules, (ready c.before.before.before).0)
+shape_of-row : tie.Need-shape_of-row
+shape_of-row c = search (rules, (ready c.before.before.before).0)
 
-returns-2 : tie.Need-returns-2
-returns-2 c =
-    let j = c.before.before.before in
-    rw (to_z-of_z {w = w32} (start (i j)).fits.d, into-is (i j)) at c.before.redirect.ensures ∙ (ready j).1
+returns : tie.Need-returns
+returns c =
+    let j = c in
+    rw (to_z-of_z {w = w32} (start (i j.before.before.before)).ranges.d, into_is (i j.before.before.before)) at c.redirect.ensures ∙ (ready j.before.before.before).1
 
-pub merge-row-spec : {M : Type 1} → statement M
-merge-row-spec =
+pub merge_row_spec : {M : Type 1} → statement M
+merge_row_spec =
     tie.close
     (tie.spec
     (λ c κs. tt)
     (λ c. search rules)
-    returns
-    mul-into
-    slice-copy-out-into
+    returns-then-u-v
+    offset_bounds-row-v
+    slice_copy_out-into
     negated-requires
-    join-row-requires
+    join_row-requires
     redirect-requires
-    same-length-2
-    returns-2)
+    shape_of-row
+    returns)

@@ -20,11 +20,13 @@ part c = ap (λ (z : ℤ). pos 0 -ℤ z) (to_z-of_z c.ranges.d) ∙ from_zero c.
 fit : (c : tie.Start) → SFits w32 (neg_ℤ c.args.d)
 fit c = delay_narrow (neg_ℤ c.args.d) (negated_fits c.args.d c.requires)
 
-sub-result : tie.Need-overflow-sub-result
-sub-result c = subst (SFits w32) (sym (part c)) (fit c)
+overflow_sub-result : tie.Need-overflow_sub-result
+overflow_sub-result c = subst (SFits w32) (sym (part c)) (fit c)
 
 returns : tie.Need-returns
 returns c = handed w32 (part c) (fit c)
 
-pub negated-spec : {M : Type 1} → statement M
-negated-spec = tie.close (tie.spec sub-result returns)
+pub negated_spec : {M : Type 1} → statement M
+negated_spec = tie.close (tie.spec
+    overflow_sub-result
+    returns)

@@ -16,21 +16,28 @@ use Rattle.plans.proofs.merge_back.redirect.Tie as tie
 sum-requires : tie.Need-sum-requires
 sum-requires c κs = simp (to_z-of_z {w = w32} c.ranges.into, to_z-of_z {w = w32} c.ranges.d, delay_cell c.args.d c.requires.legal) c.requires.sum_fits
 
-mul-t7 : tie.Need-overflow-mul-t7
-mul-t7 c = omega (arith, c.before.requires.to_inside)
+offset_bounds-row-o : tie.Need-offset_bounds-row-o
+offset_bounds-row-o c = omega (arith, c.requires.to_inside)
 
-slice-set-from-row : tie.Need-slice-set-from-row
-slice-set-from-row c = c.before.requires.to_inside
+bounds-row-o : tie.Need-bounds-row-o
+bounds-row-o c = c.requires.to_inside
 
 returns : tie.Need-returns
 returns c =
-    let s = c.before in
+    let s = c in
     redirected_after s.args.row.now (read_cell absent_cell s.args.into) s.args.v s.args.o s.args.d _ s.requires.from_inside s.requires.to_inside
-    (ap (read_cell absent_cell) (back w32 _ c.sum.type-inv) ∙ c.sum.ensures
+    (ap (read_cell absent_cell) (back w32 _ c.sum.type_inv) ∙ c.sum.ensures
     ∙ ap₂ (λ (x y : ℤ). read_cell absent_cell x ⊕ read_cell absent_cell y) (to_z-of_z s.ranges.into) (to_z-of_z s.ranges.d)
     ∙ ap (λ x. read_cell absent_cell s.args.into ⊕ x) (delay_cell s.args.d s.requires.legal))
 
-pub redirect-spec : {M : Type 1} → statement M
-redirect-spec =
+pub redirect_spec : {M : Type 1} → statement M
+redirect_spec =
     tie.close
-    (tie.spec sum-requires mul-t7 slice-set-from-row (λ c. search rules) (λ c. search rules) (λ c. search rules) returns)
+    (tie.spec
+    sum-requires
+    offset_bounds-row-o
+    bounds-row-o
+    (λ c. search rules)
+    (λ c. search rules)
+    (λ c. search rules)
+    returns)

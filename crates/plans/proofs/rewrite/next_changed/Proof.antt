@@ -14,9 +14,9 @@ use Rattle.plans.proofs.rewrite.next_changed.Statement.{statement}
 use Rattle.plans.proofs.rewrite.next_changed.Tie as tie
 
 -- the step is a shrink
-module _ (c : tie.After-known-told) where
+module _ (c : tie.In-Shrink) where
   abbrev start : tie.Start
-  start = c.before.before.before
+  start = c.before
 
   abbrev n : ℕ
   n = start.args.board.vertices
@@ -28,37 +28,43 @@ module _ (c : tie.After-known-told) where
   from = start.args.from
 
   abbrev k : ℕ
-  k = c.before.how.given.0.0
+  k = c.in-Shrink.k
 
-  how-is : start.args.how ≡ Shrink k
-  how-is = c.before.how.given.1
+  how_is : start.args.how ≡ Shrink k
+  how_is = c.in-Shrink.is
 
   inside : k < n
-  inside = subst (λ (h : Rewriting). origin h < n) how-is start.pre.1.0
+  inside = subst (λ (h : Rewriting). origin h < n) how_is start.requires.1.0
 
   -- a search that passes no row of k's
   found : (to r : ℕ) → to ≤ n → NextInto to g k from r → ((u : ℕ) → from ≤ u → u < r → u ≢ k) → NextChanged start.args.how n g from r
   found to r l s ne =
-      subst (λ (h : Rewriting). NextChanged h n g from r) (sym how-is)
+      subst (λ (h : Rewriting). NextChanged h n g from r) (sym how_is)
       (record { past = s.past; upto = omega (arith, s.upto); untouched = λ u a b. (ne u a b, absent_bit (g u k) (s.none u a b)) })
 
-next-before-requires : tie.Need-next-before-requires
-next-before-requires c κs = let h = c.before in ((start h).requires.0, (inside h, (c.if1.true, omega (arith, inside h))))
+next_before-requires : tie.Need-next_before-requires
+next_before-requires c κs = let h = c in ((start h.before).requires.0, (inside h.before, (c.if-from-k.true, omega (arith, inside h.before))))
+
+returns-then-from-k : tie.Need-returns-then-from-k
+returns-then-from-k c =
+    let h = c in
+    found h.before.before (k h.before.before) _ (omega (arith, inside h.before.before)) c.next_before.ensures (λ u a b e. omega (arith, c.next_before.ensures.upto))
+
+next_before-requires-in-Shrink : tie.Need-next_before-requires-in-Shrink
+next_before-requires-in-Shrink c κs = let h = c in ((start h.before).requires.0, (inside h.before, ((start h.before).requires.1.1, omega arith)))
+
+returns-in-Shrink : tie.Need-returns-in-Shrink
+returns-in-Shrink c = let h = c in found h.before.before (n h.before.before) _ (omega arith) c.next_before-in-Shrink.ensures (λ u a b e. omega (arith, c.if-from-k.false))
 
 returns : tie.Need-returns
-returns c =
-    let h = c.before.before in
-    found h (k h) _ (omega (arith, inside h)) c.next-before.ensures (λ u a b e. omega (arith, c.next-before.ensures.upto))
+returns c = let s = c in record { past = omega arith; upto = s.requires.1.1; untouched = λ u a b. absurd (omega arith) }
 
-next-before-requires-2 : tie.Need-next-before-requires-2
-next-before-requires-2 c κs = let h = c.before in ((start h).requires.0, (inside h, ((start h).requires.1.1, omega arith)))
-
-returns-2 : tie.Need-returns-2
-returns-2 c = let h = c.before.before in found h (n h) _ (omega arith) c.next-before2.ensures (λ u a b e. omega (arith, c.before.if1.false))
-
-returns-3 : tie.Need-returns-3
-returns-3 c = let s = c.before in record { past = omega arith; upto = s.requires.1.1; untouched = λ u a b. absurd (omega arith) }
-
-pub next-changed-spec : {M : Type 1} → statement M
-next-changed-spec =
-    tie.close (tie.spec (λ c. search rules) next-before-requires returns next-before-requires-2 returns-2 returns-3)
+pub next_changed_spec : {M : Type 1} → statement M
+next_changed_spec =
+    tie.close (tie.spec
+    (λ c. search rules)
+    next_before-requires
+    returns-then-from-k
+    next_before-requires-in-Shrink
+    returns-in-Shrink
+    returns)

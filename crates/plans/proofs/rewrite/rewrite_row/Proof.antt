@@ -21,7 +21,7 @@ module _ (s : tie.Start) (x : Rewriting) (e : s.args.how ≡ x) where
   via = s.args.via.now
 
   asked : RowFit x row via
-  asked = subst (λ (h : Rewriting). RowFit h row via) e s.pre
+  asked = subst (λ (h : Rewriting). RowFit h row via) e s.requires
 
   left : (ys : List ℤ) → ys ≡ tabulate (length row) (rewritten_cell x row via s.args.u) → ys ≡ tabulate (length row) (rewritten_cell s.args.how row via s.args.u)
   left ys = subst (λ (h : Rewriting). ys ≡ tabulate (length row) (rewritten_cell h row via s.args.u)) (sym e)
@@ -30,59 +30,59 @@ module _ (s : tie.Start) (x : Rewriting) (e : s.args.how ≡ x) where
 carried : (f : ℤ → Rewriting) (d : ℤ) {h : Rewriting} → h ≡ f d → to_z w32 (of_z w32 d) ≡ d → h ≡ f (to_z w32 (of_z w32 d))
 carried f d e q = e ∙ sym (ap f q)
 
-shrink-row-requires : tie.Need-shrink-row-requires
-shrink-row-requires c κs = let k = c.before.before in asked k.before.before _ k.how.given.1
+shrink_row-requires : tie.Need-shrink_row-requires
+shrink_row-requires c κs = let k = c in asked k.before.before _ k.in-Shrink.is
 
-share-inputs-row-requires : tie.Need-share-inputs-row-requires
-share-inputs-row-requires c κs = let k = c.before.before in asked k.before.before _ k.how2.given.1
+share_inputs_row-requires : tie.Need-share_inputs_row-requires
+share_inputs_row-requires c κs = let k = c in asked k.before.before _ k.in-ShareInputs.is
 
-share-outputs-row-requires : tie.Need-share-outputs-row-requires
-share-outputs-row-requires c κs = let k = c.before.before in asked k.before.before _ k.how3.given.1
+share_outputs_row-requires : tie.Need-share_outputs_row-requires
+share_outputs_row-requires c κs = let k = c in asked k.before.before _ k.in-ShareOutputs.is
 
-merge-row-requires : tie.Need-merge-row-requires
-merge-row-requires c κs =
-    let k = c.before.before in
-    let g = k.how4.given.0 in
-    asked k.before.before _ (carried (MergeBack g.0 g.1.0) g.1.1.0 k.how4.given.1 (search rules))
+merge_row-requires : tie.Need-merge_row-requires
+merge_row-requires c κs =
+    let k = c in
+    let g = k.in-MergeBack.given.0 in
+    asked k.before.before _ (carried (MergeBack g.0 g.1.0) g.1.1.0 k.in-MergeBack.is (search rules))
 
-returns : tie.Need-returns
-returns c = let k = c.before.before.before.before in left k.before.before _ k.how.given.1 _ c.before.shrink-row.ensures
+returns-in-Shrink : tie.Need-returns-in-Shrink
+returns-in-Shrink c = let k = c in left k.before.before.before.before _ k.in-Shrink.is _ c.shrink_row.ensures
 
-returns-2 : tie.Need-returns-2
-returns-2 c =
-    let k = c.before.before.before.before in
-    let g = k.how2.given.0 in
-    left k.before.before _ (carried (ShareInputs g.0 g.1.0 g.1.1.0) g.1.1.1.0 k.how2.given.1 (search rules)) _ c.before.share-inputs-row.ensures
+returns-in-ShareInputs : tie.Need-returns-in-ShareInputs
+returns-in-ShareInputs c =
+    let k = c in
+    let g = k.in-ShareInputs.given.0 in
+    left k.before.before.before.before _ (carried (ShareInputs g.0 g.1.0 g.1.1.0) g.1.1.1.0 k.in-ShareInputs.is (search rules)) _ c.share_inputs_row.ensures
 
-returns-3 : tie.Need-returns-3
-returns-3 c =
-    let k = c.before.before.before.before in
-    let g = k.how3.given.0 in
-    left k.before.before _ (carried (ShareOutputs g.0 g.1.0) g.1.1.0 k.how3.given.1 (search rules)) _ c.before.share-outputs-row.ensures
+returns-in-ShareOutputs : tie.Need-returns-in-ShareOutputs
+returns-in-ShareOutputs c =
+    let k = c in
+    let g = k.in-ShareOutputs.given.0 in
+    left k.before.before.before.before _ (carried (ShareOutputs g.0 g.1.0) g.1.1.0 k.in-ShareOutputs.is (search rules)) _ c.share_outputs_row.ensures
 
-returns-4 : tie.Need-returns-4
-returns-4 c =
-    let k = c.before.before.before.before in
-    let g = k.how4.given.0 in
-    left k.before.before _ (carried (MergeBack g.0 g.1.0) g.1.1.0 k.how4.given.1 (search rules)) _ c.before.merge-row.ensures
+returns-in-MergeBack : tie.Need-returns-in-MergeBack
+returns-in-MergeBack c =
+    let k = c in
+    let g = k.in-MergeBack.given.0 in
+    left k.before.before.before.before _ (carried (MergeBack g.0 g.1.0) g.1.1.0 k.in-MergeBack.is (search rules)) _ c.merge_row.ensures
 
-pub rewrite-row-spec : {M : Type 1} → statement M
-rewrite-row-spec =
+pub rewrite_row_spec : {M : Type 1} → statement M
+rewrite_row_spec =
     tie.close
     (tie.spec
     (λ c. search rules)
-    shrink-row-requires
+    shrink_row-requires
     (λ c. search rules)
-    share-inputs-row-requires
+    share_inputs_row-requires
     (λ c. search rules)
-    share-outputs-row-requires
+    share_outputs_row-requires
     (λ c. search rules)
-    merge-row-requires
+    merge_row-requires
     (λ c. search rules)
-    returns
+    returns-in-Shrink
     (λ c. search rules)
-    returns-2
+    returns-in-ShareInputs
     (λ c. search rules)
-    returns-3
+    returns-in-ShareOutputs
     (λ c. search rules)
-    returns-4)
+    returns-in-MergeBack)

@@ -7,40 +7,46 @@ use Rattle.plans.proofs.ShareConditions.{used, used_in}
 use Rattle.plans.proofs.rows.is_free.Statement.{statement}
 use Rattle.plans.proofs.rows.is_free.Tie as tie
 
-is-inner-requires : tie.Need-is-inner-requires
-is-inner-requires c κs = c.requires.0.sized
+is_inner-requires : tie.Need-is_inner-requires
+is_inner-requires c κs = c.requires.0.sized
 
-returns : tie.Need-returns
-returns c = simp (sym c.before.is-inner.ensures ∙ not-true _ c.if1.true)
+returns-then-not-is_inner : tie.Need-returns-then-not-is_inner
+returns-then-not-is_inner c = simp (sym c.is_inner.ensures ∙ not-true _ c.if-not-is_inner.true-raw)
 
-fan-out-requires : tie.Need-fan-out-requires
-fan-out-requires c κs = c.before.before.requires
+fan_out-requires : tie.Need-fan_out-requires
+fan_out-requires c κs = c.requires
 
 -- k is inner
-module _ (c : tie.Else1) where
+module _ (c : tie.Else-not-is_inner) where
   abbrev start : tie.Start
   start = c.before.before
 
   inner : is_inner start.args.board.inputs start.args.board.outputs start.args.board.vertices start.args.k ≡ true
-  inner = sym c.before.is-inner.ensures ∙ not-false _ c.if1.false
+  inner = sym c.is_inner.ensures ∙ not-false _ c.if-not-is_inner.false-raw
 
-returns-2 : tie.Need-returns-2
-returns-2 c =
-    let f = c.before in
-    let s = start f.before in
+returns-then-fan_out-ne0 : tie.Need-returns-then-fan_out-ne0
+returns-then-fan_out-ne0 c =
+    let f = c in
+    let s = start f.before.before in
     let n = s.args.board.vertices in
-    simp (inner f.before, used n (graph_of n s.args.table.now) s.args.k (λ e. c.if2.true (f.fan-out.ensures ∙ e)))
+    simp (inner f.before.before, used n (graph_of n s.args.table.now) s.args.k (λ e. c.if-fan_out-ne0.true (f.fan_out.ensures ∙ e)))
 
-none-into-requires : tie.Need-none-into-requires
-none-into-requires c κs = c.before.before.before.before.requires
+none_into-requires : tie.Need-none_into-requires
+none_into-requires c κs = c.requires
 
-returns-3 : tie.Need-returns-3
-returns-3 c =
-    let f = c.before.before in
-    let s = start f.before in
+returns : tie.Need-returns
+returns c =
+    let f = c in
+    let s = start f.before.before.before in
     let n = s.args.board.vertices in
-    simp (inner f.before, used_in n (graph_of n s.args.table.now) s.args.k (sym f.fan-out.ensures ∙ c.before.if2.false), c.none-into.ensures)
+    simp (inner f.before.before.before, used_in n (graph_of n s.args.table.now) s.args.k (sym f.fan_out.ensures ∙ c.if-fan_out-ne0.false), c.none_into.ensures)
 
-pub is-free-spec : {M : Type 1} → statement M
-is-free-spec =
-    tie.close (tie.spec is-inner-requires returns fan-out-requires returns-2 none-into-requires returns-3)
+pub is_free_spec : {M : Type 1} → statement M
+is_free_spec =
+    tie.close (tie.spec
+    is_inner-requires
+    returns-then-not-is_inner
+    fan_out-requires
+    returns-then-fan_out-ne0
+    none_into-requires
+    returns)

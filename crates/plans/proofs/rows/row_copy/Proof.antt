@@ -10,31 +10,31 @@ use Rattle.timing.specs.Limits.{max_vertices}
 use Rattle.plans.proofs.rows.row_copy.Statement.{statement}
 use Rattle.plans.proofs.rows.row_copy.Tie as tie
 
-abbrev invariant-loop : tie.invariant-loop
+abbrev invariant-loop : tie.invariant-loop-v
 invariant-loop table at n copy₀ v₀ copy v = (v ≤ n) × (length copy ≡ max_vertices) × Stored (λ j z. z ≡ get_or table (at + j) (pos 0)) (pos 0) copy₀ copy v
 
-abbrev decreases-loop : tie.decreases-loop
+abbrev decreases-loop : tie.decreases-loop-v
 decreases-loop table at n copy₀ v₀ copy v = n - v
 
-loop-holds : tie.Need-loop-init invariant-loop decreases-loop
-loop-holds c = (omega arith, refl, stored-start _ _ _)
+loop-v-init : tie.Need-loop-v-init invariant-loop decreases-loop
+loop-v-init c = (omega arith, refl, stored-start _ _ _)
 
-loop-again : tie.Need-loop-preserved invariant-loop decreases-loop
-loop-again c =
-    let l = c.before.before in
-    let more = stored_turn l.loop.invariant.2 (omega arith) _ (back w32 _ c.copy.given) in
+loop-v-preserved : tie.Need-loop-v-preserved invariant-loop decreases-loop
+loop-v-preserved c =
+    let l = c in
+    let more = stored_turn l.loop-v.invariant.2 (omega arith) _ (back w32 _ c.copy-1.given) in
     (omega arith, more.size, more)
 
 returns : tie.Need-returns invariant-loop decreases-loop
-returns c v h = c.before.loop.invariant.2.done v (omega arith)
+returns c v h = c.loop-v.invariant.2.done v (omega arith)
 
-pub row-copy-spec : {M : Type 1} → statement M
-row-copy-spec =
+pub row_copy_spec : {M : Type 1} → statement M
+row_copy_spec =
     tie.close
     (tie.spec
     invariant-loop
     decreases-loop
-    loop-holds
+    loop-v-init
     (λ c. omega arith)
     (λ c. omega arith)
     (λ c. omega arith)
@@ -42,5 +42,5 @@ row-copy-spec =
     (λ c. omega arith)
     (λ c. omega arith)
     (λ c. omega arith)
-    loop-again
+    loop-v-preserved
     returns)

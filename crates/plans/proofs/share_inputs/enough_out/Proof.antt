@@ -5,7 +5,9 @@ use Rattle.plans.proofs.share_inputs.enough_out.Statement.{statement}
 use Rattle.plans.proofs.share_inputs.enough_out.Tie as tie
 
 returns : tie.Need-returns
-returns c = ap (leb 3) c.fan-out.ensures
+returns c = ap (leb 3) c.fan_out.ensures
 
-pub enough-out-spec : {M : Type 1} → statement M
-enough-out-spec = tie.close (tie.spec (λ c κs. search rules) returns)
+pub enough_out_spec : {M : Type 1} → statement M
+enough_out_spec = tie.close (tie.spec
+    (λ c κs. search rules)
+    returns)

@@ -11,28 +11,33 @@ use Rattle.reduction.specs.ShareInputs.{enough_out}
 use Rattle.plans.proofs.share_inputs.inputs_saved.Statement.{statement}
 use Rattle.plans.proofs.share_inputs.inputs_saved.Tie as tie
 
-enough-out-requires : tie.Need-enough-out-requires
-enough-out-requires c κs = c.requires
+enough_out-requires : tie.Need-enough_out-requires
+enough_out-requires c κs = c.requires
 
-returns : tie.Need-returns
-returns c = simp (sym c.before.enough-out.ensures ∙ not-true _ c.if1.true)
+returns-then-not-enough_out : tie.Need-returns-then-not-enough_out
+returns-then-not-enough_out c = simp (sym c.enough_out.ensures ∙ not-true _ c.if-not-enough_out.true-raw)
 
 -- b has three arcs out
-enough : (c : tie.Else1) → let s = c.before.before in let n = s.args.board.vertices in enough_out n (graph_of n s.args.table.now) s.args.b ≡ true
-enough c = sym c.before.enough-out.ensures ∙ not-false _ c.if1.false
+enough : (c : tie.Else-not-enough_out) → let s = c in let n = s.args.board.vertices in enough_out n (graph_of n s.args.table.now) s.args.b ≡ true
+enough c = sym c.enough_out.ensures ∙ not-false _ c.if-not-enough_out.false-raw
 
 -- the difference, as the code has it
-said : (c : tie.After-in-range) → fits delay_limit (at c.before.before.before.args.e) ≡ c.in_range.result
-said c = sym (c.in_range.ensures ∙ ap (λ (z : ℤ). fits delay_limit (at z)) (to_z-of_z c.before.before.before.ranges.e))
+said : (c : tie.After-in_range) → fits delay_limit (at c.args.e) ≡ c.in_range.result
+said c = sym (c.in_range.ensures ∙ ap (λ (z : ℤ). fits delay_limit (at z)) (to_z-of_z c.ranges.e))
 
-returns-2 : tie.Need-returns-2
-returns-2 c = simp (enough c.before.before, said c.before ∙ not-true _ c.if2.true)
+returns-then-not-in_range : tie.Need-returns-then-not-in_range
+returns-then-not-in_range c = simp (enough c.before.before, said c.before ∙ not-true _ c.if-not-in_range.true-raw)
 
-returns-3 : tie.Need-returns-3
-returns-3 c =
-    let s = c.before.before.before.before in
-    simp (enough c.before.before, said c.before ∙ not-false _ c.if2.false, to_z-of_z {w = w64} s.ranges.e)
+returns : tie.Need-returns
+returns c =
+    let s = c in
+    simp (enough c.before.before, said c.before ∙ not-false _ c.if-not-in_range.false-raw, to_z-of_z {w = w64} s.ranges.e)
 
-pub inputs-saved-spec : {M : Type 1} → statement M
-inputs-saved-spec =
-    tie.close (tie.spec enough-out-requires returns (λ c κs. tt) returns-2 returns-3)
+pub inputs_saved_spec : {M : Type 1} → statement M
+inputs_saved_spec =
+    tie.close (tie.spec
+    enough_out-requires
+    returns-then-not-enough_out
+    (λ c κs. tt)
+    returns-then-not-in_range
+    returns)

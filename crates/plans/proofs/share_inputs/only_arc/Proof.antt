@@ -14,12 +14,17 @@ use Rattle.plans.proofs.share_inputs.only_arc.Tie as tie
 
 returns : tie.Need-returns
 returns c =
-    let w = c.before in
-    let s = w.before.before in
+    let w = c in
+    let s = w in
     let n = length s.args.row.now in
-    set_cell w.clear.new.0 n s.args.k _ (λ _. absent_cell) (ap length w.clear.ensures ∙ length-tabulate (λ _. absent_cell) n) s.requires
+    set_cell w.clear.new.row n s.args.k _ (λ _. absent_cell) (ap length w.clear.ensures ∙ length-tabulate (λ _. absent_cell) n) s.requires
     (λ t l. ap (λ (r : List ℤ). get_or r t (pos 0)) w.clear.ensures ∙ get_d_tabulate (λ _. absent_cell) n t (pos 0) l)
     ∙ ap (λ (d : ℤ). tabulate n (only_arc s.args.k d)) (to_z-of_z s.ranges.d)
 
-pub only-arc-spec : {M : Type 1} → statement M
-only-arc-spec = tie.close (tie.spec (λ c κs. tt) (λ c. search rules) (λ c. search rules) (λ c. search rules) returns)
+pub only_arc_spec : {M : Type 1} → statement M
+only_arc_spec = tie.close (tie.spec
+    (λ c κs. tt)
+    (λ c. search rules)
+    (λ c. search rules)
+    (λ c. search rules)
+    returns)

@@ -4,59 +4,59 @@ use Rattle.plans.proofs.Vectors.{outputs_comparable, outputs_common}
 use Rattle.plans.proofs.share_inputs.outputs_difference.Statement.{statement}
 use Rattle.plans.proofs.share_inputs.outputs_difference.Tie as tie
 
-add-end : tie.Need-overflow-add-end
-add-end c = omega (arith, c.requires.room, c.requires.sized.roles, c.requires.sized.few)
+overflow_add-end : tie.Need-overflow_add-end
+overflow_add-end c = omega (arith, c.requires.room, c.requires.sized.roles, c.requires.sized.few)
 
-add-from : tie.Need-overflow-add-from
-add-from c = omega (arith, c.requires.room, c.requires.sized.roles, c.requires.sized.few)
+overflow_add-from : tie.Need-overflow_add-from
+overflow_add-from c = omega (arith, c.requires.room, c.requires.sized.roles, c.requires.sized.few)
 
-add-to : tie.Need-overflow-add-to
-add-to c = omega (arith, c.requires.room, c.requires.sized.roles, c.requires.sized.few)
+overflow_add-to : tie.Need-overflow_add-to
+overflow_add-to c = omega (arith, c.requires.room, c.requires.sized.roles, c.requires.sized.few)
 
-mul-common-difference : tie.Need-overflow-mul-common-difference
-mul-common-difference c = omega (arith, c.requires.room, c.requires.sized.roles)
+offset_bounds-delays-m : tie.Need-offset_bounds-delays-m
+offset_bounds-delays-m c = omega (arith, c.requires.room, c.requires.sized.roles)
 
-sub-common-difference : tie.Need-overflow-sub-common-difference
-sub-common-difference c = omega (arith, c.requires.room, c.requires.sized.roles)
+slice_bounds-common_difference-count : tie.Need-slice_bounds-common_difference-count
+slice_bounds-common_difference-count c = omega (arith, c.requires.room, c.requires.sized.roles)
 
-part-common-difference-start : tie.Need-slice-bounds-common-difference-start
-part-common-difference-start c = omega (arith, c.requires.room, c.requires.sized.roles)
+slice_bounds-common_difference-start : tie.Need-slice_bounds-common_difference-start
+slice_bounds-common_difference-start c = omega (arith, c.requires.room, c.requires.sized.roles)
 
-part-common-difference-end : tie.Need-slice-bounds-common-difference-end
-part-common-difference-end c = omega (arith, c.requires.room, c.requires.sized.roles)
+slice_bounds-common_difference-end : tie.Need-slice_bounds-common_difference-end
+slice_bounds-common_difference-end c = omega (arith, c.requires.room, c.requires.sized.roles)
 
-mul-common-difference-2 : tie.Need-overflow-mul-common-difference-2
-mul-common-difference-2 c = let s = c.before in omega (arith, s.requires.room, s.requires.sized.roles)
+offset_bounds-delays-from : tie.Need-offset_bounds-delays-from
+offset_bounds-delays-from c = let s = c in omega (arith, s.requires.room, s.requires.sized.roles)
 
-sub-common-difference-2 : tie.Need-overflow-sub-common-difference-2
-sub-common-difference-2 c = let s = c.before in omega (arith, s.requires.room, s.requires.sized.roles)
+slice_bounds-common_difference-count-2 : tie.Need-slice_bounds-common_difference-count-2
+slice_bounds-common_difference-count-2 c = let s = c in omega (arith, s.requires.room, s.requires.sized.roles)
 
-part-common-difference-start-2 : tie.Need-slice-bounds-common-difference-start-2
-part-common-difference-start-2 c = let s = c.before in omega (arith, s.requires.room, s.requires.sized.roles)
+slice_bounds-common_difference-start-2 : tie.Need-slice_bounds-common_difference-start-2
+slice_bounds-common_difference-start-2 c = let s = c in omega (arith, s.requires.room, s.requires.sized.roles)
 
-part-common-difference-end-2 : tie.Need-slice-bounds-common-difference-end-2
-part-common-difference-end-2 c = let s = c.before in omega (arith, s.requires.room, s.requires.sized.roles)
+slice_bounds-common_difference-end-2 : tie.Need-slice_bounds-common_difference-end-2
+slice_bounds-common_difference-end-2 c = let s = c in omega (arith, s.requires.room, s.requires.sized.roles)
 
-common-difference-requires : tie.Need-common-difference-requires
-common-difference-requires c κs = let s = c.before.before in outputs_comparable s.args.board s.args.delays.now s.requires
+common_difference-requires : tie.Need-common_difference-requires
+common_difference-requires c κs = let s = c in outputs_comparable s.args.board s.args.delays.now s.requires
 
 returns : tie.Need-returns
-returns c = let s = c.before.before.before in c.common-difference.ensures ∙ outputs_common s.args.board s.args.delays.now s.requires
+returns c = let s = c in c.common_difference.ensures ∙ outputs_common s.args.board s.args.delays.now s.requires
 
-pub outputs-difference-spec : {M : Type 1} → statement M
-outputs-difference-spec =
+pub outputs_difference_spec : {M : Type 1} → statement M
+outputs_difference_spec =
     tie.close
     (tie.spec
-    add-end
-    add-from
-    add-to
-    mul-common-difference
-    sub-common-difference
-    part-common-difference-start
-    part-common-difference-end
-    mul-common-difference-2
-    sub-common-difference-2
-    part-common-difference-start-2
-    part-common-difference-end-2
-    common-difference-requires
+    overflow_add-end
+    overflow_add-from
+    overflow_add-to
+    offset_bounds-delays-m
+    slice_bounds-common_difference-count
+    slice_bounds-common_difference-start
+    slice_bounds-common_difference-end
+    offset_bounds-delays-from
+    slice_bounds-common_difference-count-2
+    slice_bounds-common_difference-start-2
+    slice_bounds-common_difference-end-2
+    common_difference-requires
     returns)

@@ -15,30 +15,30 @@ module _ (c : tie.Start) where
   a_in : c.args.a < c.args.board.vertices
   a_in = omega (arith, c.requires.1.1.0, c.requires.0.checked.lent.sized.roles)
 
-  b-in : c.args.b < c.args.board.vertices
-  b-in = omega (arith, c.requires.1.1.1, c.requires.0.checked.lent.sized.roles)
+  b_in : c.args.b < c.args.board.vertices
+  b_in = omega (arith, c.requires.1.1.1, c.requires.0.checked.lent.sized.roles)
 
-slice-aggregate-chains : tie.Need-slice-aggregate-chains
-slice-aggregate-chains c = sym c.before.cell-bytes.ensures
+slice_bounds-chains-end : tie.Need-slice_bounds-chains-end
+slice_bounds-chains-end c = sym c.cell_bytes-chain.ensures
 
 chains-requires : tie.Need-chains-requires
 chains-requires c κs =
-    let s = c.before.before in
+    let s = c in
     let l = s.requires.0 in
-    (l, omega (arith, c.before.cell-bytes.ensures, board_area s.args.board l.checked.lent.sized))
+    (l, omega (arith, c.cell_bytes-chain.ensures, board_area s.args.board l.checked.lent.sized))
 
 -- the chains' room
-sized : (m : tie.After-chains) → length m.chains.new.1.1.1.0 ≡ 8100
-sized m = m.chains.auto.1.1.1.0 ∙ m.before.before.cell-bytes.ensures
+sized : (m : tie.After-chains) → length m.chains.new.chain ≡ 8100
+sized m = m.chains.auto.chain ∙ m.cell_bytes-chain.ensures
 
-slice-aggregate-delays-from : tie.Need-slice-aggregate-delays-from
-slice-aggregate-delays-from c = sym (sized c.before.before)
+slice_bounds-delays_from-end : tie.Need-slice_bounds-delays_from-end
+slice_bounds-delays_from-end c = sym (sized c.before.before)
 
-delays-from-requires : tie.Need-delays-from-requires
-delays-from-requires c κs = let m = c.before.before.before in let s = m.before.before.before in (s.requires.0, (m.chains.ensures, (a_in s, omega (arith, s.requires.1.0))))
+delays_from-requires : tie.Need-delays_from-requires
+delays_from-requires c κs = let m = c in let s = m in (s.requires.0, (m.chains.ensures, (a_in s.before.before.before.before.before.before, omega (arith, s.requires.1.0))))
 
 -- the delays from a are there
-module _ (c : tie.After-delays-from) where
+module _ (c : tie.After-delays_from) where
   abbrev made : tie.After-chains
   made = c.before.before.before.before
 
@@ -52,68 +52,68 @@ module _ (c : tie.After-delays-from) where
   before = start.args.scratch.now
 
   abbrev first : List ℤ
-  first = c.delays-from.new.1.1.1.1.1.0
+  first = c.delays_from.new.f
 
   long : length first ≡ length before
-  long = first-length start.pre.0 start.args.a start.args.b (a_in start) (b-in start) before first first start.pre.1.0 c.delays-from.ensures
+  long = first-length start.requires.0 start.args.a start.args.b (a_in start) (b_in start) before first first start.requires.1.0 c.delays_from.ensures
 
-slice-aggregate-delays-from-2 : tie.Need-slice-aggregate-delays-from-2
-slice-aggregate-delays-from-2 c = sym (sized (made c.before.before))
+slice_bounds-delays_from-end-2 : tie.Need-slice_bounds-delays_from-end-2
+slice_bounds-delays_from-end-2 c = sym (sized (made c.before.before))
 
-mul-delays-from : tie.Need-overflow-mul-delays-from
-mul-delays-from c = let d = c.before.before in omega (arith, (start d).requires.0.checked.lent.sized.few)
+offset_bounds-scratch-n : tie.Need-offset_bounds-scratch-n
+offset_bounds-scratch-n c = let d = c in omega (arith, (start d.before.before).requires.0.checked.lent.sized.few)
 
-sub-delays-from : tie.Need-overflow-sub-delays-from
-sub-delays-from c = let d = c.before.before in omega (arith, long d, (start d).requires.1.0)
+slice_bounds-delays_from-count : tie.Need-slice_bounds-delays_from-count
+slice_bounds-delays_from-count c = let d = c in omega (arith, long d.before.before, (start d.before.before).requires.1.0)
 
-part-delays-from-start : tie.Need-slice-bounds-delays-from-start
-part-delays-from-start c = let d = c.before.before in omega (arith, long d, (start d).requires.1.0)
+slice_bounds-delays_from-start : tie.Need-slice_bounds-delays_from-start
+slice_bounds-delays_from-start c = let d = c in omega (arith, long d.before.before, (start d.before.before).requires.1.0)
 
-delays-from-requires-2 : tie.Need-delays-from-requires-2
-delays-from-requires-2 c κs =
-    let d = c.before.before.before in
-    let s = start d in
-    (s.pre.0, ((made d).chains.ensures, (b-in s, rest_room s.pre.0 s.args.a s.args.b (a_in s) (b-in s) (before d) (first d) (first d) s.pre.1.0 d.delays-from.ensures)))
+delays_from-requires-2 : tie.Need-delays_from-requires-2
+delays_from-requires-2 c κs =
+    let d = c in
+    let s = start d.before.before.before in
+    (s.requires.0, ((made d.before.before.before).chains.ensures, (b_in s, rest_room s.requires.0 s.args.a s.args.b (a_in s) (b_in s) (before d.before.before.before) (first d.before.before.before) (first d.before.before.before) s.requires.1.0 d.delays_from.ensures)))
 
 -- and those from b
-module _ (c : tie.After-delays-from2) where
-  abbrev d : tie.After-delays-from
+module _ (c : tie.After-delays_from-2) where
+  abbrev d : tie.After-delays_from
   d = c.before.before.before.before
 
   abbrev s : tie.Start
   s = start d
 
   abbrev second : List ℤ
-  second = c.delays-from2.new.1.1.1.1.1.0
+  second = c.delays_from-2.new.f
 
-outputs-difference-requires : tie.Need-outputs-difference-requires
-outputs-difference-requires c κs =
-    let k = c.before.before in
-    both_vectors (s k).requires.0 (s k).args.a (s k).args.b (a_in (s k)) (b-in (s k)) (before (d k)) (first (d k)) (second k) (s k).requires.1.0 (d k).delays-from.ensures k.delays-from2.ensures
+outputs_difference-requires : tie.Need-outputs_difference-requires
+outputs_difference-requires c κs =
+    let k = c in
+    both_vectors (s k.before).requires.0 (s k.before).args.a (s k.before).args.b (a_in (s k.before)) (b_in (s k.before)) (before (d k.before)) (first (d k.before)) (second k.before) (s k.before).requires.1.0 (d k.before).delays_from.ensures k.delays_from-2.ensures
 
 returns : tie.Need-returns
 returns c =
-    let k = c.before.before.before in (
-      c.outputs-difference.ensures
-          ∙ both_common (s k).requires.0 (s k).args.a (s k).args.b (a_in (s k)) (b-in (s k)) (before (d k)) (first (d k)) (second k) (s k).requires.1.0 (d k).delays-from.ensures k.delays-from2.ensures (s k).requires.1.1.0 (s k).requires.1.1.1,
-      both_past (s k).requires.0 (s k).args.a (s k).args.b (a_in (s k)) (b-in (s k)) (before (d k)) (first (d k)) (second k) (s k).requires.1.0 (d k).delays-from.ensures k.delays-from2.ensures,
+    let k = c in (
+      c.outputs_difference.ensures
+          ∙ both_common (s k.before.before).requires.0 (s k.before.before).args.a (s k.before.before).args.b (a_in (s k.before.before)) (b_in (s k.before.before)) (before (d k.before.before)) (first (d k.before.before)) (second k.before.before) (s k.before.before).requires.1.0 (d k.before.before).delays_from.ensures k.delays_from-2.ensures (s k.before.before).requires.1.1.0 (s k.before.before).requires.1.1.1,
+      both_past (s k.before.before).requires.0 (s k.before.before).args.a (s k.before.before).args.b (a_in (s k.before.before)) (b_in (s k.before.before)) (before (d k.before.before)) (first (d k.before.before)) (second k.before.before) (s k.before.before).requires.1.0 (d k.before.before).delays_from.ensures k.delays_from-2.ensures,
     )
 
-pub rows-difference-spec : {M : Type 1} → statement M
-rows-difference-spec =
+pub rows_difference_spec : {M : Type 1} → statement M
+rows_difference_spec =
     tie.close
     (tie.spec
     (λ c κs. tt)
-    slice-aggregate-chains
+    slice_bounds-chains-end
     chains-requires
-    slice-aggregate-delays-from
-    delays-from-requires
-    slice-aggregate-delays-from-2
-    mul-delays-from
-    sub-delays-from
-    part-delays-from-start
+    slice_bounds-delays_from-end
+    delays_from-requires
+    slice_bounds-delays_from-end-2
+    offset_bounds-scratch-n
+    slice_bounds-delays_from-count
+    slice_bounds-delays_from-start
     (λ c. omega arith)
-    delays-from-requires-2
-    outputs-difference-requires
+    delays_from-requires-2
+    outputs_difference-requires
     (λ c. search rules)
     returns)

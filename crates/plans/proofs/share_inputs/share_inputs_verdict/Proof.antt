@@ -20,14 +20,14 @@ use Rattle.plans.proofs.ShareConditions.{two_inputs_lem, inputs_wrong, number_ta
 use Rattle.plans.proofs.share_inputs.share_inputs_verdict.Statement.{statement}
 use Rattle.plans.proofs.share_inputs.share_inputs_verdict.Tie as tie
 
-returns : tie.Need-returns
-returns c =
-    let s = c.before.before in
+returns-then-not-two_inputs : tie.Need-returns-then-not-two_inputs
+returns-then-not-two_inputs c =
+    let s = c in
     let d = s.args.board in
-    (inputs_wrong d.inputs d.outputs d.vertices s.args.a s.args.b s.args.k (graph_of d.vertices s.args.table.now) (sym c.before.two_inputs_lem.ensures ∙ not-true _ c.if1.true), refl)
+    (inputs_wrong d.inputs d.outputs d.vertices s.args.a s.args.b s.args.k (graph_of d.vertices s.args.table.now) (sym c.two_inputs_lem.ensures ∙ not-true _ c.if-not-two_inputs.true-raw), refl)
 
 -- a, b and k have passed
-module _ (c : tie.Else1) where
+module _ (c : tie.Else-not-two_inputs) where
   abbrev start : tie.Start
   start = c.before.before
 
@@ -56,82 +56,82 @@ module _ (c : tie.Else1) where
   k = start.args.k
 
   right : (is_input m a && is_input m b && not (eqb a b) && ltb k N) ≡ true
-  right = sym c.before.two_inputs_lem.ensures ∙ not-false _ c.if1.false
+  right = sym c.two_inputs_lem.ensures ∙ not-false _ c.if-not-two_inputs.false-raw
 
   inputs : (a < m) × (b < m) × (k < N)
   inputs = two_inputs_lem m N a b k right
 
   fits : N + N ≤ scratch_cells N
-  fits = vectors_fit board start.pre.0.checked.lent.sized
+  fits = vectors_fit board start.requires.0.checked.lent.sized
 
-is-free-requires : tie.Need-is-free-requires
-is-free-requires c κs = ((start c).requires.0.checked.lent, (inputs c).2)
+is_free-requires : tie.Need-is_free-requires
+is_free-requires c κs = ((start c).requires.0.checked.lent, (inputs c).2)
 
-returns-2 : tie.Need-returns-2
-returns-2 c =
-    let e = c.before.before in
-    (number_taken (m e) (n e) (N e) (a e) (b e) (k e) (g e) (right e) (sym c.before.is_free.ensures ∙ not-true _ c.if2.true), refl)
+returns-then-not-is_free : tie.Need-returns-then-not-is_free
+returns-then-not-is_free c =
+    let e = c in
+    (number_taken (m e.before.before) (n e.before.before) (N e.before.before) (a e.before.before) (b e.before.before) (k e.before.before) (g e.before.before) (right e.before.before) (sym c.is_free.ensures ∙ not-true _ c.if-not-is_free.true-raw), refl)
 
 -- and k is free
-module _ (c : tie.Else2) where
-  abbrev passed : tie.Else1
+module _ (c : tie.Else-not-is_free) where
+  abbrev passed : tie.Else-not-two_inputs
   passed = c.before.before
 
   free : (is_inner (m passed) (n passed) (N passed) (k passed) && unused (N passed) (g passed) (k passed)) ≡ true
-  free = sym c.before.is_free.ensures ∙ not-false _ c.if2.false
+  free = sym c.is_free.ensures ∙ not-false _ c.if-not-is_free.false-raw
 
-rows-difference-requires : tie.Need-rows-difference-requires
-rows-difference-requires c κs = let e = passed c.before in ((start e).pre.0, (omega (arith, (start e).pre.1, fits e), ((inputs e).0, (inputs e).1)))
+rows_difference-found-requires : tie.Need-rows_difference-found-requires
+rows_difference-found-requires c κs = let e = passed c.before in ((start e).requires.0, (omega (arith, (start e).requires.1, fits e), ((inputs e).0, (inputs e).1)))
 
 -- the rows have been compared
-module _ (c : tie.After-rows-difference) where
-  abbrev there : tie.Else2
+module _ (c : tie.After-rows_difference-found) where
+  abbrev there : tie.Else-not-is_free
   there = c.before.before
 
-  abbrev e : tie.Else1
+  abbrev e : tie.Else-not-two_inputs
   e = passed there
 
-  past : drop (scratch_cells (N e)) c.rows-difference.new.1.1.1.0 ≡ drop (scratch_cells (N e)) (start e).args.scratch.now
-  past = drop_further (N e + N e) (scratch_cells (N e)) (start e).args.scratch.now c.rows-difference.new.1.1.1.0 (fits e) c.rows-difference.ensures.1
+  past : drop (scratch_cells (N e)) c.rows_difference-found.new.scratch ≡ drop (scratch_cells (N e)) (start e).args.scratch.now
+  past = drop_further (N e + N e) (scratch_cells (N e)) (start e).args.scratch.now c.rows_difference-found.new.scratch (fits e) c.rows_difference-found.ensures.1
 
-inputs-saved-requires : tie.Need-inputs-saved-requires
-inputs-saved-requires c κs =
-    let i = e c.before.before.before.before in
-    ((start i).pre.0.checked.lent, omega (arith, (inputs i).1, (start i).pre.0.checked.lent.sized.roles))
+inputs_saved-requires : tie.Need-inputs_saved-requires
+inputs_saved-requires c κs =
+    let i = e c.before.before in
+    ((start i).requires.0.checked.lent, omega (arith, (inputs i).1, (start i).requires.0.checked.lent.sized.roles))
 
 -- the difference, as the code has it
-found-is : (c : tie.After-known-told) → to_z w64 (of_z w64 c.before.found.given.0.0) ≡ c.before.found.given.0.0
-found-is c = search rules
+found_is : (c : tie.In-Common) → to_z w64 (of_z w64 c.in-Common.e) ≡ c.in-Common.e
+found_is c = search rules
 
-returns-3 : tie.Need-returns-3
-returns-3 c =
-    let w = c.before in
-    let d = w.before.before.before.before in
-    let i = e d in (
-      c.inputs-saved.ensures ∙ ap (inputs_saved (N i) (g i) (b i)) (found-is w)
-          ∙ inputs_common (m i) (n i) (N i) (a i) (b i) (k i) (g i) (right i) (free (there d)) d.rows-difference.result d.rows-difference.ensures.0 _ w.before.found.given.1,
-      past d,
+returns-in-Common : tie.Need-returns-in-Common
+returns-in-Common c =
+    let w = c in
+    let d = w in
+    let i = e d.before.before.before in (
+      c.inputs_saved.ensures ∙ ap (inputs_saved (N i) (g i) (b i)) (found_is w.before)
+          ∙ inputs_common (m i) (n i) (N i) (a i) (b i) (k i) (g i) (right i) (free (there d.before.before.before)) d.rows_difference-found.result d.rows_difference-found.ensures.0 _ w.in-Common.is,
+      past d.before.before.before,
     )
 
-returns-4 : tie.Need-returns-4
-returns-4 c =
-    let d = c.before.before.before in
-    let i = e d in
-    (inputs_refused (m i) (n i) (N i) (a i) (b i) (k i) (g i) (right i) (free (there d)) d.rows-difference.result d.rows-difference.ensures.0 _ c.enum_told.given.1, past d)
+returns : tie.Need-returns
+returns c =
+    let d = c in
+    let i = e d.before.before in
+    (inputs_refused (m i) (n i) (N i) (a i) (b i) (k i) (g i) (right i) (free (there d.before.before)) d.rows_difference-found.result d.rows_difference-found.ensures.0 _ c.in_default.is, past d.before.before)
 
-pub share-inputs-verdict-spec : {M : Type 1} → statement M
-share-inputs-verdict-spec =
+pub share_inputs_verdict_spec : {M : Type 1} → statement M
+share_inputs_verdict_spec =
     tie.close
     (tie.spec
     (λ c κs. tt)
-    returns
-    is-free-requires
-    returns-2
-    rows-difference-requires
+    returns-then-not-two_inputs
+    is_free-requires
+    returns-then-not-is_free
+    rows_difference-found-requires
     (λ c. search rules)
-    inputs-saved-requires
+    inputs_saved-requires
     (λ c. search rules)
-    returns-3
+    returns-in-Common
     (λ c. search rules)
     (λ c. search rules)
-    returns-4)
+    returns)

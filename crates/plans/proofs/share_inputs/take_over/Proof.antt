@@ -14,58 +14,58 @@ use Rattle.plans.proofs.share_inputs.take_over.Tie as tie
 abbrev cells : List ℤ → ℕ → ℤ
 cells via t = get_or via t (pos 0)
 
-abbrev invariant-loop : tie.invariant-loop
+abbrev invariant-loop : tie.invariant-loop-t
 invariant-loop row₀ via t₀ row t = (t ≤ length row₀) × (length row ≡ length row₀) × (row ≡ tabulate t (cells via) ++ drop t row₀)
 
-abbrev decreases-loop : tie.decreases-loop
+abbrev decreases-loop : tie.decreases-loop-t
 decreases-loop row₀ via t₀ row t = length row₀ - t
 
-loop-holds : tie.Need-loop-init invariant-loop decreases-loop
-loop-holds c = (omega arith, refl, fill_none _ _)
+loop-t-init : tie.Need-loop-t-init invariant-loop decreases-loop
+loop-t-init c = (omega arith, refl, fill_none _ _)
 
-mul-row : tie.Need-overflow-mul-row invariant-loop decreases-loop
-mul-row c = omega arith
+offset_bounds-via-t : tie.Need-offset_bounds-via-t invariant-loop decreases-loop
+offset_bounds-via-t c = omega arith
 
-element-copy-out-row : tie.Need-element-copy-out-row invariant-loop decreases-loop
-element-copy-out-row c = omega arith
+bounds-via-t : tie.Need-bounds-via-t invariant-loop decreases-loop
+bounds-via-t c = omega arith
 
-mul-t9 : tie.Need-overflow-mul-t9 invariant-loop decreases-loop
-mul-t9 c = omega arith
+offset_bounds-row-t : tie.Need-offset_bounds-row-t invariant-loop decreases-loop
+offset_bounds-row-t c = omega arith
 
-slice-set-from-row : tie.Need-slice-set-from-row invariant-loop decreases-loop
-slice-set-from-row c = omega arith
+bounds-row-t : tie.Need-bounds-row-t invariant-loop decreases-loop
+bounds-row-t c = omega arith
 
-add-t : tie.Need-overflow-add-t invariant-loop decreases-loop
-add-t c = omega arith
+overflow_add-t : tie.Need-overflow_add-t invariant-loop decreases-loop
+overflow_add-t c = omega arith
 
-loop-less : tie.Need-loop-smaller invariant-loop decreases-loop
-loop-less c = omega arith
+loop-t-smaller : tie.Need-loop-t-smaller invariant-loop decreases-loop
+loop-t-smaller c = omega arith
 
-loop-again : tie.Need-loop-preserved invariant-loop decreases-loop
-loop-again c =
-    let l = c.before.before in
-    let s = l.before in
-    (omega arith, simp length-set l.loop.invariant.1, fill_turn (cells s.args.via.now) s.args.row.now l.loop.row l.loop.t _ (omega arith) l.loop.invariant.2 (back w32 _ c.row.given))
+loop-t-preserved : tie.Need-loop-t-preserved invariant-loop decreases-loop
+loop-t-preserved c =
+    let l = c in
+    let s = l in
+    (omega arith, simp length-set l.loop-t.invariant.1, fill_turn (cells s.args.via.now) s.args.row.now l.loop-t.row l.loop-t.t _ (omega arith) l.loop-t.invariant.2 (back w32 _ c.row-1.given))
 
-same_length : tie.Need-same-length invariant-loop decreases-loop
-same_length c = c.before.loop.invariant.1
+shape_of-row : tie.Need-shape_of-row invariant-loop decreases-loop
+shape_of-row c = c.loop-t.invariant.1
 
 returns : tie.Need-returns invariant-loop decreases-loop
-returns c = c.before.loop.invariant.2 ∙ fill_all _ _ c.before.loop.t (omega arith)
+returns c = c.loop-t.invariant.2 ∙ fill_all _ _ c.loop-t.t (omega arith)
 
-pub take-over-spec : {M : Type 1} → statement M
-take-over-spec =
+pub take_over_spec : {M : Type 1} → statement M
+take_over_spec =
     tie.close
     (tie.spec
     invariant-loop
     decreases-loop
-    loop-holds
-    mul-row
-    element-copy-out-row
-    mul-t9
-    slice-set-from-row
-    add-t
-    loop-less
-    loop-again
-    same_length
+    loop-t-init
+    offset_bounds-via-t
+    bounds-via-t
+    offset_bounds-row-t
+    bounds-row-t
+    overflow_add-t
+    loop-t-smaller
+    loop-t-preserved
+    shape_of-row
     returns)

@@ -33,20 +33,20 @@ invariant-compare board table list scratch₀ a b chain m seen₀ i₀ scratch s
 abbrev decreases-compare : tie.decreases-compare
 decreases-compare board table list scratch₀ a b chain m seen₀ i₀ scratch s i = m - i
 
-slice-aggregate-chains : tie.Need-slice-aggregate-chains invariant-compare decreases-compare
-slice-aggregate-chains c = sym c.before.cell-bytes.ensures
+slice_bounds-chains-end : tie.Need-slice_bounds-chains-end invariant-compare decreases-compare
+slice_bounds-chains-end c = sym c.cell_bytes-chain.ensures
 
 chains-requires : tie.Need-chains-requires invariant-compare decreases-compare
 chains-requires c κs =
-    let s = c.before.before in
+    let s = c in
     let l = s.requires.0 in
-    (l, omega (arith, c.before.cell-bytes.ensures, board_area s.args.board l.checked.lent.sized))
+    (l, omega (arith, c.cell_bytes-chain.ensures, board_area s.args.board l.checked.lent.sized))
 
-compare-holds : tie.Need-compare-init invariant-compare decreases-compare
-compare-holds c = (omega arith, refl, refl, seen_none _ _)
+compare-init : tie.Need-compare-init invariant-compare decreases-compare
+compare-init c = (omega arith, refl, refl, seen_none _ _)
 
 -- a turn
-module _ (c : tie.Else1 invariant-compare decreases-compare) where
+module _ (c : tie.Else-i-m invariant-compare decreases-compare) where
   abbrev loop : tie.At-compare invariant-compare decreases-compare
   loop = c.before
 
@@ -72,136 +72,136 @@ module _ (c : tie.Else1 invariant-compare decreases-compare) where
   i = loop.compare.i
 
   inside : i < N
-  inside = omega (arith, c.if1.false, start.pre.0.checked.lent.sized.roles)
+  inside = omega (arith, c.if-i-m.false, start.requires.0.checked.lent.sized.roles)
 
   room : N ≤ length loop.compare.scratch
-  room = omega (arith, loop.compare.inv.1, start.pre.1.0)
+  room = omega (arith, loop.compare.invariant.1, start.requires.1.0)
 
-slice-aggregate-delays-from : tie.Need-slice-aggregate-delays-from invariant-compare decreases-compare
-slice-aggregate-delays-from c = let m = made c.before in sym (m.chains.kept.1.1.1.0 ∙ m.before.before.cell-bytes.ensures)
+slice_bounds-delays_from-end : tie.Need-slice_bounds-delays_from-end invariant-compare decreases-compare
+slice_bounds-delays_from-end c = let m = made c.before in sym (m.chains.auto.chain ∙ m.cell_bytes-chain.ensures)
 
-delays-from-requires : tie.Need-delays-from-requires invariant-compare decreases-compare
-delays-from-requires c κs = let e = c.before.before in ((start e).requires.0, ((made e).chains.ensures, (inside e, room e)))
+delays_from-requires : tie.Need-delays_from-requires invariant-compare decreases-compare
+delays_from-requires c κs = let e = c in ((start e.before.before).requires.0, ((made e.before.before).chains.ensures, (inside e.before.before, room e.before.before)))
 
 -- the delays from input i are there
-module _ (c : tie.After-delays-from invariant-compare decreases-compare) where
-  abbrev turn : tie.Else1 invariant-compare decreases-compare
+module _ (c : tie.After-delays_from invariant-compare decreases-compare) where
+  abbrev turn : tie.Else-i-m invariant-compare decreases-compare
   turn = c.before.before.before
 
   abbrev before : List ℤ
   before = (loop turn).compare.scratch
 
   abbrev after : List ℤ
-  after = c.delays-from.new.1.1.1.1.1.0
+  after = c.delays_from.new.f
 
   long : length after ≡ length before
-  long = held_length (start turn).pre.0 (i turn) (inside turn) before after (room turn) c.delays-from.ensures
+  long = held_length (start turn).requires.0 (i turn) (inside turn) before after (room turn) c.delays_from.ensures
 
   past : drop (N turn) after ≡ drop (N turn) before
-  past = held_past (start turn).pre.0 (i turn) (inside turn) before after (room turn) c.delays-from.ensures
+  past = held_past (start turn).requires.0 (i turn) (inside turn) before after (room turn) c.delays_from.ensures
 
   near : (v : ℕ) → v < N turn → T (fits arrival_limit (arrival_in after v))
-  near = held_near (start turn).pre.0 (i turn) (inside turn) before after (room turn) c.delays-from.ensures
+  near = held_near (start turn).requires.0 (i turn) (inside turn) before after (room turn) c.delays_from.ensures
 
   there : (v : ℕ) → v < N turn → (start turn).args.board.inputs ≤ v → arrival_in after v ≡ into (N turn) (t turn) v (i turn)
-  there v h no-input = held (start turn).pre.0 (i turn) (inside turn) before after (room turn) c.delays-from.ensures v h (λ e. omega (arith, turn.if1.left))
+  there v h no-input = held (start turn).requires.0 (i turn) (inside turn) before after (room turn) c.delays_from.ensures v h (λ e. omega (arith, turn.if-i-m.false))
 
-mul-seen-next : tie.Need-overflow-mul-seen-next invariant-compare decreases-compare
-mul-seen-next c = let d = c.before in let e = turn d in omega (arith, (start e).pre.1.1.below_a, (start e).pre.0.checked.lent.sized.few)
+offset_bounds-scratch-a : tie.Need-offset_bounds-scratch-a invariant-compare decreases-compare
+offset_bounds-scratch-a c = let d = c in let e = turn d.before in omega (arith, (start e).requires.1.1.below_a, (start e).requires.0.checked.lent.sized.few)
 
-slice-copy-out-seen-next : tie.Need-slice-copy-out-seen-next invariant-compare decreases-compare
-slice-copy-out-seen-next c = let d = c.before in let e = turn d in omega (arith, (start e).pre.1.1.below_a, room e, long d)
+slice_copy_out-seen_next : tie.Need-slice_copy_out-seen_next invariant-compare decreases-compare
+slice_copy_out-seen_next c = let d = c in let e = turn d.before in omega (arith, (start e).requires.1.1.below_a, room e, long d.before)
 
-mul-seen-next-2 : tie.Need-overflow-mul-seen-next-2 invariant-compare decreases-compare
-mul-seen-next-2 c = let d = c.before.before in let e = turn d in omega (arith, (start e).pre.1.1.below_b, (start e).pre.0.checked.lent.sized.few)
+offset_bounds-scratch-b : tie.Need-offset_bounds-scratch-b invariant-compare decreases-compare
+offset_bounds-scratch-b c = let d = c in let e = turn d.before.before in omega (arith, (start e).requires.1.1.below_b, (start e).requires.0.checked.lent.sized.few)
 
-slice-copy-out-seen-next-2 : tie.Need-slice-copy-out-seen-next-2 invariant-compare decreases-compare
-slice-copy-out-seen-next-2 c = let d = c.before.before in let e = turn d in omega (arith, (start e).pre.1.1.below_b, room e, long d)
+slice_copy_out-seen_next-in-compare : tie.Need-slice_copy_out-seen_next-in-compare invariant-compare decreases-compare
+slice_copy_out-seen_next-in-compare c = let d = c in let e = turn d.before.before in omega (arith, (start e).requires.1.1.below_b, room e, long d.before.before)
 
 -- the two cells, as the code has them
-a-is : (c : tie.After-seen-next-arg invariant-compare decreases-compare) → let d = c.before.before in to_z w64 (of_z w64 (get_or (after d) (a (turn d)) (pos 0))) ≡ get_or (after d) (a (turn d)) (pos 0)
-a-is c = back w64 _ c.seen-next-arg.given
+a_is : (c : tie.After-seen_next-arg-1 invariant-compare decreases-compare) → let d = c in to_z w64 (of_z w64 (get_or (after d.before.before) (a (turn d.before.before)) (pos 0))) ≡ get_or (after d.before.before) (a (turn d.before.before)) (pos 0)
+a_is c = back w64 _ c.seen_next-arg-1.given
 
-b-is : (c : tie.After-seen-next-arg2 invariant-compare decreases-compare) → let d = c.before.before.before in to_z w64 (of_z w64 (get_or (after d) (b (turn d)) (pos 0))) ≡ get_or (after d) (b (turn d)) (pos 0)
-b-is c = back w64 _ c.seen-next-arg2.given
+b_is : (c : tie.After-seen_next-arg-in-compare-1 invariant-compare decreases-compare) → let d = c in to_z w64 (of_z w64 (get_or (after d.before.before.before) (b (turn d.before.before.before)) (pos 0))) ≡ get_or (after d.before.before.before) (b (turn d.before.before.before)) (pos 0)
+b_is c = back w64 _ c.seen_next-arg-in-compare-1.given
 
-seen-next-requires : tie.Need-seen-next-requires invariant-compare decreases-compare
-seen-next-requires c κs =
-    let d = c.before.before.before in
-    let s = start (turn d) in
-    simp (a-is c.before, b-is c) (near d s.args.a s.pre.1.1.below_a, near d s.args.b s.pre.1.1.below_b)
+seen_next-seen-requires : tie.Need-seen_next-seen-requires invariant-compare decreases-compare
+seen_next-seen-requires c κs =
+    let d = c in
+    let s = start (turn d.before.before.before) in
+    simp (a_is c.before, b_is c) (near d.before.before.before s.args.a s.requires.1.1.below_a, near d.before.before.before s.args.b s.requires.1.1.below_b)
 
 -- what is seen after the turn
-turned : (c : tie.After-seen-next invariant-compare decreases-compare) → let e = turn c.before.before.before.before in c.Seen-next.result ≡ seen (i e + 1) (into (N e) (t e) (a e)) (into (N e) (t e) (b e))
+turned : (c : tie.After-seen_next-seen invariant-compare decreases-compare) → let e = turn c.before.before.before.before in c.seen_next-seen.result ≡ seen (i e + 1) (into (N e) (t e) (a e)) (into (N e) (t e) (b e))
 turned c =
-    let d = c.before.before.before.before in
-    let e = turn d in
+    let d = c in
+    let e = turn d.before.before.before.before in
     let s = start e in
-    c.Seen-next.ensures
-    ∙ (λ k. compared ((loop e).compare.inv.3 k)
-    ((ap (read_cell absent_wide) (a-is c.before.before) ∙ there d s.args.a s.pre.1.1.below_a s.pre.1.1.no_input_a) k)
-    ((ap (read_cell absent_wide) (b-is c.before) ∙ there d s.args.b s.pre.1.1.below_b s.pre.1.1.no_input_b) k))
+    c.seen_next-seen.ensures
+    ∙ (λ k. compared ((loop e).compare.invariant.3 k)
+    ((ap (read_cell absent_wide) (a_is c.before.before) ∙ there d.before.before.before.before s.args.a s.requires.1.1.below_a s.requires.1.1.no_input_a) k)
+    ((ap (read_cell absent_wide) (b_is c.before) ∙ there d.before.before.before.before s.args.b s.requires.1.1.below_b s.requires.1.1.no_input_b) k))
     ∙ seen_more (into (N e) (t e) (a e)) (into (N e) (t e) (b e)) (i e)
 
-compare-again : tie.Need-compare-preserved invariant-compare decreases-compare
-compare-again c =
-    let d = c.before.before.before.before.before in
-    let l = loop (turn d) in
-    (omega (arith, (turn d).if1.false), long d ∙ l.compare.inv.1, past d ∙ l.compare.inv.2, turned c.before)
+compare-preserved : tie.Need-compare-preserved invariant-compare decreases-compare
+compare-preserved c =
+    let d = c in
+    let l = loop (turn d.before.before.before.before.before) in
+    (omega (arith, (turn d.before.before.before.before.before).if-i-m.false), long d.before.before.before.before.before ∙ l.compare.invariant.1, past d.before.before.before.before.before ∙ l.compare.invariant.2, turned c.before)
 
-same_length : tie.Need-same-length invariant-compare decreases-compare
-same_length c = c.before.before.compare.invariant.1
+shape_of-scratch-then-i-m : tie.Need-shape_of-scratch-then-i-m invariant-compare decreases-compare
+shape_of-scratch-then-i-m c = c.compare.invariant.1
 
-returns : tie.Need-returns invariant-compare decreases-compare
-returns c =
-    let l = c.before.before in
-    let s = l.before.before.before.before.before in
+returns-then-i-m : tie.Need-returns-then-i-m invariant-compare decreases-compare
+returns-then-i-m c =
+    let l = c in
+    let s = l in
     let n = s.args.board.vertices in
     let f = into n s.args.table.now s.args.a in
     let g = into n s.args.table.now s.args.b in
-    let e : l.compare.i ≡ s.args.board.inputs = omega (arith, c.before.if1.true, l.compare.invariant.0) in (
+    let e : l.compare.i ≡ s.args.board.inputs = omega (arith, c.if-i-m.true, l.compare.invariant.0) in (
       ap difference_meaning (c.settle.ensures ∙ ap settled (l.compare.invariant.3 ∙ ap (λ (k : ℕ). seen k f g) e)) ∙ seen_common f g s.args.board.inputs,
       l.compare.invariant.2,
     )
 
-same-length-2 : tie.Need-same-length-2 invariant-compare decreases-compare
-same-length-2 c = let d = c.before.before.before.before.before.before in long d ∙ (loop (turn d)).compare.inv.1
+shape_of-scratch-in-Clash : tie.Need-shape_of-scratch-in-Clash invariant-compare decreases-compare
+shape_of-scratch-in-Clash c = let d = c in long d.before.before.before.before.before ∙ (loop (turn d.before.before.before.before.before)).compare.invariant.1
 
-returns-2 : tie.Need-returns-2 invariant-compare decreases-compare
-returns-2 c =
-    let p = c.before.before in
-    let d = p.before.before.before.before in
-    let e = turn d in
+returns-in-Clash : tie.Need-returns-in-Clash invariant-compare decreases-compare
+returns-in-Clash c =
+    let p = c in
+    let d = p in
+    let e = turn d.before.before.before.before.before in
     let m = (start e).args.board.inputs in
     let f = into (N e) (t e) (a e) in
     let g = into (N e) (t e) (b e) in (
-      sym (ap (λ (s : Seen). difference_meaning (settled s)) (seen_clash f g (i e + 1) m (omega (arith, e.if1.left)) (sym (turned p) ∙ c.enum_told.given.1))) ∙ seen_common f g m,
-      past d ∙ (loop e).compare.inv.2,
+      sym (ap (λ (s : Seen). difference_meaning (settled s)) (seen_clash f g (i e + 1) m (omega (arith, e.if-i-m.false)) (sym (turned p.before) ∙ c.in-Clash.is))) ∙ seen_common f g m,
+      past d.before.before.before.before.before ∙ (loop e).compare.invariant.2,
     )
 
-pub columns-difference-spec : {M : Type 1} → statement M
-columns-difference-spec =
+pub columns_difference_spec : {M : Type 1} → statement M
+columns_difference_spec =
     tie.close
     (tie.spec
     invariant-compare
     decreases-compare
     (λ c κs. tt)
-    slice-aggregate-chains
+    slice_bounds-chains-end
     chains-requires
-    compare-holds
+    compare-init
     (λ c κs. tt)
-    slice-aggregate-delays-from
-    delays-from-requires
-    mul-seen-next
-    slice-copy-out-seen-next
-    mul-seen-next-2
-    slice-copy-out-seen-next-2
-    seen-next-requires
+    slice_bounds-delays_from-end
+    delays_from-requires
+    offset_bounds-scratch-a
+    slice_copy_out-seen_next
+    offset_bounds-scratch-b
+    slice_copy_out-seen_next-in-compare
+    seen_next-seen-requires
     (λ c. search rules)
     (λ c. omega arith)
     (λ c. omega arith)
-    compare-again
-    same_length
-    returns
-    same-length-2
-    returns-2)
+    compare-preserved
+    shape_of-scratch-then-i-m
+    returns-then-i-m
+    shape_of-scratch-in-Clash
+    returns-in-Clash)

@@ -3,8 +3,12 @@ use borrow.Author.Tests.{not-false}
 use Rattle.plans.proofs.share_outputs.index.Statement.{statement}
 use Rattle.plans.proofs.share_outputs.index.Tie as tie
 
-returns-2 : tie.Need-returns-2
-returns-2 c = c.before.before.requires.1.sets (not-false _ c.if1.false)
+returns-else-not-made : tie.Need-returns-else-not-made
+returns-else-not-made c = c.requires.1.sets (not-false _ c.if-not-made.false-raw)
 
-pub index-spec : {M : Type 1} → statement M
-index-spec = tie.close (tie.spec (λ c κs. search rules) (λ c. search rules) (λ c. search rules) returns-2)
+pub index_spec : {M : Type 1} → statement M
+index_spec = tie.close (tie.spec
+    (λ c κs. search rules)
+    (λ c. search rules)
+    (λ c. search rules)
+    returns-else-not-made)

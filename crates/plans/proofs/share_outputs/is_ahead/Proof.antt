@@ -7,11 +7,14 @@ use Rattle.laws.proofs.Booleans.{true_is}
 use Rattle.plans.proofs.share_outputs.is_ahead.Statement.{statement}
 use Rattle.plans.proofs.share_outputs.is_ahead.Tie as tie
 
+returns-then-not-sorted : tie.Need-returns-then-not-sorted
+returns-then-not-sorted c q = absurd (let z : ◌≡◌ {A = ℕ} 0 1 = cc in omega arith)
+
 returns : tie.Need-returns
-returns c q = absurd (let z : ◌≡◌ {A = ℕ} 0 1 = cc in omega arith)
+returns c q = (not-false _ c.if-not-sorted.false-raw, true_is (sym c.stands_before.ensures ∙ q))
 
-returns-2 : tie.Need-returns-2
-returns-2 c q = (not-false _ c.before.if1.false, true_is (sym c.stands-before.ensures ∙ q))
-
-pub is-ahead-spec : {M : Type 1} → statement M
-is-ahead-spec = tie.close (tie.spec returns (λ c κs. search rules) returns-2)
+pub is_ahead_spec : {M : Type 1} → statement M
+is_ahead_spec = tie.close (tie.spec
+    returns-then-not-sorted
+    (λ c κs. search rules)
+    returns)

@@ -24,39 +24,45 @@ module _ (s : tie.Start) where
   abbrev b : ℕ
   b = s.args.b
 
-returns : tie.Need-returns
-returns c a e = simp (sym e ∙ c.if1.true)
+returns-then-back : tie.Need-returns-then-back
+returns-then-back c a e = simp (sym e ∙ c.if-back.true)
 
-fan-in-requires : tie.Need-fan-in-requires
-fan-in-requires c κs = c.before.requires
+fan_in-requires : tie.Need-fan_in-requires
+fan_in-requires c κs = c.requires
 
-returns-2 : tie.Need-returns-2
-returns-2 c a e = simp (sym e ∙ c.before.before.if1.false, ap (leb 2) (sym c.before.fan-in.ensures) ∙ lt-leb _ _ c.if2.true)
+returns-then-fan_in-lt2 : tie.Need-returns-then-fan_in-lt2
+returns-then-fan_in-lt2 c a e = simp (sym e ∙ c.if-back.false, ap (leb 2) (sym c.fan_in.ensures) ∙ lt-leb _ _ c.if-fan_in-lt2.true)
 
 -- b has two arcs in
-module _ (c : tie.Else2) where
-  abbrev free : tie.Else1
+module _ (c : tie.Else-fan_in-lt2) where
+  abbrev free : tie.Else-back
   free = c.before.before
 
   abbrev start : tie.Start
   start = free.before
 
   enough : leb 2 (fan_in (N start) (g start) (b start)) ≡ true
-  enough = ap (leb 2) (sym c.before.fan-in.ensures) ∙ le-leb _ _ c.if2.false
+  enough = ap (leb 2) (sym c.fan_in.ensures) ∙ le-leb _ _ c.if-fan_in-lt2.false
 
 -- the difference, as the code has it
-said : (c : tie.After-in-range) → fits delay_limit (at (start c.before).args.e) ≡ c.in_range.result
-said c = sym (c.in_range.ensures ∙ ap (λ (z : ℤ). fits delay_limit (at z)) (to_z-of_z (start c.before).fits.e))
+said : (c : tie.After-in_range) → fits delay_limit (at (start c.before).args.e) ≡ c.in_range.result
+said c = sym (c.in_range.ensures ∙ ap (λ (z : ℤ). fits delay_limit (at z)) (to_z-of_z (start c.before).ranges.e))
 
-returns-3 : tie.Need-returns-3
-returns-3 c a q =
-    let e = c.before.before in
-    simp (sym q ∙ (free e).if1.false, enough e, said c.before ∙ not-true _ c.if3.true)
+returns-then-not-in_range : tie.Need-returns-then-not-in_range
+returns-then-not-in_range c a q =
+    let e = c in
+    simp (sym q ∙ (free e.before.before).if-back.false, enough e.before.before, said c.before ∙ not-true _ c.if-not-in_range.true-raw)
 
-returns-4 : tie.Need-returns-4
-returns-4 c a q =
-    let e = c.before.before in
-    simp (sym q ∙ (free e).if1.false, enough e, said c.before ∙ not-false _ c.if3.false, to_z-of_z {w = w64} (start e).ranges.e)
+returns : tie.Need-returns
+returns c a q =
+    let e = c in
+    simp (sym q ∙ (free e.before.before).if-back.false, enough e.before.before, said c.before ∙ not-false _ c.if-not-in_range.false-raw, to_z-of_z {w = w64} (start e.before.before).ranges.e)
 
-pub outputs-saved-spec : {M : Type 1} → statement M
-outputs-saved-spec = tie.close (tie.spec returns fan-in-requires returns-2 (λ c κs. tt) returns-3 returns-4)
+pub outputs_saved_spec : {M : Type 1} → statement M
+outputs_saved_spec = tie.close (tie.spec
+    returns-then-back
+    fan_in-requires
+    returns-then-fan_in-lt2
+    (λ c κs. tt)
+    returns-then-not-in_range
+    returns)

@@ -37,76 +37,76 @@ module _ (s : tie.Start) where
   b = s.args.b
 
   cell_in : N * b + a < length s.args.table.now
-  cell_in = omega (arith, row_in N b s.pre.1.1.0.below_b, s.pre.0.lent.room, s.pre.1.1.0.below_a)
+  cell_in = omega (arith, row_in N b s.requires.1.1.0.below_b, s.requires.0.lent.room, s.requires.1.1.0.below_a)
 
   within : Within N g
-  within = sound_within s.pre.0.sound
+  within = sound_within s.requires.0.sound
 
-  arc-path : present (g b a) ≡ true → present (longest g N b a) ≡ true
-  arc-path e = T_true (present-⊑ (arc_⊑ (longest_is N g within s.pre.0.sound.acyclic) b a) (true_is e))
+  arc_path : present (g b a) ≡ true → present (longest g N b a) ≡ true
+  arc_path e = T_true (present-⊑ (arc_⊑ (longest_is N g within s.requires.0.sound.acyclic) b a) (true_is e))
 
-is-ahead-requires : tie.Need-is-ahead-requires
-is-ahead-requires c κs = c.before.requires.0.lent.sized.few
+is_ahead-requires : tie.Need-is_ahead-requires
+is_ahead-requires c κs = c.requires.0.lent.sized.few
+
+returns-then-is_ahead : tie.Need-returns-then-is_ahead
+returns-then-is_ahead c =
+    let s = c in
+    let ahead = c.is_ahead.ensures c.if-is_ahead.true in
+    (sym (no_path_back (s.requires.1.0 ahead.0).order (a s.before.before.before) (b s.before.before.before) s.requires.1.1.0.below_b ahead.1), s.requires.1.1.1)
+
+overflow_mul-at : tie.Need-overflow_mul-at
+overflow_mul-at c = omega (arith, cell_in c.before.before.before)
+
+overflow_add-at : tie.Need-overflow_add-at
+overflow_add-at c = omega (arith, cell_in c.before.before.before)
+
+offset_bounds-table-at : tie.Need-offset_bounds-table-at
+offset_bounds-table-at c = omega (arith, cell_in c.before.before.before)
+
+bounds-table-at : tie.Need-bounds-table-at
+bounds-table-at c = cell_in c.before.before.before
+
+-- the arc b→a, as the code has it
+said : (c : tie.After-is_arc) → let s = c in present (g s.before.before.before.before.before (b s.before.before.before.before.before) (a s.before.before.before.before.before)) ≡ c.is_arc.result
+said c =
+    let s = c in
+    ap present (graph_of_at (N s.before.before.before.before.before) s.args.table.now (b s.before.before.before.before.before) (a s.before.before.before.before.before) s.requires.1.1.0.below_b s.requires.1.1.0.below_a)
+    ∙ sym (c.is_arc.ensures ∙ ap (λ (z : ℤ). present (read_cell absent_cell z)) (back w32 _ c.is_arc-arg-1.given))
+
+returns-then-is_arc : tie.Need-returns-then-is_arc
+returns-then-is_arc c = let s = c in (sym (arc_path s.before.before.before.before.before.before (said c.before ∙ c.if-is_arc.true)), s.requires.1.1.1)
+
+index-requires : tie.Need-index-requires
+index-requires c κs = let s = c in (s.requires.0.lent, s.requires.1.1.1)
+
+-- with the row sets
+rowed : (c : tie.After-index) → let s = c in Rowed (N s.before.before.before.before.before.before.before.before) (g s.before.before.before.before.before.before.before.before) c.index.new.words
+rowed c = let s = c in record { sets = c.index.ensures; inside = (within s.before.before.before.before.before.before.before.before).in_range }
+
+leads-found-requires : tie.Need-leads-found-requires
+leads-found-requires c κs =
+    let x = c in
+    let s = x in
+    (s.requires.0.lent.sized.few, (s.requires.1.1.0.below_b, (s.requires.1.1.0.below_a, (g s.before.before.before.before.before.before.before.before.before.before, rowed x.before.before))))
 
 returns : tie.Need-returns
 returns c =
-    let s = c.before.before.before in
-    let ahead = c.before.is-ahead.ensures c.if1.true in
-    (sym (no_path_back (s.requires.1.0 ahead.0).order (a s) (b s) s.requires.1.1.0.below_b ahead.1), s.requires.1.1.1)
+    let x = c in
+    (c.leads-found.ensures (g x.before.before.before.before.before.before.before.before.before.before.before) (rowed x.before.before.before), record { long = x.index.ensures.long; sets = λ _. x.index.ensures })
 
-mul_at : tie.Need-overflow-mul-at
-mul_at c = omega (arith, cell_in c.before.before.before)
-
-add_at : tie.Need-overflow-add-at
-add_at c = omega (arith, cell_in c.before.before.before)
-
-mul-is-arc : tie.Need-overflow-mul-is-arc
-mul-is-arc c = omega (arith, cell_in c.before.before.before)
-
-shared-slice-copy-out-is-arc : tie.Need-shared-slice-copy-out-is-arc
-shared-slice-copy-out-is-arc c = cell_in c.before.before.before
-
--- the arc b→a, as the code has it
-said : (c : tie.After-is-arc) → let s = c.before.before.before.before.before in present (g s (b s) (a s)) ≡ c.is-arc.result
-said c =
-    let s = c.before.before.before.before.before in
-    ap present (graph_of_at (N s) s.args.table.now (b s) (a s) s.requires.1.1.0.below_b s.requires.1.1.0.below_a)
-    ∙ sym (c.is-arc.ensures ∙ ap (λ (z : ℤ). present (read_cell absent_cell z)) (back w32 _ c.before.is-arc-arg.given))
-
-returns-2 : tie.Need-returns-2
-returns-2 c = let s = c.before.before.before.before.before.before in (sym (arc-path s (said c.before ∙ c.if2.true)), s.requires.1.1.1)
-
-index-requires : tie.Need-index-requires
-index-requires c κs = let s = c.before.before.before.before.before.before.before in (s.requires.0.lent, s.requires.1.1.1)
-
--- with the row sets
-rowed : (c : tie.After-index) → let s = c.before.before.before.before.before.before.before.before in Rowed (N s) (g s) c.index.new.1.1.0
-rowed c = let s = c.before.before.before.before.before.before.before.before in record { sets = c.index.ensures; inside = (within s).in_range }
-
-leads-requires : tie.Need-leads-requires
-leads-requires c κs =
-    let x = c.before.before.before in
-    let s = x.before.before.before.before.before.before.before.before in
-    (s.requires.0.lent.sized.few, (s.requires.1.1.0.below_b, (s.requires.1.1.0.below_a, (g s, rowed x))))
-
-returns-3 : tie.Need-returns-3
-returns-3 c =
-    let x = c.before.before.before.before in
-    (c.leads.ensures (g x.before.before.before.before.before.before.before.before) (rowed x), record { long = x.index.ensures.long; sets = λ _. x.index.ensures })
-
-pub path-back-spec : {M : Type 1} → statement M
-path-back-spec =
+pub path_back_spec : {M : Type 1} → statement M
+path_back_spec =
     tie.close
     (tie.spec
-    is-ahead-requires
-    returns
-    mul_at
-    add_at
-    mul-is-arc
-    shared-slice-copy-out-is-arc
+    is_ahead-requires
+    returns-then-is_ahead
+    overflow_mul-at
+    overflow_add-at
+    offset_bounds-table-at
+    bounds-table-at
     (λ c κs. tt)
-    returns-2
+    returns-then-is_arc
     index-requires
-    leads-requires
+    leads-found-requires
     (λ c. search rules)
-    returns-3)
+    returns)

@@ -8,27 +8,27 @@ use Rattle.plans.proofs.SharedRows.{outputs_stored}
 use Rattle.plans.proofs.share_outputs.share_outputs_row.Statement.{statement}
 use Rattle.plans.proofs.share_outputs.share_outputs_row.Tie as tie
 
+returns-then-u-a : tie.Need-returns-then-u-a
+returns-then-u-a c =
+    let s = c in
+    outputs_stored s.args.row.now s.args.a s.args.b s.args.e s.args.u _ s.requires
+    (to_z-of_z s.ranges.e ∙ sym (ap (λ (t : Bool). cond t s.args.e absent_cell) (eq-eqb s.args.u s.args.a c.if-u-a.true)))
+
 returns : tie.Need-returns
 returns c =
-    let s = c.before in
+    let s = c in
     outputs_stored s.args.row.now s.args.a s.args.b s.args.e s.args.u _ s.requires
-    (to_z-of_z s.ranges.e ∙ sym (ap (λ (t : Bool). cond t s.args.e absent_cell) (eq-eqb s.args.u s.args.a c.if1.true)))
+    (sym (ap (λ (t : Bool). cond t s.args.e absent_cell) (ne_eqb s.args.u s.args.a c.if-u-a.false)))
 
-returns-2 : tie.Need-returns-2
-returns-2 c =
-    let s = c.before in
-    outputs_stored s.args.row.now s.args.a s.args.b s.args.e s.args.u _ s.requires
-    (sym (ap (λ (t : Bool). cond t s.args.e absent_cell) (ne_eqb s.args.u s.args.a c.if1.false)))
-
-pub share-outputs-row-spec : {M : Type 1} → statement M
-share-outputs-row-spec =
+pub share_outputs_row_spec : {M : Type 1} → statement M
+share_outputs_row_spec =
     tie.close
     (tie.spec
     (λ c. search rules)
     (λ c. search rules)
     (λ c. search rules)
-    returns
+    returns-then-u-a
     (λ c. search rules)
     (λ c. search rules)
     (λ c. search rules)
-    returns-2)
+    returns)

@@ -23,17 +23,17 @@ use Rattle.plans.proofs.ShareConditions.{two_outputs_lem, outputs_wrong, outputs
 use Rattle.plans.proofs.share_outputs.share_outputs_verdict.Statement.{statement}
 use Rattle.plans.proofs.share_outputs.share_outputs_verdict.Tie as tie
 
-two-outputs-requires : tie.Need-two-outputs-requires
-two-outputs-requires c κs = c.requires.0.checked.lent.sized
+two_outputs-requires : tie.Need-two_outputs-requires
+two_outputs-requires c κs = c.requires.0.checked.lent.sized
 
-returns : tie.Need-returns
-returns c =
-    let s = c.before.before in
+returns-then-not-two_outputs : tie.Need-returns-then-not-two_outputs
+returns-then-not-two_outputs c =
+    let s = c in
     let d = s.args.board in
-    (outputs_wrong d.inputs d.outputs d.vertices s.args.a s.args.b (graph_of d.vertices s.args.table.now) (sym c.before.two_outputs_lem.ensures ∙ not-true _ c.if1.true), refl)
+    (outputs_wrong d.inputs d.outputs d.vertices s.args.a s.args.b (graph_of d.vertices s.args.table.now) (sym c.two_outputs_lem.ensures ∙ not-true _ c.if-not-two_outputs.true-raw), refl)
 
 -- a and b have passed
-module _ (c : tie.Else1) where
+module _ (c : tie.Else-not-two_outputs) where
   abbrev start : tie.Start
   start = c.before.before
 
@@ -53,76 +53,76 @@ module _ (c : tie.Else1) where
   b = start.args.b
 
   right : (is_output board.inputs board.outputs a && is_output board.inputs board.outputs b && not (eqb a b)) ≡ true
-  right = sym c.before.two_outputs_lem.ensures ∙ not-false _ c.if1.false
+  right = sym c.two_outputs_lem.ensures ∙ not-false _ c.if-not-two_outputs.false-raw
 
   outputs : TwoOutputs board a b
-  outputs = two_outputs_lem board start.pre.0.checked.lent.sized a b right
+  outputs = two_outputs_lem board start.requires.0.checked.lent.sized a b right
 
   fits : N ≤ scratch_cells N
-  fits = vector_fits board start.pre.0.checked.lent.sized
+  fits = vector_fits board start.requires.0.checked.lent.sized
 
-columns-difference-requires : tie.Need-columns-difference-requires
-columns-difference-requires c κs = let e = c.before in ((start e).requires.0, (omega (arith, (start e).requires.1, fits e), outputs e))
+columns_difference-found-requires : tie.Need-columns_difference-found-requires
+columns_difference-found-requires c κs = let e = c in ((start e.before).requires.0, (omega (arith, (start e.before).requires.1, fits e.before), outputs e.before))
 
 -- the columns have been compared
-module _ (c : tie.After-columns-difference) where
-  abbrev passed : tie.Else1
+module _ (c : tie.After-columns_difference-found) where
+  abbrev passed : tie.Else-not-two_outputs
   passed = c.before.before
 
   abbrev after : List ℤ
-  after = c.columns-difference.new.1.1.1.0
+  after = c.columns_difference-found.new.scratch
 
   past : drop (scratch_cells (N passed)) after ≡ drop (scratch_cells (N passed)) (start passed).args.scratch.now
-  past = drop_further (N passed) (scratch_cells (N passed)) (start passed).args.scratch.now after (fits passed) c.columns-difference.ensures.1
+  past = drop_further (N passed) (scratch_cells (N passed)) (start passed).args.scratch.now after (fits passed) c.columns_difference-found.ensures.1
 
 -- the difference, as the code has it
-e-is : (c : tie.After-known-told) → to_z w64 (of_z w64 c.before.found.given.0.0) ≡ c.before.found.given.0.0
-e-is c = search rules
+e_is : (c : tie.In-Common) → to_z w64 (of_z w64 c.in-Common.e) ≡ c.in-Common.e
+e_is c = search rules
 
-slice-aggregate-path-back : tie.Need-slice-aggregate-path-back
-slice-aggregate-path-back c = sym c.before.words.ensures
+slice_bounds-path_back-end : tie.Need-slice_bounds-path_back-end
+slice_bounds-path_back-end c = sym c.words-words.ensures
 
-path-back-requires : tie.Need-path-back-requires
-path-back-requires c κs =
-    let w = c.before in
-    let e = passed w.before.before.before.before.before in
-    let few = (start e).pre.0.checked.lent.sized.few in
-    ((start e).pre.0.checked, ((λ _. (start e).pre.0), (outputs e, record { long = omega (arith, w.words.ensures, few); sets = λ q. absurd (let z : ◌≡◌ {A = ℕ} 0 1 = cc in omega arith) })))
+path_back-looked-requires : tie.Need-path_back-looked-requires
+path_back-looked-requires c κs =
+    let w = c in
+    let e = passed w.before.before.before.before in
+    let few = (start e).requires.0.checked.lent.sized.few in
+    ((start e).requires.0.checked, ((λ _. (start e).requires.0), (outputs e, record { long = omega (arith, w.words-words.ensures, few); sets = λ q. absurd (let z : ◌≡◌ {A = ℕ} 0 1 = cc in omega arith) })))
 
-outputs-saved-requires : tie.Need-outputs-saved-requires
-outputs-saved-requires c κs = let e = passed c.before.before.before.before.before.before.before.before in ((start e).pre.0.checked.lent, (outputs e).below_b)
+outputs_saved-requires : tie.Need-outputs_saved-requires
+outputs_saved-requires c κs = let e = passed c.before.before.before.before.before.before in ((start e).requires.0.checked.lent, (outputs e).below_b)
 
-returns-2 : tie.Need-returns-2
-returns-2 c =
-    let x = c.before.before in
-    let k = x.before.before.before in
-    let d = k.before.before.before.before in
-    let e = passed d in (
-      c.outputs-saved.ensures (a e) x.path-back.ensures.0 ∙ ap (outputs_saved (N e) (g e) (a e) (b e)) (e-is k)
-          ∙ outputs_common (board e).inputs (board e).outputs (N e) (a e) (b e) (g e) (right e) d.columns-difference.result d.columns-difference.ensures.0 _ k.before.found.given.1,
-      past d,
+returns-in-Common : tie.Need-returns-in-Common
+returns-in-Common c =
+    let x = c in
+    let k = x in
+    let d = k in
+    let e = passed d.before.before.before.before.before.before.before in (
+      c.outputs_saved.ensures (a e) x.path_back-looked.ensures.0 ∙ ap (outputs_saved (N e) (g e) (a e) (b e)) (e_is k.before.before.before.before.before)
+          ∙ outputs_common (board e).inputs (board e).outputs (N e) (a e) (b e) (g e) (right e) d.columns_difference-found.result d.columns_difference-found.ensures.0 _ k.in-Common.is,
+      past d.before.before.before.before.before.before.before,
     )
 
-returns-3 : tie.Need-returns-3
-returns-3 c =
-    let d = c.before.before.before in
-    let e = passed d in
-    (outputs_refused (board e).inputs (board e).outputs (N e) (a e) (b e) (g e) (right e) d.columns-difference.result d.columns-difference.ensures.0 _ c.enum_told.given.1, past d)
+returns : tie.Need-returns
+returns c =
+    let d = c in
+    let e = passed d.before.before in
+    (outputs_refused (board e).inputs (board e).outputs (N e) (a e) (b e) (g e) (right e) d.columns_difference-found.result d.columns_difference-found.ensures.0 _ c.in_default.is, past d.before.before)
 
-pub share-outputs-verdict-spec : {M : Type 1} → statement M
-share-outputs-verdict-spec =
+pub share_outputs_verdict_spec : {M : Type 1} → statement M
+share_outputs_verdict_spec =
     tie.close
     (tie.spec
-    two-outputs-requires
-    returns
-    columns-difference-requires
+    two_outputs-requires
+    returns-then-not-two_outputs
+    columns_difference-found-requires
     (λ c. search rules)
     (λ c κs. tt)
-    slice-aggregate-path-back
-    path-back-requires
-    outputs-saved-requires
+    slice_bounds-path_back-end
+    path_back-looked-requires
+    outputs_saved-requires
     (λ c. search rules)
-    returns-2
+    returns-in-Common
     (λ c. search rules)
     (λ c. search rules)
-    returns-3)
+    returns)

@@ -3,25 +3,30 @@ use borrow.Author.Tests.{not-true, not-false}
 use Rattle.plans.proofs.share_outputs.two_outputs.Statement.{statement}
 use Rattle.plans.proofs.share_outputs.two_outputs.Tie as tie
 
-is-output-requires : tie.Need-is-output-requires
-is-output-requires c κs = c.requires
+is_output-requires : tie.Need-is_output-requires
+is_output-requires c κs = c.requires
+
+returns-then-not-is_output : tie.Need-returns-then-not-is_output
+returns-then-not-is_output c = simp (sym c.is_output_lem.ensures ∙ not-true _ c.if-not-is_output.true-raw)
+
+is_output-requires-2 : tie.Need-is_output-requires-2
+is_output-requires-2 c κs = c.requires
+
+returns-then-not-is_output-2 : tie.Need-returns-then-not-is_output-2
+returns-then-not-is_output-2 c =
+    let f = c in
+    simp (sym f.is_output_lem.ensures ∙ not-false _ f.if-not-is_output.false-raw, sym c.is_output-2.ensures ∙ not-true _ c.if-not-is_output-2.true-raw)
 
 returns : tie.Need-returns
-returns c = simp (sym c.before.is_output_lem.ensures ∙ not-true _ c.if1.true)
+returns c =
+    let f = c in
+    simp (sym f.is_output_lem.ensures ∙ not-false _ f.if-not-is_output.false-raw, sym c.is_output-2.ensures ∙ not-false _ c.if-not-is_output-2.false-raw)
 
-is-output-requires-2 : tie.Need-is-output-requires-2
-is-output-requires-2 c κs = c.before.before.requires
-
-returns-2 : tie.Need-returns-2
-returns-2 c =
-    let f = c.before.before in
-    simp (sym f.before.is_output_lem.ensures ∙ not-false _ f.if1.false, sym c.before.is-output2.ensures ∙ not-true _ c.if2.true)
-
-returns-3 : tie.Need-returns-3
-returns-3 c =
-    let f = c.before.before in
-    simp (sym f.before.is_output_lem.ensures ∙ not-false _ f.if1.false, sym c.before.is-output2.ensures ∙ not-false _ c.if2.false)
-
-pub two-outputs-spec : {M : Type 1} → statement M
-two-outputs-spec =
-    tie.close (tie.spec is-output-requires returns is-output-requires-2 returns-2 returns-3)
+pub two_outputs_spec : {M : Type 1} → statement M
+two_outputs_spec =
+    tie.close (tie.spec
+    is_output-requires
+    returns-then-not-is_output
+    is_output-requires-2
+    returns-then-not-is_output-2
+    returns)

@@ -18,14 +18,14 @@ use Rattle.plans.proofs.ShrunkRows.{bypassed_before, bypassed_after}
 use Rattle.plans.proofs.shrink.bypass.Statement.{statement}
 use Rattle.plans.proofs.shrink.bypass.Tie as tie
 
-mul-into : tie.Need-overflow-mul-into
-mul-into c = omega (arith, c.requires.inside)
+offset_bounds-row-k : tie.Need-offset_bounds-row-k
+offset_bounds-row-k c = omega (arith, c.requires.inside)
 
-slice-copy-out-into : tie.Need-slice-copy-out-into
-slice-copy-out-into c = c.requires.inside
+slice_copy_out-into : tie.Need-slice_copy_out-into
+slice_copy_out-into c = c.requires.inside
 
 -- the cell of u→k has been read
-module _ (c : tie.After-into) where
+module _ (c : tie.After-into-1) where
   abbrev start : tie.Start
   start = c.before
 
@@ -38,39 +38,39 @@ module _ (c : tie.After-into) where
   abbrev k : ℕ
   k = start.args.k
 
-  into-is : to_z w32 (of_z w32 (get_or row k (pos 0))) ≡ get_or row k (pos 0)
-  into-is = back w32 _ c.into.given
+  into_is : to_z w32 (of_z w32 (get_or row k (pos 0))) ≡ get_or row k (pos 0)
+  into_is = back w32 _ c.into-1.given
+
+returns-then-not-is_arc : tie.Need-returns-then-not-is_arc
+returns-then-not-is_arc c =
+    let i = c in
+    bypassed_before (row i.before.before) (via i.before.before) (k i.before.before) (ap (λ (z : ℤ). present (read_cell absent_cell z)) (sym (into_is i.before.before)) ∙ sym c.is_arc.ensures ∙ not-true _ c.if-not-is_arc.true-raw)
+
+join_row-requires : tie.Need-join_row-requires
+join_row-requires c κs = let i = c in ((start i.before.before.before).requires.few, rw (into_is i.before.before.before) (start i.before.before.before).requires.legal)
+
+offset_bounds-row-k-2 : tie.Need-offset_bounds-row-k-2
+offset_bounds-row-k-2 c = let i = c in omega (arith, (start i.before.before.before.before.before).requires.inside)
+
+slice_set_of-row : tie.Need-slice_set_of-row
+slice_set_of-row c = let i = c in omega (arith, (start i.before.before.before.before.before).requires.inside)
 
 returns : tie.Need-returns
 returns c =
-    let i = c.before.before in
-    bypassed_before (row i) (via i) (k i) (ap (λ (z : ℤ). present (read_cell absent_cell z)) (sym (into-is i)) ∙ sym c.before.is-arc.ensures ∙ not-true _ c.if1.true)
+    let i = c in
+    bypassed_after (row i.before.before.before.before.before) (via i.before.before.before.before.before) (k i.before.before.before.before.before) c.join_row.new.row
+    (c.join_row.ensures ∙ ap (λ (z : ℤ). tabulate (length (row i.before.before.before.before.before)) (joined_cell (row i.before.before.before.before.before) (via i.before.before.before.before.before) (read_cell absent_cell z))) (into_is i.before.before.before.before.before)) (start i.before.before.before.before.before).requires.inside
 
-join-row-requires : tie.Need-join-row-requires
-join-row-requires c κs = let i = c.before.before.before in ((start i).requires.few, rw (into-is i) (start i).requires.legal)
-
-mul-row : tie.Need-overflow-mul-row
-mul-row c = let i = c.before.before.before.before.before in omega (arith, (start i).requires.inside)
-
-slice-set-of-row : tie.Need-slice-set-of-row
-slice-set-of-row c = let i = c.before.before.before.before.before in omega (arith, (start i).requires.inside)
-
-returns-2 : tie.Need-returns-2
-returns-2 c =
-    let i = c.before.before.before.before.before in
-    bypassed_after (row i) (via i) (k i) c.before.join-row.new.0
-    (c.before.join-row.ensures ∙ ap (λ (z : ℤ). tabulate (length (row i)) (joined_cell (row i) (via i) (read_cell absent_cell z))) (into-is i)) (start i).requires.inside
-
-pub bypass-spec : {M : Type 1} → statement M
-bypass-spec =
+pub bypass_spec : {M : Type 1} → statement M
+bypass_spec =
     tie.close
     (tie.spec
-    mul-into
-    slice-copy-out-into
+    offset_bounds-row-k
+    slice_copy_out-into
     (λ c κs. tt)
-    returns
-    join-row-requires
-    mul-row
-    slice-set-of-row
+    returns-then-not-is_arc
+    join_row-requires
+    offset_bounds-row-k-2
+    slice_set_of-row
     (λ c. search rules)
-    returns-2)
+    returns)

@@ -12,19 +12,23 @@ use Rattle.plans.proofs.shrink.is_relay.Tie as tie
 abbrev one : tie.Start → Bool
 one s = eqb (fan_in s.args.board.vertices (graph_of s.args.board.vertices s.args.table.now) s.args.k) 1
 
-fan-out-requires : tie.Need-fan-out-requires
-fan-out-requires c κs = c.requires
+fan_out-requires : tie.Need-fan_out-requires
+fan_out-requires c κs = c.requires
+
+returns-then-fan_out-eq1 : tie.Need-returns-then-fan_out-eq1
+returns-then-fan_out-eq1 c = let s = c in or_true (one s.before.before) ∙ ap (λ (b : Bool). one s.before.before || b) (sym (eq-eqb _ 1 (sym c.fan_out.ensures ∙ c.if-fan_out-eq1.true)))
+
+one_into-requires : tie.Need-one_into-requires
+one_into-requires c κs = c.requires
 
 returns : tie.Need-returns
-returns c = let s = c.before.before in or_true (one s) ∙ ap (λ (b : Bool). one s || b) (sym (eq-eqb _ 1 (sym c.before.fan-out.ensures ∙ c.if1.true)))
+returns c =
+    let s = c in
+    c.one_into.ensures ∙ sym (or_none (one s.before.before.before)) ∙ ap (λ (b : Bool). one s.before.before.before || b) (sym (ne_eqb _ 1 (λ e. c.if-fan_out-eq1.false (c.fan_out.ensures ∙ e))))
 
-one-into-requires : tie.Need-one-into-requires
-one-into-requires c κs = c.before.before.requires
-
-returns-2 : tie.Need-returns-2
-returns-2 c =
-    let s = c.before.before.before in
-    c.one-into.ensures ∙ sym (or_none (one s)) ∙ ap (λ (b : Bool). one s || b) (sym (ne_eqb _ 1 (λ e. c.before.if1.false (c.before.before.fan-out.ensures ∙ e))))
-
-pub is-relay-spec : {M : Type 1} → statement M
-is-relay-spec = tie.close (tie.spec fan-out-requires returns one-into-requires returns-2)
+pub is_relay_spec : {M : Type 1} → statement M
+is_relay_spec = tie.close (tie.spec
+    fan_out-requires
+    returns-then-fan_out-eq1
+    one_into-requires
+    returns)

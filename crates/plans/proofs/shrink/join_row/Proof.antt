@@ -19,18 +19,18 @@ use Rattle.plans.specs.ShrunkRow.{joined_cell}
 use Rattle.plans.proofs.shrink.join_row.Statement.{statement}
 use Rattle.plans.proofs.shrink.join_row.Tie as tie
 
-abbrev invariant-loop : tie.invariant-loop
+abbrev invariant-loop : tie.invariant-loop-t
 invariant-loop row₀ via into t₀ row t = (t ≤ length row₀) × (length row ≡ length row₀) × (row ≡ tabulate t (joined_cell row₀ via (read_cell absent_cell (to_z w32 into))) ++ drop t row₀)
 
-abbrev decreases-loop : tie.decreases-loop
+abbrev decreases-loop : tie.decreases-loop-t
 decreases-loop row₀ via into t₀ row t = length row₀ - t
 
-loop-holds : tie.Need-loop-init invariant-loop decreases-loop
-loop-holds c = (omega arith, refl, fill_none _ _)
+loop-t-init : tie.Need-loop-t-init invariant-loop decreases-loop
+loop-t-init c = (omega arith, refl, fill_none _ _)
 
 -- a turn, where its cells have been read
-module _ (c : tie.After-join-arg2 invariant-loop decreases-loop) where
-  abbrev loop : tie.At-loop invariant-loop decreases-loop
+module _ (c : tie.After-join-arg-in-loop-t-1 invariant-loop decreases-loop) where
+  abbrev loop : tie.At-loop-t invariant-loop decreases-loop
   loop = c.before.before.before
 
   abbrev start : tie.Start invariant-loop decreases-loop
@@ -46,51 +46,51 @@ module _ (c : tie.After-join-arg2 invariant-loop decreases-loop) where
   into = to_z w32 (of_z w32 start.args.into)
 
   abbrev t : ℕ
-  t = loop.loop.t
+  t = loop.loop-t.t
 
-  via-is : to_z w32 (of_z w32 (get_or via t (pos 0))) ≡ get_or via t (pos 0)
-  via-is = back w32 _ c.join-arg2.given
+  via_is : to_z w32 (of_z w32 (get_or via t (pos 0))) ≡ get_or via t (pos 0)
+  via_is = back w32 _ c.join-arg-in-loop-t-1.given
 
   -- the cell of the row as it is now is the one that was there
-  old-is : to_z w32 (of_z w32 (get_or loop.loop.row t (pos 0))) ≡ get_or old t (pos 0)
-  old-is =
-      back w32 _ c.before.join-arg.given ∙ ap (λ (r : List ℤ). get_or r t (pos 0)) loop.loop.inv.2
+  old_is : to_z w32 (of_z w32 (get_or loop.loop-t.row t (pos 0))) ≡ get_or old t (pos 0)
+  old_is =
+      back w32 _ c.join-arg-1.given ∙ ap (λ (r : List ℤ). get_or r t (pos 0)) loop.loop-t.invariant.2
       ∙ fill_here (joined_cell old via (read_cell absent_cell into)) old t (pos 0) (omega arith)
 
 join-requires : tie.Need-join-requires invariant-loop decreases-loop
 join-requires c κs =
-    simp (via-is c, to_z-of_z {w = w32} (start c).ranges.into)
+    simp (via_is c, to_z-of_z {w = w32} (start c).ranges.into)
     (every_at (length (old c)) (λ t. fits delay_limit (read_cell absent_cell (start c).args.into ⊕ cell_at (via c) t)) (start c).requires.1 (t c) (omega arith))
 
 -- the cell that the call gives
-given : (c : tie.After-join invariant-loop decreases-loop) → let a = c.before in to_z w32 (of_z w32 c.join.result) ≡ joined_cell (old a) (via a) (read_cell absent_cell (into a)) (t a)
+given : (c : tie.After-join invariant-loop decreases-loop) → let a = c in to_z w32 (of_z w32 c.join.result) ≡ joined_cell (old a.before) (via a.before) (read_cell absent_cell (into a.before)) (t a.before)
 given c =
-    let a = c.before in
-    back w32 _ c.join.type-inv ∙ c.join.ensures
-    ∙ ap₂ (λ (x y : ℤ). write_cell absent_cell (read_cell absent_cell x ⋓ (read_cell absent_cell (into a) ⊕ read_cell absent_cell y))) (old-is a) (via-is a)
+    let a = c in
+    back w32 _ c.join.type_inv ∙ c.join.ensures
+    ∙ ap₂ (λ (x y : ℤ). write_cell absent_cell (read_cell absent_cell x ⋓ (read_cell absent_cell (into a.before) ⊕ read_cell absent_cell y))) (old_is a.before) (via_is a.before)
 
-loop-again : tie.Need-loop-preserved invariant-loop decreases-loop
-loop-again c =
-    let a = c.before in
-    let l = loop a in
-    (omega arith, simp length-set l.loop.inv.1, fill_turn (joined_cell (old a) (via a) (read_cell absent_cell (into a))) (old a) l.loop.row (t a) _ (omega arith) l.loop.inv.2 (given c))
+loop-t-preserved : tie.Need-loop-t-preserved invariant-loop decreases-loop
+loop-t-preserved c =
+    let a = c in
+    let l = loop a.before in
+    (omega arith, simp length-set l.loop-t.invariant.1, fill_turn (joined_cell (old a.before) (via a.before) (read_cell absent_cell (into a.before))) (old a.before) l.loop-t.row (t a.before) _ (omega arith) l.loop-t.invariant.2 (given c))
 
-same_length : tie.Need-same-length invariant-loop decreases-loop
-same_length c = c.before.loop.invariant.1
+shape_of-row : tie.Need-shape_of-row invariant-loop decreases-loop
+shape_of-row c = c.loop-t.invariant.1
 
 returns : tie.Need-returns invariant-loop decreases-loop
 returns c =
-    let s = c.before.before in
-    c.before.loop.invariant.2 ∙ fill_all _ _ c.before.loop.t (omega arith)
+    let s = c in
+    c.loop-t.invariant.2 ∙ fill_all _ _ c.loop-t.t (omega arith)
     ∙ ap (λ (z : ℤ). tabulate (length s.args.row.now) (joined_cell s.args.row.now s.args.via.now (read_cell absent_cell z))) (to_z-of_z s.ranges.into)
 
-pub join-row-spec : {M : Type 1} → statement M
-join-row-spec =
+pub join_row_spec : {M : Type 1} → statement M
+join_row_spec =
     tie.close
     (tie.spec
     invariant-loop
     decreases-loop
-    loop-holds
+    loop-t-init
     (λ c. omega arith)
     (λ c. omega arith)
     (λ c. omega arith)
@@ -100,6 +100,6 @@ join-row-spec =
     (λ c. omega arith)
     (λ c. omega arith)
     (λ c. omega arith)
-    loop-again
-    same_length
+    loop-t-preserved
+    shape_of-row
     returns)

@@ -33,27 +33,33 @@ module _ (c : tie.Start) where
   high_is : to_z w32 (of_z w32 (pos delay_limit -ℤ to_z w32 (of_z w32 a))) ≡ pos delay_limit -ℤ a
   high_is = handed w32 (part (pos delay_limit)) high
 
-sub-high : tie.Need-overflow-sub-high
-sub-high c = subst (SFits w32) (sym (part c (pos delay_limit))) (high c)
+overflow_sub-high : tie.Need-overflow_sub-high
+overflow_sub-high c = subst (SFits w32) (sym (part c (pos delay_limit))) (high c)
+
+returns-then-into-ge0 : tie.Need-returns-then-into-ge0
+returns-then-into-ge0 c =
+    let s = c in
+    let positive : pos 0 ≤ℤ a s.before.before = record { le = true_is (rw (to_z-of_z {w = w32} s.ranges.into) at c.if-into-ge0.true) } in
+    c.row_upto.ensures
+    ∙ every_same s.args.n _ _
+    (λ v l. ap (λ (y : ℤ). le_z (get_or s.args.via.now v (pos 0)) y) (high_is s.before.before)
+    ∙ upto_sum (a s.before.before) (get_or s.args.via.now v (pos 0)) positive s.requires.1.0 (every_at s.args.n (λ t. fits delay_limit (cell_at s.args.via.now t)) s.requires.1.1 v l))
+
+overflow_sub-low : tie.Need-overflow_sub-low
+overflow_sub-low c = let s = c in subst (SFits w32) (sym (part s.before (neg_ℤ (pos delay_limit)))) (low s.before)
 
 returns : tie.Need-returns
 returns c =
-    let s = c.before.before in
-    let positive : pos 0 ≤ℤ a s = record { le = true_is (rw (to_z-of_z {w = w32} s.ranges.into) at c.before.if1.true) } in
-    c.row_upto.ensures
-    ∙ every_same s.args.n _ _
-    (λ v l. ap (λ (y : ℤ). le_z (get_or s.args.via.now v (pos 0)) y) (high_is s)
-    ∙ upto_sum (a s) (get_or s.args.via.now v (pos 0)) positive s.requires.1.0 (every_at s.args.n (λ t. fits delay_limit (cell_at s.args.via.now t)) s.requires.1.1 v l))
-
-sub_low : tie.Need-overflow-sub-low
-sub_low c = let s = c.before in subst (SFits w32) (sym (part s (neg_ℤ (pos delay_limit)))) (low s)
-
-returns-2 : tie.Need-returns-2
-returns-2 c =
-    let s = c.before.before in
+    let s = c in
     c.row_within.ensures
-    ∙ ap₂ (λ (x y : ℤ). every s.args.n (λ v. between x y (cell_at s.args.via.now v))) (handed w32 (part s (neg_ℤ (pos delay_limit))) (low s)) (high_is s)
-    ∙ every_same s.args.n _ _ (λ v _. between-sum delay_limit (a s) (cell_at s.args.via.now v))
+    ∙ ap₂ (λ (x y : ℤ). every s.args.n (λ v. between x y (cell_at s.args.via.now v))) (handed w32 (part s.before.before (neg_ℤ (pos delay_limit))) (low s.before.before)) (high_is s.before.before)
+    ∙ every_same s.args.n _ _ (λ v _. between-sum delay_limit (a s.before.before) (cell_at s.args.via.now v))
 
-pub row-sums-fit-spec : {M : Type 1} → statement M
-row-sums-fit-spec = tie.close (tie.spec sub-high (λ c κs. c.before.requires.0) returns sub_low (λ c κs. c.before.requires.0) returns-2)
+pub row_sums_fit_spec : {M : Type 1} → statement M
+row_sums_fit_spec = tie.close (tie.spec
+    overflow_sub-high
+    (λ c κs. c.requires.0)
+    returns-then-into-ge0
+    overflow_sub-low
+    (λ c κs. c.requires.0)
+    returns)

@@ -15,18 +15,18 @@ use Rattle.reduction.specs.Shrink.{shrink_verdict}
 use Rattle.plans.proofs.shrink.shrink_verdict.Statement.{statement}
 use Rattle.plans.proofs.shrink.shrink_verdict.Tie as tie
 
-is-inner-requires : tie.Need-is-inner-requires
-is-inner-requires c κs = c.requires.0.sized
+is_inner-requires : tie.Need-is_inner-requires
+is_inner-requires c κs = c.requires.0.sized
 
-returns : tie.Need-returns
+returns-then-not-is_inner : tie.Need-returns-then-not-is_inner
 unfolding shrink_verdict
-returns c = let inner = sym c.before.is-inner.ensures ∙ not-true _ c.if1.true in simp inner
+returns-then-not-is_inner c = let inner = sym c.is_inner.ensures ∙ not-true _ c.if-not-is_inner.true-raw in simp inner
 
 below : (m n N k : ℕ) → is_inner m n N k ≡ true → k < N
 below m n N k e = ltb→lt k N (and_e (leb (m + n) k) (ltb k N) (true_is e)).1
 
 -- k has passed the first condition
-module _ (c : tie.Else1) where
+module _ (c : tie.Else-not-is_inner) where
   abbrev start : tie.Start
   start = c.before.before
 
@@ -34,24 +34,24 @@ module _ (c : tie.Else1) where
   k = start.args.k
 
   inner : is_inner start.args.board.inputs start.args.board.outputs start.args.board.vertices k ≡ true
-  inner = sym c.before.is-inner.ensures ∙ not-false _ c.if1.false
+  inner = sym c.is_inner.ensures ∙ not-false _ c.if-not-is_inner.false-raw
 
   inside : k < start.args.board.vertices
   inside = below _ start.args.board.outputs _ k inner
 
-is-relay-requires : tie.Need-is-relay-requires
-is-relay-requires c κs = ((start c).requires.0, inside c)
+is_relay-requires : tie.Need-is_relay-requires
+is_relay-requires c κs = ((start c).requires.0, inside c)
 
-returns-2 : tie.Need-returns-2
+returns-then-not-is_relay : tie.Need-returns-then-not-is_relay
 unfolding shrink_verdict
-returns-2 c = simp (inner c.before.before, sym c.before.is-relay.ensures ∙ not-true _ c.if2.true)
+returns-then-not-is_relay c = simp (inner c.before.before, sym c.is_relay.ensures ∙ not-true _ c.if-not-is_relay.true-raw)
 
-sums-fit-requires : tie.Need-sums-fit-requires
-sums-fit-requires c κs = let i = c.before.before in ((start i).requires.0, ((start i).requires.1, inside i))
+sums_fit-requires : tie.Need-sums_fit-requires
+sums_fit-requires c κs = let i = c in ((start i.before.before).requires.0, ((start i.before.before).requires.1, inside i.before.before))
 
 -- k has passed the second condition
-module _ (c : tie.Else2) where
-  abbrev first : tie.Else1
+module _ (c : tie.Else-not-is_relay) where
+  abbrev first : tie.Else-not-is_inner
   first = c.before.before
 
   abbrev n : ℕ
@@ -61,34 +61,34 @@ module _ (c : tie.Else2) where
   g = graph_of n (start first).args.table.now
 
   relay : (eqb (fan_in n g (k first)) 1 || eqb (fan_out n g (k first)) 1) ≡ true
-  relay = sym c.before.is-relay.ensures ∙ not-false _ c.if2.false
+  relay = sym c.is_relay.ensures ∙ not-false _ c.if-not-is_relay.false-raw
 
   abbrev legal : Bool
   legal = every n (λ u. every n (λ t. fits delay_limit (g u (k first) ⊕ g (k first) t)))
 
-said : (c : tie.After-sums-fit) → legal c.before ≡ c.sums-fit.result
-said c = sym c.sums-fit.ensures
+said : (c : tie.After-sums_fit) → legal c.before ≡ c.sums_fit.result
+said c = sym c.sums_fit.ensures
 
-returns-3 : tie.Need-returns-3
+returns-then-not-sums_fit : tie.Need-returns-then-not-sums_fit
 unfolding shrink_verdict
-returns-3 c =
-    let f = c.before.before in
-    simp (inner (first f), relay f, said c.before ∙ not-true _ c.if3.true)
+returns-then-not-sums_fit c =
+    let f = c in
+    simp (inner (first f.before.before), relay f.before.before, said c.before ∙ not-true _ c.if-not-sums_fit.true-raw)
 
-returns-4 : tie.Need-returns-4
+returns : tie.Need-returns
 unfolding shrink_verdict
-returns-4 c =
-    let f = c.before.before in
-    simp (inner (first f), relay f, said c.before ∙ not-false _ c.if3.false)
+returns c =
+    let f = c in
+    simp (inner (first f.before.before), relay f.before.before, said c.before ∙ not-false _ c.if-not-sums_fit.false-raw)
 
-pub shrink-verdict-spec : {M : Type 1} → statement M
-shrink-verdict-spec =
+pub shrink_verdict_spec : {M : Type 1} → statement M
+shrink_verdict_spec =
     tie.close
     (tie.spec
-    is-inner-requires
-    returns
-    is-relay-requires
-    returns-2
-    sums-fit-requires
-    returns-3
-    returns-4)
+    is_inner-requires
+    returns-then-not-is_inner
+    is_relay-requires
+    returns-then-not-is_relay
+    sums_fit-requires
+    returns-then-not-sums_fit
+    returns)

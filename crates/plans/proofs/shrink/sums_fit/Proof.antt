@@ -41,25 +41,25 @@ passed n g k u r h s = is_true (every r (right n g k)) (every_all r (right n g k
     go j l (yes b) = every_at u (right n g k) (true_is h) j b
     go j l (no b) = every_all n _ (λ t _. fits_absent delay_limit (ap (λ (d : Delay). d ⊕ g k t) (absent_bit (g j k) (s.none j (omega arith) l))))
 
-abbrev invariant-loop : tie.invariant-loop
+abbrev invariant-loop : tie.invariant-loop-u
 invariant-loop board table k n from u₀ u = (u ≤ n) × (every u (right n (graph_of n table) k) ≡ true) × (u < n → bit (graph_of n table u k) ≡ 1)
 
-abbrev decreases-loop : tie.decreases-loop
+abbrev decreases-loop : tie.decreases-loop-u
 decreases-loop board table k n from u₀ u = n - u
 
-mul-from : tie.Need-overflow-mul-from invariant-loop decreases-loop
-mul-from c = omega (arith, row_in _ _ c.requires.1.1, c.requires.0.room)
+overflow_mul-from : tie.Need-overflow_mul-from invariant-loop decreases-loop
+overflow_mul-from c = omega (arith, row_in _ _ c.requires.1.1, c.requires.0.room)
 
-next-into-requires : tie.Need-next-into-requires invariant-loop decreases-loop
-next-into-requires c κs = (c.requires.0, (c.requires.1.1, omega arith))
+next_into-u-requires : tie.Need-next_into-u-requires invariant-loop decreases-loop
+next_into-u-requires c κs = (c.requires.0, (c.requires.1.1, omega arith))
 
-loop-holds : tie.Need-loop-init invariant-loop decreases-loop
-loop-holds c =
-    let s = c.next-into.ensures in
-    let a = c.before.args in
+loop-u-init : tie.Need-loop-u-init invariant-loop decreases-loop
+loop-u-init c =
+    let s = c.next_into-u.ensures in
+    let a = c.args in
     (s.upto, passed a.board.vertices (graph_of a.board.vertices a.table.now) a.k 0 _ (every_none _) s, s.arc)
 
-module _ (c : tie.In-loop invariant-loop decreases-loop) where
+module _ (c : tie.In-loop-u invariant-loop decreases-loop) where
   abbrev start : tie.Start invariant-loop decreases-loop
   start = c.before.before.before
 
@@ -76,111 +76,111 @@ module _ (c : tie.In-loop invariant-loop decreases-loop) where
   k = start.args.k
 
   abbrev u : ℕ
-  u = c.before.loop.u
+  u = c.loop-u.u
 
   room : n * n ≤ length t
-  room = start.pre.0.room
+  room = start.requires.0.room
 
   inside : k < n
-  inside = start.pre.1.1
+  inside = start.requires.1.1
 
   row : n * u + n ≤ n * n
-  row = row_in n u c.loop-test.true
+  row = row_in n u c.loop-u-test.true
 
-  row-k : n * k + n ≤ n * n
-  row-k = row_in n k inside
+  row_k : n * k + n ≤ n * n
+  row_k = row_in n k inside
 
   -- the cell of the arc u→k
   arc : g u k ≡ at (get_or t (n * u + k) (pos 0))
   arc =
-      let e = graph_of_at n t u k c.loop-test.true inside in
-      e ∙ arc_cell (get_or t (n * u + k) (pos 0)) (ap present (sym e) ∙ T_true (present-bit (g u k) (omega (arith, c.before.loop.invariant.2 c.loop-test.true))))
+      let e = graph_of_at n t u k c.loop-u-test.true inside in
+      e ∙ arc_cell (get_or t (n * u + k) (pos 0)) (ap present (sym e) ∙ T_true (present-bit (g u k) (omega (arith, c.loop-u.invariant.2 c.loop-u-test.true))))
 
-mul_at : tie.Need-overflow-mul-at invariant-loop decreases-loop
-mul_at c = omega (arith, row c, room c)
+overflow_mul-at : tie.Need-overflow_mul-at invariant-loop decreases-loop
+overflow_mul-at c = omega (arith, row c, room c)
 
-add_at : tie.Need-overflow-add-at invariant-loop decreases-loop
-add_at c = omega (arith, row c, room c, inside c)
+overflow_add-at : tie.Need-overflow_add-at invariant-loop decreases-loop
+overflow_add-at c = omega (arith, row c, room c, inside c)
 
-mul-row-sums-fit : tie.Need-overflow-mul-row-sums-fit invariant-loop decreases-loop
-mul-row-sums-fit c = omega (arith, row c, room c, inside c)
+offset_bounds-table-at : tie.Need-offset_bounds-table-at invariant-loop decreases-loop
+offset_bounds-table-at c = omega (arith, row c, room c, inside c)
 
-shared-slice-copy-out-row-sums-fit : tie.Need-shared-slice-copy-out-row-sums-fit invariant-loop decreases-loop
-shared-slice-copy-out-row-sums-fit c = omega (arith, row c, room c, inside c)
+bounds-table-at : tie.Need-bounds-table-at invariant-loop decreases-loop
+bounds-table-at c = omega (arith, row c, room c, inside c)
 
-mul-row-sums-fit-2 : tie.Need-overflow-mul-row-sums-fit-2 invariant-loop decreases-loop
-mul-row-sums-fit-2 c = let i = c.before in omega (arith, row-k i, room i)
+offset_bounds-table-from : tie.Need-offset_bounds-table-from invariant-loop decreases-loop
+offset_bounds-table-from c = let i = c in omega (arith, row_k i.before, room i.before)
 
-sub-row-sums-fit : tie.Need-overflow-sub-row-sums-fit invariant-loop decreases-loop
-sub-row-sums-fit c = let i = c.before in omega (arith, row-k i, room i)
+slice_bounds-row_sums_fit-count : tie.Need-slice_bounds-row_sums_fit-count invariant-loop decreases-loop
+slice_bounds-row_sums_fit-count c = let i = c in omega (arith, row_k i.before, room i.before)
 
-part-row-sums-fit-start : tie.Need-slice-bounds-row-sums-fit-start invariant-loop decreases-loop
-part-row-sums-fit-start c = let i = c.before in omega (arith, row-k i, room i)
+slice_bounds-row_sums_fit-start : tie.Need-slice_bounds-row_sums_fit-start invariant-loop decreases-loop
+slice_bounds-row_sums_fit-start c = let i = c in omega (arith, row_k i.before, room i.before)
 
 -- the cell as it was read
-read : (c : tie.After-row-sums-fit-arg invariant-loop decreases-loop) → let i = c.before in at (to_z w32 (of_z w32 (get_or (t i) (n i * u i + k i) (pos 0)))) ≡ g i (u i) (k i)
-read c = ap at (back w32 _ c.row-sums-fit-arg.given) ∙ sym (arc c.before)
+read : (c : tie.After-row_sums_fit-arg-1 invariant-loop decreases-loop) → let i = c in at (to_z w32 (of_z w32 (get_or (t i.before) (n i.before * u i.before + k i.before) (pos 0)))) ≡ g i.before (u i.before) (k i.before)
+read c = ap at (back w32 _ c.row_sums_fit-arg-1.given) ∙ sym (arc c.before)
 
-row-sums-fit-requires : tie.Need-row-sums-fit-requires invariant-loop decreases-loop
-row-sums-fit-requires c κs =
-    let r = c.before in
-    let i = r.before in
-    (lent_long (n i) (t i) (k i) (room i) (inside i), (subst (λ (d : Delay). T (fits delay_limit d)) (sym (read r)) ((start i).requires.1.0 (u i) (k i)), lent_fits_lem (n i) (t i) (k i) (room i) (inside i) (start i).requires.1.0))
+row_sums_fit-requires : tie.Need-row_sums_fit-requires invariant-loop decreases-loop
+row_sums_fit-requires c κs =
+    let r = c in
+    let i = r in
+    (lent_long (n i.before.before) (t i.before.before) (k i.before.before) (room i.before.before) (inside i.before.before), (subst (λ (d : Delay). T (fits delay_limit d)) (sym (read r.before)) ((start i.before.before).requires.1.0 (u i.before.before) (k i.before.before)), lent_fits_lem (n i.before.before) (t i.before.before) (k i.before.before) (room i.before.before) (inside i.before.before) (start i.before.before).requires.1.0))
 
-said : (c : tie.After-row-sums-fit invariant-loop decreases-loop) → let i = c.before.before.before in right (n i) (g i) (k i) (u i) ≡ c.row-sums-fit.result
+said : (c : tie.After-row_sums_fit invariant-loop decreases-loop) → let i = c in right (n i.before.before.before) (g i.before.before.before) (k i.before.before.before) (u i.before.before.before) ≡ c.row_sums_fit.result
 said c =
-    let r = c.before.before in
-    let i = r.before in
-    sym (c.row-sums-fit.ensures ∙ every_same (n i) _ _
-    (λ x l. ap₂ (λ (a b : Delay). fits delay_limit (a ⊕ b)) (read r) (lent_cell (n i) (t i) (k i) (room i) (inside i) x l)))
+    let r = c in
+    let i = r in
+    sym (c.row_sums_fit.ensures ∙ every_same (n i.before.before.before) _ _
+    (λ x l. ap₂ (λ (a b : Delay). fits delay_limit (a ⊕ b)) (read r.before.before) (lent_cell (n i.before.before.before) (t i.before.before.before) (k i.before.before.before) (room i.before.before.before) (inside i.before.before.before) x l)))
+
+returns-then-not-row_sums_fit : tie.Need-returns-then-not-row_sums_fit invariant-loop decreases-loop
+returns-then-not-row_sums_fit c =
+    let i = c in
+    sym (every_broken (n i.before.before.before.before) (right (n i.before.before.before.before) (g i.before.before.before.before) (k i.before.before.before.before)) (u i.before.before.before.before) i.loop-u-test.true (said c.before ∙ not-true _ c.if-not-row_sums_fit.true-raw))
+
+overflow_add-u : tie.Need-overflow_add-u invariant-loop decreases-loop
+overflow_add-u c = let i = c in omega (arith, i.loop-u-test.true, (start i.before.before.before.before).requires.0.sized.few)
+
+next_into-u-requires-in-loop-u : tie.Need-next_into-u-requires-in-loop-u invariant-loop decreases-loop
+next_into-u-requires-in-loop-u c κs = let i = c in ((start i.before.before.before.before).requires.0, (inside i.before.before.before.before, omega (arith, i.loop-u-test.true)))
+
+loop-u-smaller : tie.Need-loop-u-smaller invariant-loop decreases-loop
+loop-u-smaller c = let i = c in omega (arith, i.loop-u-test.true, c.next_into-u-in-loop-u.ensures.past)
+
+loop-u-preserved : tie.Need-loop-u-preserved invariant-loop decreases-loop
+loop-u-preserved c =
+    let e = c in
+    let i = e in
+    let s = c.next_into-u-in-loop-u.ensures in
+    (s.upto, passed (n i.before.before.before.before.before) (g i.before.before.before.before.before) (k i.before.before.before.before.before) (u i.before.before.before.before.before + 1) _ (every_more _ _ i.loop-u.invariant.1 (said e.before.before ∙ not-false _ e.if-not-row_sums_fit.false-raw)) s, s.arc)
 
 returns : tie.Need-returns invariant-loop decreases-loop
 returns c =
-    let i = c.before.before.before.before in
-    sym (every_broken (n i) (right (n i) (g i) (k i)) (u i) i.loop-test.true (said c.before ∙ not-true _ c.if1.true))
+    let e : c.loop-u.u ≡ c.args.board.vertices = omega arith in
+    sym (rw e at c.loop-u.invariant.1)
 
-add-next-into : tie.Need-overflow-add-next-into invariant-loop decreases-loop
-add-next-into c = let i = c.before.before.before.before in omega (arith, i.loop-test.true, (start i).requires.0.sized.few)
-
-next-into-requires-2 : tie.Need-next-into-requires-2 invariant-loop decreases-loop
-next-into-requires-2 c κs = let i = c.before.before.before.before in ((start i).requires.0, (inside i, omega (arith, i.loop-test.true)))
-
-loop-less : tie.Need-loop-smaller invariant-loop decreases-loop
-loop-less c = let i = c.before.before.before.before.before in omega (arith, i.loop-test.true, c.next-into2.ensures.past)
-
-loop-again : tie.Need-loop-preserved invariant-loop decreases-loop
-loop-again c =
-    let e = c.before in
-    let i = e.before.before.before.before in
-    let s = c.next-into2.ensures in
-    (s.upto, passed (n i) (g i) (k i) (u i + 1) _ (every_more _ _ i.before.loop.invariant.1 (said e.before ∙ not-false _ e.if1.false)) s, s.arc)
-
-returns-2 : tie.Need-returns-2 invariant-loop decreases-loop
-returns-2 c =
-    let e : c.before.loop.u ≡ c.before.before.before.args.board.vertices = omega arith in
-    sym (rw e at c.before.loop.invariant.1)
-
-pub sums-fit-spec : {M : Type 1} → statement M
-sums-fit-spec =
+pub sums_fit_spec : {M : Type 1} → statement M
+sums_fit_spec =
     tie.close
     (tie.spec
     invariant-loop
     decreases-loop
-    mul-from
-    next-into-requires
-    loop-holds
-    mul_at
-    add_at
-    mul-row-sums-fit
-    shared-slice-copy-out-row-sums-fit
-    mul-row-sums-fit-2
-    sub-row-sums-fit
-    part-row-sums-fit-start
+    overflow_mul-from
+    next_into-u-requires
+    loop-u-init
+    overflow_mul-at
+    overflow_add-at
+    offset_bounds-table-at
+    bounds-table-at
+    offset_bounds-table-from
+    slice_bounds-row_sums_fit-count
+    slice_bounds-row_sums_fit-start
     (λ c. omega arith)
-    row-sums-fit-requires
-    returns
-    add-next-into
-    next-into-requires-2
-    loop-less
-    loop-again
-    returns-2)
+    row_sums_fit-requires
+    returns-then-not-row_sums_fit
+    overflow_add-u
+    next_into-u-requires-in-loop-u
+    loop-u-smaller
+    loop-u-preserved
+    returns)

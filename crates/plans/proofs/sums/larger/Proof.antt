@@ -5,15 +5,17 @@ use Rattle.plans.proofs.SumCells.{larger_first, larger_second}
 use Rattle.plans.proofs.sums.larger.Statement.{statement}
 use Rattle.plans.proofs.sums.larger.Tie as tie
 
+returns-then-a-b : tie.Need-returns-then-a-b
+returns-then-a-b c =
+    let s = c in
+    to_z-of_z s.ranges.b ∙ larger_second s.args.a s.args.b s.ranges.a (rw (to_z-of_z {w = w32} s.ranges.a, to_z-of_z {w = w32} s.ranges.b) at c.if-a-b.true)
+
 returns : tie.Need-returns
 returns c =
-    let s = c.before in
-    to_z-of_z s.ranges.b ∙ larger_second s.args.a s.args.b s.ranges.a (rw (to_z-of_z {w = w32} s.ranges.a, to_z-of_z {w = w32} s.ranges.b) at c.if1.true)
+    let s = c in
+    to_z-of_z s.ranges.a ∙ larger_first s.args.a s.args.b s.ranges.b (rw (to_z-of_z {w = w32} s.ranges.a, to_z-of_z {w = w32} s.ranges.b) at c.if-a-b.false)
 
-returns-2 : tie.Need-returns-2
-returns-2 c =
-    let s = c.before in
-    to_z-of_z s.ranges.a ∙ larger_first s.args.a s.args.b s.ranges.b (rw (to_z-of_z {w = w32} s.ranges.a, to_z-of_z {w = w32} s.ranges.b) at c.if1.false)
-
-pub larger-spec : {M : Type 1} → statement M
-larger-spec = tie.close (tie.spec returns returns-2)
+pub larger_spec : {M : Type 1} → statement M
+larger_spec = tie.close (tie.spec
+    returns-then-a-b
+    returns)
