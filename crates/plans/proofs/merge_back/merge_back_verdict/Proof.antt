@@ -53,7 +53,7 @@ is_output-requires c κs = c.requires.0.sized
 
 returns-then-not-is_output : tie.Need-returns-then-not-is_output
 unfolding merge_back_verdict
-returns-then-not-is_output c = simp (sym c.is_output_lem.ensures ∙ not-true _ c.if-not-is_output.true-raw)
+returns-then-not-is_output c = simp (sym c.is_output.ensures ∙ not-true _ c.if-not-is_output.true-raw)
 
 -- o has passed the first condition
 module _ (c : tie.Else-not-is_output) where
@@ -61,7 +61,7 @@ module _ (c : tie.Else-not-is_output) where
   start = c.before.before
 
   output : is_output (m start) (outs start) (o start) ≡ true
-  output = sym c.is_output_lem.ensures ∙ not-false _ c.if-not-is_output.false-raw
+  output = sym c.is_output.ensures ∙ not-false _ c.if-not-is_output.false-raw
 
   inside : o start < n start
   inside = output_below (m start) (outs start) (n start) (o start) start.requires.0.sized.roles (true_is output)

@@ -80,9 +80,9 @@ module _ (c : tie.Joined-u-o) where
   ready = split c.if-u-o.branch-raw
       (λ w.
       let joined : c.if-u-o.row ≡ tabulate (length (row i)) (joined_cell (row i) (via i) (at (neg_ℤ (d i)))) =
-      w.5 ∙ w.3.ensures ∙ ap (λ (x : Delay). tabulate (length (row i)) (joined_cell (row i) (via i) x)) (lowered (record { before = record { before = record { before = i; if2 = w.0 }; join-row-arg = w.1 }; negated = w.2 })) in
-      (ap length joined ∙ length-tabulate _ (length (row i)), output_row (row i) (via i) (v i) (o i) (d i) (u i) i.if-u-v.false w.0.taken c.if-u-o.row joined))
-      (λ w. (ap length w.join_row-arg-1, other_row (row i) (via i) (v i) (o i) (d i) (u i) i.if-u-v.false w.if-u-o.false c.if-u-o.row w.join_row-arg-1))
+      w.row-is ∙ w.join_row.ensures ∙ ap (λ (x : Delay). tabulate (length (row i)) (joined_cell (row i) (via i) x)) (lowered (record { before = record { before = record { before = i; if-u-o = w.if-u-o }; join_row-arg-1 = w.join_row-arg-1 }; negated = w.negated })) in
+      (ap length joined ∙ length-tabulate _ (length (row i)), output_row (row i) (via i) (v i) (o i) (d i) (u i) i.if-u-v.false w.if-u-o.true c.if-u-o.row joined))
+      (λ w. (ap length w.row-is, other_row (row i) (via i) (v i) (o i) (d i) (u i) i.if-u-v.false w.if-u-o.false c.if-u-o.row w.row-is))
 
 redirect-requires : tie.Need-redirect-requires
 redirect-requires c κs =

@@ -42,8 +42,7 @@ share_outputs_row-requires c κs = let k = c in asked k.before.before _ k.in-Sha
 merge_row-requires : tie.Need-merge_row-requires
 merge_row-requires c κs =
     let k = c in
-    let g = k.in-MergeBack.given.0 in
-    asked k.before.before _ (carried (MergeBack g.0 g.1.0) g.1.1.0 k.in-MergeBack.is (search rules))
+    asked k.before.before _ (carried (MergeBack k.in-MergeBack.v k.in-MergeBack.o) k.in-MergeBack.d k.in-MergeBack.is (search rules))
 
 returns-in-Shrink : tie.Need-returns-in-Shrink
 returns-in-Shrink c = let k = c in left k.before.before.before.before _ k.in-Shrink.is _ c.shrink_row.ensures
@@ -51,20 +50,17 @@ returns-in-Shrink c = let k = c in left k.before.before.before.before _ k.in-Shr
 returns-in-ShareInputs : tie.Need-returns-in-ShareInputs
 returns-in-ShareInputs c =
     let k = c in
-    let g = k.in-ShareInputs.given.0 in
-    left k.before.before.before.before _ (carried (ShareInputs g.0 g.1.0 g.1.1.0) g.1.1.1.0 k.in-ShareInputs.is (search rules)) _ c.share_inputs_row.ensures
+    left k.before.before.before.before _ (carried (ShareInputs k.in-ShareInputs.a k.in-ShareInputs.b k.in-ShareInputs.k) k.in-ShareInputs.e k.in-ShareInputs.is (search rules)) _ c.share_inputs_row.ensures
 
 returns-in-ShareOutputs : tie.Need-returns-in-ShareOutputs
 returns-in-ShareOutputs c =
     let k = c in
-    let g = k.in-ShareOutputs.given.0 in
-    left k.before.before.before.before _ (carried (ShareOutputs g.0 g.1.0) g.1.1.0 k.in-ShareOutputs.is (search rules)) _ c.share_outputs_row.ensures
+    left k.before.before.before.before _ (carried (ShareOutputs k.in-ShareOutputs.a k.in-ShareOutputs.b) k.in-ShareOutputs.e k.in-ShareOutputs.is (search rules)) _ c.share_outputs_row.ensures
 
 returns-in-MergeBack : tie.Need-returns-in-MergeBack
 returns-in-MergeBack c =
     let k = c in
-    let g = k.in-MergeBack.given.0 in
-    left k.before.before.before.before _ (carried (MergeBack g.0 g.1.0) g.1.1.0 k.in-MergeBack.is (search rules)) _ c.merge_row.ensures
+    left k.before.before.before.before _ (carried (MergeBack k.in-MergeBack.v k.in-MergeBack.o) k.in-MergeBack.d k.in-MergeBack.is (search rules)) _ c.merge_row.ensures
 
 pub rewrite_row_spec : {M : Type 1} → statement M
 rewrite_row_spec =

@@ -24,7 +24,7 @@ returns-then-not-two_inputs : tie.Need-returns-then-not-two_inputs
 returns-then-not-two_inputs c =
     let s = c in
     let d = s.args.board in
-    (inputs_wrong d.inputs d.outputs d.vertices s.args.a s.args.b s.args.k (graph_of d.vertices s.args.table.now) (sym c.two_inputs_lem.ensures ∙ not-true _ c.if-not-two_inputs.true-raw), refl)
+    (inputs_wrong d.inputs d.outputs d.vertices s.args.a s.args.b s.args.k (graph_of d.vertices s.args.table.now) (sym c.two_inputs.ensures ∙ not-true _ c.if-not-two_inputs.true-raw), refl)
 
 -- a, b and k have passed
 module _ (c : tie.Else-not-two_inputs) where
@@ -56,7 +56,7 @@ module _ (c : tie.Else-not-two_inputs) where
   k = start.args.k
 
   right : (is_input m a && is_input m b && not (eqb a b) && ltb k N) ≡ true
-  right = sym c.two_inputs_lem.ensures ∙ not-false _ c.if-not-two_inputs.false-raw
+  right = sym c.two_inputs.ensures ∙ not-false _ c.if-not-two_inputs.false-raw
 
   inputs : (a < m) × (b < m) × (k < N)
   inputs = two_inputs_lem m N a b k right

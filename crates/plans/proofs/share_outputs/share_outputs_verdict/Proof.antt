@@ -30,7 +30,7 @@ returns-then-not-two_outputs : tie.Need-returns-then-not-two_outputs
 returns-then-not-two_outputs c =
     let s = c in
     let d = s.args.board in
-    (outputs_wrong d.inputs d.outputs d.vertices s.args.a s.args.b (graph_of d.vertices s.args.table.now) (sym c.two_outputs_lem.ensures ∙ not-true _ c.if-not-two_outputs.true-raw), refl)
+    (outputs_wrong d.inputs d.outputs d.vertices s.args.a s.args.b (graph_of d.vertices s.args.table.now) (sym c.two_outputs.ensures ∙ not-true _ c.if-not-two_outputs.true-raw), refl)
 
 -- a and b have passed
 module _ (c : tie.Else-not-two_outputs) where
@@ -53,7 +53,7 @@ module _ (c : tie.Else-not-two_outputs) where
   b = start.args.b
 
   right : (is_output board.inputs board.outputs a && is_output board.inputs board.outputs b && not (eqb a b)) ≡ true
-  right = sym c.two_outputs_lem.ensures ∙ not-false _ c.if-not-two_outputs.false-raw
+  right = sym c.two_outputs.ensures ∙ not-false _ c.if-not-two_outputs.false-raw
 
   outputs : TwoOutputs board a b
   outputs = two_outputs_lem board start.requires.0.checked.lent.sized a b right

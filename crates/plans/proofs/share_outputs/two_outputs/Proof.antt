@@ -7,7 +7,7 @@ is_output-requires : tie.Need-is_output-requires
 is_output-requires c κs = c.requires
 
 returns-then-not-is_output : tie.Need-returns-then-not-is_output
-returns-then-not-is_output c = simp (sym c.is_output_lem.ensures ∙ not-true _ c.if-not-is_output.true-raw)
+returns-then-not-is_output c = simp (sym c.is_output.ensures ∙ not-true _ c.if-not-is_output.true-raw)
 
 is_output-requires-2 : tie.Need-is_output-requires-2
 is_output-requires-2 c κs = c.requires
@@ -15,12 +15,12 @@ is_output-requires-2 c κs = c.requires
 returns-then-not-is_output-2 : tie.Need-returns-then-not-is_output-2
 returns-then-not-is_output-2 c =
     let f = c in
-    simp (sym f.is_output_lem.ensures ∙ not-false _ f.if-not-is_output.false-raw, sym c.is_output-2.ensures ∙ not-true _ c.if-not-is_output-2.true-raw)
+    simp (sym f.is_output.ensures ∙ not-false _ f.if-not-is_output.false-raw, sym c.is_output-2.ensures ∙ not-true _ c.if-not-is_output-2.true-raw)
 
 returns : tie.Need-returns
 returns c =
     let f = c in
-    simp (sym f.is_output_lem.ensures ∙ not-false _ f.if-not-is_output.false-raw, sym c.is_output-2.ensures ∙ not-false _ c.if-not-is_output-2.false-raw)
+    simp (sym f.is_output.ensures ∙ not-false _ f.if-not-is_output.false-raw, sym c.is_output-2.ensures ∙ not-false _ c.if-not-is_output-2.false-raw)
 
 pub two_outputs_spec : {M : Type 1} → statement M
 two_outputs_spec =
