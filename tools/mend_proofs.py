@@ -16,6 +16,10 @@ import sys
 WORD = r"[^\s(){}.;,@\"«»]+"
 
 
+# names that tools/snake_names.py respelled: a row each, old, a tab, new
+SNAKE = dict(l.rstrip("\n").split("\t") for l in open(os.environ["SNAKE"])) if os.environ.get("SNAKE") else {}
+
+
 def norm(s):
     return s.replace("-", "_")
 
@@ -135,6 +139,39 @@ def path_number(rest, k):
     if j < len(rest) and rest[j] == "0":
         return n, j + 1
     return None, k
+
+
+def binders(typ):
+    """The arguments of a type: pairs of names (or None) and type, and what is left, the result."""
+    out, i = [], 0
+    while True:
+        while i < len(typ) and typ[i].isspace():
+            i += 1
+        if i < len(typ) and typ[i] == "(":
+            j = matching(typ, i)
+            inside = typ[i + 1 : j]
+            m = re.match(rf"((?:{WORD} )+): (.*)$", inside, re.S)
+            if m:
+                out.append((m[1].split(), m[2]))
+                i = j + 1
+                while i < len(typ) and typ[i].isspace():
+                    i += 1
+                if i < len(typ) and typ[i] == "→":
+                    i += 1
+                continue
+        depth, j = 0, i
+        while j < len(typ) and not (depth == 0 and typ[j] == "→"):
+            depth += (typ[j] in "([{") - (typ[j] in ")]}")
+            j += 1
+        if j >= len(typ):
+            return out, typ[i:]
+        out.append(([None], typ[i:j].strip()))
+        i = j + 1
+
+
+def tie_place(names, typ):
+    m = re.match(rf"^tie\.({WORD})", typ.strip())
+    return names.place(m[1]) if m and not m[1].startswith("Need-") else None
 
 
 class File:
@@ -420,14 +457,19 @@ class File:
         t = self.branches(self.spec(t, needs))
         if re.search(r"\brules\b", t) and not re.search(r"(?m)^use .*\brules\b", t):
             t = "use borrow.Author.Rules.{rules}\n" + t
+        alias = re.findall(r"(?m)^use Rattle\.[\w.]*\.proofs\.\S+ as (\S+)", t)
+        for al in alias:
+            if al != "tie":
+                t = re.sub(rf"(?<![\w.]){al}\.({WORD})", lambda m: f"{al}." + SNAKE.get(m[1], m[1]), t)
         t = t.replace(".well-formed", ".well_formed").replace(".type-inv", ".type_inv")
         # own names
         own = {o: w for o, w in renamed.items() if o != w}
+        brought = {w for m in re.finditer(r"(?m)^use [^\n{]*\{([^}]*)\}", t) for w in re.split(r"[,\s]+", m[1])}
         for b in blocks:
             for l in b:
                 m = re.match(rf"^(?:  )?(?:abbrev |pub |unfoldable )*({WORD}) : ", l)
                 if m and "-" in m[1] and m[1] not in renamed and not re.match(r"invariant-|decreases-", m[1]) and not m[1].endswith("-spec"):
-                    own[m[1]] = norm(m[1])
+                    own[m[1]] = norm(m[1]) + ("_lem" if norm(m[1]) in brought else "")
         t = re.sub(rf"(?<![^\s(){{}};,@])({WORD})(?=[\s(){{}}.;,@]|$)", lambda m: own.get(m[1], m[1]), t)
         t = re.sub(r"(?m)^pub (\S+)-spec( : \{M)", lambda m: "pub " + norm(m[1]) + "_spec" + m[2], t)
         t = re.sub(r"(?m)^(\S+)-spec =$", lambda m: norm(m[1]) + "_spec =", t)
@@ -443,12 +485,11 @@ class File:
 
     def signature(self, name, typ, outer=()):
         args = [self.n.place(x) for x in outer]
-        for m in re.finditer(rf"\((?:{WORD} )+: tie\.({WORD})[^()]*\) →|tie\.({WORD})[^()→]*→", typ):
-            args.append(self.n.place(m[1] or m[2]))
-        last = typ.split("→")[-1].strip()
-        m = re.match(rf"^tie\.({WORD})", last)
-        if m and not m[1].startswith("Need") and self.n.place(m[1]) is not None:
-            self.kinds[name] = self.n.place(m[1])
+        bs, last = binders(typ)
+        for vs, ty in bs:
+            args += [tie_place(self.n, ty)] * len(vs)
+        if tie_place(self.n, last) is not None:
+            self.kinds[name] = tie_place(self.n, last)
         if args:
             self.params[name] = args
 
@@ -523,13 +564,8 @@ class File:
             if hit and hit[1] is None:
                 args = [self.shape_place(hit[0])]
         else:
-            for a in re.finditer(rf"\(((?:{WORD} )+): tie\.({WORD})[^()]*\) →|tie\.({WORD})[^()→]*→|\(((?:{WORD} )+): (?:[^()]|\([^()]*\))*\) →", typ):
-                if a[2]:
-                    args += [self.n.place(a[2])] * len(a[1].split())
-                elif a[3]:
-                    args.append(self.n.place(a[3]))
-                else:
-                    args += [None] * len(a[4].split())
+            for vs, ty in binders(typ)[0]:
+                args += [tie_place(self.n, ty)] * len(vs)
         # binders of the signature itself
         senv = dict(local)
         for a in re.finditer(rf"\(((?:{WORD} )+): tie\.({WORD})", typ):

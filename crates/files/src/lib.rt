@@ -1,5 +1,6 @@
 // Board files and library files over lent memory.
 #![tactic(auto)]
+
 pub mod answer;
 pub mod library;
 pub mod loads;

@@ -1,3 +1,4 @@
 // Star, over a table that has passed its checks.
 #![tactic(auto)]
+
 pub mod star;

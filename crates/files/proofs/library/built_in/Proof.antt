@@ -18,39 +18,39 @@ use Rattle.files.proofs.library.built_in.Tie as tie
 abbrev cell : ℕ → ℤ
 cell c = write_cell absent_cell (value_of (ticks_of c))
 
-abbrev invariant-loop : tie.invariant-loop
+abbrev invariant-loop : tie.invariant-loop-code
 invariant-loop library₀ code₀ library code = (code ≤ length library₀) × (length library ≡ length library₀) × (library ≡ tabulate code cell ++ drop code library₀)
 
-abbrev decreases-loop : tie.decreases-loop
+abbrev decreases-loop : tie.decreases-loop-code
 decreases-loop library₀ code₀ library code = length library₀ - code
 
-loop-holds : tie.Need-loop-init invariant-loop decreases-loop
-loop-holds c = (omega arith, refl, fill_none _ _)
+loop-code-init : tie.Need-loop-code-init invariant-loop decreases-loop
+loop-code-init c = (omega arith, refl, fill_none _ _)
 
-loop-again : tie.Need-loop-preserved invariant-loop decreases-loop
-loop-again c =
-    let l = c.before.before in
-    let i = l.loop.invariant in
-    (omega (arith, c.before.loop-test, i.1), simp length-set i.1, fill_turn cell l.before.args.library.now l.loop.library l.loop.code _ (omega (arith, c.before.loop-test, i.1)) i.2 (back w32 _ c.built-in-cell.type-inv ∙ c.built-in-cell.ensures))
+loop-code-preserved : tie.Need-loop-code-preserved invariant-loop decreases-loop
+loop-code-preserved c =
+    let l = c in
+    let i = l.loop-code.invariant in
+    (omega (arith, c.loop-code-test, i.1), simp length-set i.1, fill_turn cell l.args.library.now l.loop-code.library l.loop-code.code _ (omega (arith, c.loop-code-test, i.1)) i.2 (back w32 _ c.built_in_cell.type_inv ∙ c.built_in_cell.ensures))
 
-same_length : tie.Need-same-length invariant-loop decreases-loop
-same_length c = c.before.loop.invariant.1
+shape_of-library : tie.Need-shape_of-library invariant-loop decreases-loop
+shape_of-library c = c.loop-code.invariant.1
 
 returns : tie.Need-returns invariant-loop decreases-loop
-returns c = c.before.loop.invariant.2 ∙ fill_all _ _ c.before.loop.code (omega (arith, c.loop-test, c.before.loop.invariant.0, c.before.loop.invariant.1))
+returns c = c.loop-code.invariant.2 ∙ fill_all _ _ c.loop-code.code (omega (arith, c.loop-code-test, c.loop-code.invariant.0, c.loop-code.invariant.1))
 
-pub built-in-spec : {M : Type 1} → statement M
-built-in-spec =
+pub built_in_spec : {M : Type 1} → statement M
+built_in_spec =
     tie.close
     (tie.spec
     invariant-loop
     decreases-loop
-    loop-holds
+    loop-code-init
     (λ c κs. search rules)
     (λ c. search rules)
     (λ c. search rules)
     (λ c. search rules)
-    (λ c. omega (arith, c.before.loop-test, c.before.before.loop.invariant.1))
-    loop-again
-    same_length
+    (λ c. omega (arith, c.loop-code-test, c.loop-code.invariant.1))
+    loop-code-preserved
+    shape_of-library
     returns)

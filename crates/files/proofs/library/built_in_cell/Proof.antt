@@ -18,29 +18,29 @@ use Rattle.files.proofs.library.built_in_cell.Tie as tie
 abbrev cell : Verdict ℤ → ℤ
 cell v = write_cell absent_cell (value_of v)
 
-returns : tie.Need-returns
-returns c = ap cell (no_ticks_lem c.before.args.code (omega (arith, c.if1.true)))
+returns-then-code-gt255 : tie.Need-returns-then-code-gt255
+returns-then-code-gt255 c = ap cell (no_ticks_lem c.args.code (omega (arith, c.if-code-gt255.true)))
 
-found : (c : tie.After-cell-ticks) (x : Ticks) → c.cell-ticks.result ≡ x → ticks_of c.before.before.args.code ≡ ticks_meaning x
-found c x e = said ticks_meaning c.cell-ticks.ensures e
+found : (c : tie.After-cell_ticks-ticks) (x : Ticks) → c.cell_ticks-ticks.result ≡ x → ticks_of c.args.code ≡ ticks_meaning x
+found c x e = said ticks_meaning c.cell_ticks-ticks.ensures e
 
-returns-2 : tie.Need-returns-2
-returns-2 c =
-    let t = c.before in
-    let held : to_z w32 (of_z w32 t.ticks.given.0.0) ≡ t.ticks.given.0.0 = search rules in
-    held ∙ sym (ap cell (found t.before.before _ t.ticks.given.1))
+returns-in-Of : tie.Need-returns-in-Of
+returns-in-Of c =
+    let t = c in
+    let held : to_z w32 (of_z w32 t.in-Of.d) ≡ t.in-Of.d = search rules in
+    held ∙ sym (ap cell (found t.before _ t.in-Of.is))
 
-returns-3 : tie.Need-returns-3
-returns-3 c = sym (ap cell (found c.before.before _ c.enum_told.given.1))
+returns-in-Refused : tie.Need-returns-in-Refused
+returns-in-Refused c = sym (ap cell (found c.before _ c.in-Refused.is))
 
-pub built-in-cell-spec : {M : Type 1} → statement M
-built-in-cell-spec =
+pub built_in_cell_spec : {M : Type 1} → statement M
+built_in_cell_spec =
     tie.close
     (tie.spec
-    returns
+    returns-then-code-gt255
     (λ c. search rules)
     (λ c κs. search rules)
     (λ c. search rules)
     (λ c. search rules)
-    returns-2
-    returns-3)
+    returns-in-Of
+    returns-in-Refused)

@@ -10,19 +10,22 @@ use Rattle.paths.specs.Cells.{cell_at, between}
 use Rattle.files.proofs.library.fits.Statement.{statement}
 use Rattle.files.proofs.library.fits.Tie as tie
 
-returns : tie.Need-returns
+returns-then-library-ne-CODES : tie.Need-returns-then-library-ne-CODES
 unfolding library_fits
-returns c = simp (ne_eqb (length c.before.args.library.now) library_cells c.if1.true)
+returns-then-library-ne-CODES c = simp (ne_eqb (length c.args.library.now) library_cells c.if-library-ne-CODES.true)
 
 same : (d : Delay) → between (pos 0) (pos ticks_limit) d ≡ absent_or_fits d
 same absent = refl
 same (at z) = refl
 
-returns-2 : tie.Need-returns-2
+returns : tie.Need-returns
 unfolding library_fits
-returns-2 c =
-    let l = c.before.before.args.library.now in
-    simp (eq-eqb (length l) library_cells c.before.if1.false) (c.row_within.ensures ∙ every_same library_cells _ _ (λ i k. same (cell_at l i)))
+returns c =
+    let l = c.args.library.now in
+    simp (eq-eqb (length l) library_cells c.if-library-ne-CODES.false) (c.row_within.ensures ∙ every_same library_cells _ _ (λ i k. same (cell_at l i)))
 
-pub fits-spec : {M : Type 1} → statement M
-fits-spec = tie.close (tie.spec returns (λ c κs. search rules) returns-2)
+pub fits_spec : {M : Type 1} → statement M
+fits_spec = tie.close (tie.spec
+    returns-then-library-ne-CODES
+    (λ c κs. search rules)
+    returns)

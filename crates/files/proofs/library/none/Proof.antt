@@ -7,4 +7,5 @@ returns : tie.Need-returns
 returns c = length-replicate {A = ℤ} 32 (pos 0)
 
 pub none_spec : {M : Type 1} → statement M
-none_spec = tie.close (tie.spec returns)
+none_spec = tie.close (tie.spec
+    returns)

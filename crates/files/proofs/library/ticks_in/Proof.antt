@@ -14,13 +14,13 @@ use Rattle.paths.proofs.ReadCells.{absent_cell_lem, arc_cell}
 use Rattle.files.proofs.library.ticks_in.Statement.{statement}
 use Rattle.files.proofs.library.ticks_in.Tie as tie
 
-returns : tie.Need-returns
+returns-then-at-library : tie.Need-returns-then-at-library
 unfolding ticks_in
-returns c = let a = c.before.args in simp (le-ltb a.code (length a.library.now) c.if1.true)
+returns-then-at-library c = let a = c.args in simp (le-ltb a.code (length a.library.now) c.if-at-library.true)
 
 -- the code has a cell
-module _ (k : tie.After-is-arc) where
-  abbrev e : tie.Else1
+module _ (k : tie.After-is_arc) where
+  abbrev e : tie.Else-at-library
   e = k.before.before
 
   abbrev start : tie.Start
@@ -32,26 +32,26 @@ module _ (k : tie.After-is-arc) where
   held : to_z w32 (of_z w32 z) ≡ z
   held = search rules
 
-  is-arc : present (read_cell absent_cell z) ≡ k.is-arc.result
-  is-arc = sym (k.is-arc.ensures ∙ ap (λ (x : ℤ). present (read_cell absent_cell x)) held)
+  is_arc : present (read_cell absent_cell z) ≡ k.is_arc.result
+  is_arc = sym (k.is_arc.ensures ∙ ap (λ (x : ℤ). present (read_cell absent_cell x)) held)
 
   found : (d : Delay) → read_cell absent_cell z ≡ d → ticks_in start.args.library.now start.args.code ≡ found_in d
   unfolding ticks_in
-  found d q = simp (lt-ltb start.args.code (length start.args.library.now) e.if1.left) (ap found_in q)
+  found d q = simp (lt-ltb start.args.code (length start.args.library.now) e.if-at-library.false) (ap found_in q)
 
-returns-2 : tie.Need-returns-2
-returns-2 c = let k = c.before in ap accepted (held k) ∙ sym (found k (at (z k)) (arc_cell (z k) (is-arc k ∙ c.if2.true)))
+returns-then-is_arc : tie.Need-returns-then-is_arc
+returns-then-is_arc c = let k = c in ap accepted (held k.before) ∙ sym (found k.before (at (z k.before)) (arc_cell (z k.before) (is_arc k.before ∙ c.if-is_arc.true)))
 
-returns-3 : tie.Need-returns-3
-returns-3 c = let k = c.before in sym (found k absent (absent_cell_lem (z k) (is-arc k ∙ c.if2.false)))
+returns : tie.Need-returns
+returns c = let k = c in sym (found k.before absent (absent_cell_lem (z k.before) (is_arc k.before ∙ c.if-is_arc.false)))
 
-pub ticks-in-spec : {M : Type 1} → statement M
-ticks-in-spec =
+pub ticks_in_spec : {M : Type 1} → statement M
+ticks_in_spec =
     tie.close
     (tie.spec
-    returns
+    returns-then-at-library
     (λ c. search rules)
     (λ c. search rules)
     (λ c κs. search rules)
-    returns-2
-    returns-3)
+    returns-then-is_arc
+    returns)

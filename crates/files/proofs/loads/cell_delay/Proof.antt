@@ -21,43 +21,43 @@ use Rattle.files.proofs.loads.cell_delay.Tie as tie
 abbrev cell : Verdict ℤ → ℤ
 cell v = write_cell absent_cell (value_of v)
 
-looked-up : (c : tie.After-ticks-in) (x : Ticks) → c.ticks-in.result ≡ x → let a = c.before.args in ticks_in a.library.now a.code ≡ ticks_meaning x
-looked-up c x e = said ticks_meaning c.ticks-in.ensures e
+looked_up : (c : tie.After-ticks_in-ticks) (x : Ticks) → c.ticks_in-ticks.result ≡ x → let a = c.args in ticks_in a.library.now a.code ≡ ticks_meaning x
+looked_up c x e = said ticks_meaning c.ticks_in-ticks.ensures e
 
-module _ (c : tie.After-known-told) where
-  abbrev asked : tie.After-ticks-in
-  asked = c.before.before.before
+module _ (c : tie.In-Of) where
+  abbrev asked : tie.After-ticks_in-ticks
+  asked = c.before
 
   abbrev d : ℤ
-  d = c.before.ticks.given.0.0
+  d = c.in-Of.d
 
-  known : ticks_in asked.before.args.library.now asked.before.args.code ≡ accepted d
-  known = looked-up asked _ c.before.ticks.given.1
+  known : ticks_in asked.args.library.now asked.args.code ≡ accepted d
+  known = looked_up asked _ c.in-Of.is
 
   held : to_z w32 (of_z w32 d) ≡ d
   held = search rules
 
-under-load-requires : tie.Need-under-load-requires
-under-load-requires c κs = subst Loadable (sym (held c)) (ticks_loadable _ (asked c).before.requires _ (d c) (known c))
+under_load-requires : tie.Need-under_load-requires
+under_load-requires c κs = subst Loadable (sym (held c)) (ticks_loadable _ (asked c).requires _ (d c) (known c))
 
-returns : tie.Need-returns
-returns c =
-    let k = c.before in
-    let a = (asked k).before.args in
-    back w32 _ c.under-load.type-inv ∙ c.under-load.ensures ∙ ap (λ (z : ℤ). under_load z a.load) (held k) ∙ sym (ap cell (delay_from a.library.now a.code a.load (known k)))
+returns-in-Of : tie.Need-returns-in-Of
+returns-in-Of c =
+    let k = c in
+    let a = (asked k.before).args in
+    back w32 _ c.under_load.type_inv ∙ c.under_load.ensures ∙ ap (λ (z : ℤ). under_load z a.load) (held k.before) ∙ sym (ap cell (delay_from a.library.now a.code a.load (known k.before)))
 
-returns-2 : tie.Need-returns-2
-returns-2 c =
-    let a = c.before.before.before.args in
-    sym (ap cell (delay_from a.library.now a.code a.load (looked-up c.before.before _ c.enum_told.given.1)))
+returns-in-Refused : tie.Need-returns-in-Refused
+returns-in-Refused c =
+    let a = c.args in
+    sym (ap cell (delay_from a.library.now a.code a.load (looked_up c.before _ c.in-Refused.is)))
 
-pub cell-delay-spec : {M : Type 1} → statement M
-cell-delay-spec =
+pub cell_delay_spec : {M : Type 1} → statement M
+cell_delay_spec =
     tie.close
     (tie.spec
     (λ c κs. search rules)
     (λ c. search rules)
-    under-load-requires
+    under_load-requires
     (λ c. search rules)
-    returns
-    returns-2)
+    returns-in-Of
+    returns-in-Refused)

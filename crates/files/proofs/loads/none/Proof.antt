@@ -8,4 +8,5 @@ returns : tie.Need-returns
 returns c = (length-replicate {A = ℕ} 90 0, no_loads_lem 90)
 
 pub none_spec : {M : Type 1} → statement M
-none_spec = tie.close (tie.spec returns)
+none_spec = tie.close (tie.spec
+    returns)

@@ -15,48 +15,48 @@ use Rattle.files.proofs.place.next_arc.Statement.{statement}
 use Rattle.files.proofs.place.next_arc.Tie as tie
 
 -- a record has been found
-module _ (c : tie.After-found) where
+module _ (c : tie.In-Record) where
   abbrev start : tie.Start
-  start = c.before.before.before.before.before
+  start = c.before.before.before.before
 
   abbrev x : Record
-  x = c.found.given.0.0
+  x = c.in-Record.item
 
-  found-is : (y : Record) → x ≡ y → record_at start.args.n start.args.bytes.now start.args.at ≡ accepted y
-  found-is y e = sym c.before.before.record-at.ensures ∙ ap found_meaning c.found.given.1 ∙ ap accepted e
+  found_is : (y : Record) → x ≡ y → record_at start.args.n start.args.bytes.now start.args.at ≡ accepted y
+  found_is y e = sym c.record_at-found.ensures ∙ ap found_meaning c.in-Record.is ∙ ap accepted e
 
 -- it is a cell
-module _ (c : tie.After-item2) where
-  abbrev f : tie.After-found
-  f = c.before.before.before
+module _ (c : tie.In-Cell) where
+  abbrev f : tie.In-Record
+  f = c.before
 
-  cell-is : record_at (start f).args.n (start f).args.bytes.now (start f).args.at ≡ accepted (R.Cell c.item2.given.0.0 c.item2.given.0.1.0 c.item2.given.0.1.1.0)
-  cell-is = found-is f _ c.item2.given.1
+  cell_is : record_at (start f).args.n (start f).args.bytes.now (start f).args.at ≡ accepted (R.Cell c.in-Cell.u c.in-Cell.v c.in-Cell.code)
+  cell_is = found_is f _ c.in-Cell.is
 
-shared-slice-read-cell-delay : tie.Need-shared-slice-read-cell-delay
-shared-slice-read-cell-delay c =
-    let i = c.before.before in
-    let ends = legal _ _ _ _ (cell-is i) in
-    omega (arith, ends.1, ends.2, (start (f i)).pre.1.1)
+bounds-loads-v : tie.Need-bounds-loads-v
+bounds-loads-v c =
+    let i = c in
+    let ends = legal _ _ _ _ (cell_is i.before) in
+    omega (arith, ends.1, ends.2, (start (f i.before)).requires.1.1)
 
 -- an arc's delay, as the code has it
-arc-is : (c : tie.After-known-told2) → to_z w32 (of_z w32 c.before.item.given.0.1.1.0) ≡ c.before.item.given.0.1.1.0
-arc-is c = search rules
+arc_is : (c : tie.In-Arc) → to_z w32 (of_z w32 c.in-Arc.d) ≡ c.in-Arc.d
+arc_is c = search rules
+
+returns-in-Arc : tie.Need-returns-in-Arc
+returns-in-Arc c = arc_steps _ _ _ _ _ _ _ _ _ (found_is c.before _ c.in-Arc.is) (arc_is c)
+
+returns-in-Cell : tie.Need-returns-in-Cell
+returns-in-Cell c = cell_steps _ _ _ _ _ _ _ _ (start (f c.before.before)).requires.1.0 _ (cell_is c.before.before) (back w32 _ c.cell_delay.type_inv ∙ c.cell_delay.ensures)
+
+returns-in-End : tie.Need-returns-in-End
+returns-in-End c = end_steps _ _ _ _ _ _ (found_is c.before _ c.in-End.is)
 
 returns : tie.Need-returns
-returns c = arc_steps _ _ _ _ _ _ _ _ _ (found-is c.before.before.before.before _ c.before.item.given.1) (arc-is c)
+returns c = refused_steps _ _ _ _ _ _ (sym c.record_at-found.ensures ∙ ap found_meaning c.in_default.is)
 
-returns-2 : tie.Need-returns-2
-returns-2 c = cell_steps _ _ _ _ _ _ _ _ (start (f c.before.before.before)).pre.1.0 _ (cell-is c.before.before.before) (back w32 _ c.cell-delay.type-inv ∙ c.cell-delay.ensures)
-
-returns-3 : tie.Need-returns-3
-returns-3 c = end_steps _ _ _ _ _ _ (found-is c.before.before.before _ c.enum_told.given.1)
-
-returns-4 : tie.Need-returns-4
-returns-4 c = refused_steps _ _ _ _ _ _ (sym c.before.before.record-at.ensures ∙ ap found_meaning c.enum-told2.given.1)
-
-pub next-arc-spec : {M : Type 1} → statement M
-next-arc-spec =
+pub next_arc_spec : {M : Type 1} → statement M
+next_arc_spec =
     tie.close
     (tie.spec
     (λ c κs. search rules)
@@ -64,12 +64,12 @@ next-arc-spec =
     (λ c. search rules)
     (λ c. search rules)
     (λ c. search rules)
-    shared-slice-read-cell-delay
+    bounds-loads-v
     (λ c κs. search rules)
     (λ c. search rules)
     (λ c. search rules)
-    returns
-    returns-2
-    returns-3
+    returns-in-Arc
+    returns-in-Cell
+    returns-in-End
     (λ c. search rules)
-    returns-4)
+    returns)

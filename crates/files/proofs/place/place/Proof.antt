@@ -16,98 +16,98 @@ use Rattle.files.proofs.PlacingArcs.{Placing, placing_start, placing_turn, placi
 use Rattle.files.proofs.place.place.Statement.{statement}
 use Rattle.files.proofs.place.place.Tie as tie
 
-abbrev invariant-loop : tie.invariant-loop
+abbrev invariant-loop : tie.invariant-loop-u
 invariant-loop bytes n library loads table₀ at₀ table at = Placing library n bytes (loads_of loads) table₀ table at
 
-abbrev decreases-loop : tie.decreases-loop
+abbrev decreases-loop : tie.decreases-loop-u
 decreases-loop bytes n library loads table₀ at₀ table at = length bytes - at
 
-loop-holds : tie.Need-loop-init invariant-loop decreases-loop
-loop-holds c = placing_start _ _ _ _ _ c.before.before.requires.0
+loop-u-init : tie.Need-loop-u-init invariant-loop decreases-loop
+loop-u-init c = placing_start _ _ _ _ _ c.requires.0
 
-next-arc-requires : tie.Need-next-arc-requires invariant-loop decreases-loop
-next-arc-requires c κs =
-    let s = c.before.before.before in
-    (c.loop.invariant.inside, (s.requires.1.1.0, s.requires.1.1.1.0))
+next_arc-found-requires : tie.Need-next_arc-found-requires invariant-loop decreases-loop
+next_arc-found-requires c κs =
+    let s = c in
+    (c.loop-u.invariant.inside, (s.requires.1.1.0, s.requires.1.1.1.0))
 
 -- what the record does
-module _ (c : tie.After-next-arc invariant-loop decreases-loop) where
+module _ (c : tie.After-next_arc-found invariant-loop decreases-loop) where
   abbrev start : tie.Start invariant-loop decreases-loop
   start = c.before.before.before.before
 
-  steps : (x : Next) → c.next-arc.result ≡ x → Steps start.args.library.now start.args.n start.args.bytes.now (loads_of start.args.loads.now) c.before.loop.at x
-  steps x e = subst (Steps start.args.library.now start.args.n start.args.bytes.now (loads_of start.args.loads.now) c.before.loop.at) e c.next-arc.ensures
+  steps : (x : Next) → c.next_arc-found.result ≡ x → Steps start.args.library.now start.args.n start.args.bytes.now (loads_of start.args.loads.now) c.loop-u.at x
+  steps x e = subst (Steps start.args.library.now start.args.n start.args.bytes.now (loads_of start.args.loads.now) c.loop-u.at) e c.next_arc-found.ensures
 
-same_length : tie.Need-same-length invariant-loop decreases-loop
-same_length c = c.before.before.before.loop.invariant.size
+shape_of-table-in_default : tie.Need-shape_of-table-in_default invariant-loop decreases-loop
+shape_of-table-in_default c = c.loop-u.invariant.size
 
-returns : tie.Need-returns invariant-loop decreases-loop
-returns c =
-    let a = c.before.before in
-    let h = steps a _ c.enum_told.given.1 in
-    (placing_graph _ _ _ _ _ _ _ a.before.loop.invariant h, placing_table _ _ _ _ _ _ _ a.before.loop.invariant (start a).requires.1.1.1.1 h)
+returns-in_default : tie.Need-returns-in_default invariant-loop decreases-loop
+returns-in_default c =
+    let a = c in
+    let h = steps a.before _ c.in_default.is in
+    (placing_graph _ _ _ _ _ _ _ a.loop-u.invariant h, placing_table _ _ _ _ _ _ _ a.loop-u.invariant (start a.before).requires.1.1.1.1 h)
 
 -- the record is an arc
-module _ (c : tie.After-known-told invariant-loop decreases-loop) where
-  abbrev asked : tie.After-next-arc invariant-loop decreases-loop
-  asked = c.before.before.before
+module _ (c : tie.In-Arc invariant-loop decreases-loop) where
+  abbrev asked : tie.After-next_arc-found invariant-loop decreases-loop
+  asked = c.before
 
   abbrev n : ℕ
   n = (start asked).args.n
 
   abbrev u : ℕ
-  u = c.before.found.given.0.0
+  u = c.in-Arc.u
 
   abbrev v : ℕ
-  v = c.before.found.given.0.1.0
+  v = c.in-Arc.v
 
   abbrev d : ℤ
-  d = c.before.found.given.0.1.1.0
+  d = c.in-Arc.d
 
   abbrev after : ℕ
-  after = c.before.found.given.0.1.1.1.0
+  after = c.in-Arc.after
 
-  arc : Steps (start asked).args.library.now n (start asked).args.bytes.now (loads_of (start asked).args.loads.now) asked.before.loop.at (X.Arc u v d after)
-  arc = steps asked (X.Arc u v d after) c.before.found.given.1
+  arc : Steps (start asked).args.library.now n (start asked).args.bytes.now (loads_of (start asked).args.loads.now) asked.loop-u.at (X.Arc u v d after)
+  arc = steps asked (X.Arc u v d after) c.in-Arc.is
 
-  delay-is : to_z w32 (of_z w32 d) ≡ d
-  delay-is = search rules
+  delay_is : to_z w32 (of_z w32 d) ≡ d
+  delay_is = search rules
 
-  room : n * n ≤ length asked.before.loop.table
-  room = omega (arith, (start asked).pre.1.1.1.1, asked.before.loop.inv.size)
+  room : n * n ≤ length asked.loop-u.table
+  room = omega (arith, (start asked).requires.1.1.1.1, asked.loop-u.invariant.size)
 
-cell-of-requires : tie.Need-cell-of-requires invariant-loop decreases-loop
-cell-of-requires c κs = ((start (asked c)).pre.1.0, ((arc c).1.0, (arc c).1.1))
+cell_of-requires : tie.Need-cell_of-requires invariant-loop decreases-loop
+cell_of-requires c κs = ((start (asked c)).requires.1.0, ((arc c).1.0, (arc c).1.1))
 
-mul-d : tie.Need-overflow-mul-d invariant-loop decreases-loop
-mul-d o = let c = o.before in omega (arith, o.cell-of.ensures.1, area (n c) max_vertices (start (asked c)).pre.1.0)
+offset_bounds-table-cell_of : tie.Need-offset_bounds-table-cell_of invariant-loop decreases-loop
+offset_bounds-table-cell_of o = let c = o in omega (arith, o.cell_of.ensures.1, area (n c.before) max_vertices (start (asked c.before)).requires.1.0)
 
-slice-set-from-d : tie.Need-slice-set-from-d invariant-loop decreases-loop
-slice-set-from-d o = omega (arith, o.cell-of.ensures.1, room o.before)
+bounds-table-cell_of : tie.Need-bounds-table-cell_of invariant-loop decreases-loop
+bounds-table-cell_of o = omega (arith, o.cell_of.ensures.1, room o.before)
 
-loop-less : tie.Need-loop-smaller invariant-loop decreases-loop
-loop-less o = let a = arc o.before in omega (arith, a.1.2, a.1.3)
+loop-u-smaller : tie.Need-loop-u-smaller invariant-loop decreases-loop
+loop-u-smaller o = let a = arc o.before in omega (arith, a.1.2, a.1.3)
 
-loop-again : tie.Need-loop-preserved invariant-loop decreases-loop
-loop-again o =
-    let c = o.before in
-    let l = (asked c).before in
-    simp (o.cell-of.ensures.0, delay-is c) (placing_turn _ _ _ _ _ l.loop.table l.loop.at l.loop.inv (start (asked c)).pre.1.1.1.1 (u c) (v c) (after c) (d c) (arc c))
+loop-u-preserved : tie.Need-loop-u-preserved invariant-loop decreases-loop
+loop-u-preserved o =
+    let c = o in
+    let l = (asked c.before).before in
+    simp (o.cell_of.ensures.0, delay_is c.before) (placing_turn _ _ _ _ _ l.loop-u.table l.loop-u.at l.loop-u.invariant (start (asked c.before)).requires.1.1.1.1 (u c.before) (v c.before) (after c.before) (d c.before) (arc c.before))
 
-pub place-spec : {M : Type 1} → statement M
-place-spec =
+pub place_spec : {M : Type 1} → statement M
+place_spec =
     tie.close
     (tie.spec
     invariant-loop
     decreases-loop
-    loop-holds
-    next-arc-requires
+    loop-u-init
+    next_arc-found-requires
     (λ c. search rules)
     (λ c. search rules)
-    same_length
-    returns
-    cell-of-requires
-    mul-d
-    slice-set-from-d
-    loop-less
-    loop-again)
+    shape_of-table-in_default
+    returns-in_default
+    cell_of-requires
+    offset_bounds-table-cell_of
+    bounds-table-cell_of
+    loop-u-smaller
+    loop-u-preserved)

@@ -14,52 +14,52 @@ use Rattle.files.proofs.read.first_record.Statement.{statement}
 use Rattle.files.proofs.read.first_record.Tie as tie
 
 -- the first two bytes are there, and the mark is known
-module _ (c : tie.After-mark-at) where
+module _ (c : tie.After-mark_at-mark) where
   abbrev start : tie.Start
   start = c.before.before.before
 
   abbrev s : List ℕ
   s = start.args.bytes.now
 
-  mark-is : (b : Bool) → is_board c.mark-at.result ≡ b → is_board (mark_at s 0) ≡ b
-  mark-is b e = ap is_board (sym c.mark-at.ensures) ∙ e
+  mark_is : (b : Bool) → is_board c.mark_at-mark.result ≡ b → is_board (mark_at s 0) ≡ b
+  mark_is b e = ap is_board (sym c.mark_at-mark.ensures) ∙ e
 
   two : leb 2 (length s) ≡ true
-  two = le-leb 2 (length s) (omega (arith, c.before.if1.false))
+  two = le-leb 2 (length s) (omega (arith, c.if-bytes-lt2.false))
+
+returns-then-bytes-lt2 : tie.Need-returns-then-bytes-lt2
+unfolding header
+returns-then-bytes-lt2 c = sym (simp (lt-leb 2 (length c.args.bytes.now) c.if-bytes-lt2.true))
+
+returns-in_default : tie.Need-returns-in_default
+unfolding header
+returns-in_default c =
+    let a = c in
+    sym (simp (two a.before, mark_is a.before false (other_mark a.mark_at-mark.result c.in_default.in_default-own.keys2)))
+
+returns-then-bytes-lt5 : tie.Need-returns-then-bytes-lt5
+unfolding header
+returns-then-bytes-lt5 c =
+    let a = c in
+    sym (simp (two a.before.before, mark_is a.before.before true (ap is_board c.in-Board.is), lt-leb 5 (length (s a.before.before)) c.if-bytes-lt5.true))
 
 returns : tie.Need-returns
 unfolding header
-returns c = sym (simp (lt-leb 2 (length c.before.before.args.bytes.now) c.if1.true))
+returns c =
+    let e = c in
+    let a = e in
+    sym (simp (two a.before.before.before.before.before, mark_is a.before.before.before.before.before true (ap is_board e.in-Board.is), le-leb 5 (length (s a.before.before.before.before.before)) e.if-bytes-lt5.false, c.byte-inputs.ensures.0, c.byte-outputs.ensures.0, c.byte-vertices.ensures.0))
 
-returns-2 : tie.Need-returns-2
-unfolding header
-returns-2 c =
-    let a = c.before in
-    sym (simp (two a, mark-is a false (other_mark a.mark-at.result c.match.keys2)))
-
-returns-3 : tie.Need-returns-3
-unfolding header
-returns-3 c =
-    let a = c.before.before.before in
-    sym (simp (two a, mark-is a true (ap is_board c.before.enum_told.given.1), lt-leb 5 (length (s a)) c.if2.true))
-
-returns-4 : tie.Need-returns-4
-unfolding header
-returns-4 c =
-    let e = c.before.before.before in
-    let a = e.before.before.before in
-    sym (simp (two a, mark-is a true (ap is_board e.before.enum_told.given.1), le-leb 5 (length (s a)) e.if2.false, c.before.before.byte.ensures.0, c.before.byte2.ensures.0, c.byte3.ensures.0))
-
-pub first-record-spec : {M : Type 1} → statement M
-first-record-spec =
+pub first_record_spec : {M : Type 1} → statement M
+first_record_spec =
     tie.close
     (tie.spec
-    returns
+    returns-then-bytes-lt2
     (λ c κs. search rules)
     (λ c. search rules)
-    returns-2
-    returns-3
+    returns-in_default
+    returns-then-bytes-lt5
     (λ c κs. search rules)
     (λ c κs. search rules)
     (λ c κs. search rules)
-    returns-4)
+    returns)

@@ -10,31 +10,31 @@ use Rattle.files.proofs.read.read.Statement.{statement}
 use Rattle.files.proofs.read.read.Tie as tie
 
 -- what the first record and checks 1 to 3 say
-said : (c : tie.After-open) (r : Made) → c.open.result ≡ r → let a = c.before.before.before.args in opened a.library.now a.bytes.now a.table.now (length a.scratch.now) ≡ open_meaning r
-said c r e = sym c.open.ensures.answer ∙ ap open_meaning e
+said : (c : tie.After-open-opened) (r : Made) → c.open-opened.result ≡ r → let a = c.args in opened a.library.now a.bytes.now a.table.now (length a.scratch.now) ≡ open_meaning r
+said c r e = sym c.open-opened.ensures.answer ∙ ap open_meaning e
 
-load-requires : tie.Need-load-requires
-load-requires c κs =
-    let a = c.before.before.before.before in
-    ((a.open.ensures.lent _ c.before.before.opened.given.1).0, (opened_long _ _ _ _ _ (said a _ c.before.before.opened.given.1), (a.open.ensures.lent _ c.before.before.opened.given.1).1))
+load-loaded-requires : tie.Need-load-loaded-requires
+load-loaded-requires c κs =
+    let a = c in
+    ((a.open-opened.ensures.lent _ c.in-Board.is).0, (opened_long _ _ _ _ _ (said a _ c.in-Board.is), (a.open-opened.ensures.lent _ c.in-Board.is).1))
 
-returns : tie.Need-returns
-returns c =
-    let l = c.before.before.before in
-    let b = l.before.before.before in
-    let e = said b.before.before _ b.opened.given.1 in
-    (call_done _ _ _ _ _ e _ _ l.load.ensures c.enum_told.given.1, call_table _ _ _ _ _ e _ _ l.load.ensures)
+returns-in-Done : tie.Need-returns-in-Done
+returns-in-Done c =
+    let l = c in
+    let b = l in
+    let e = said b.before.before.before.before.before _ b.in-Board.is in
+    (call_done _ _ _ _ _ e _ _ l.load-loaded.ensures c.in-Done.is, call_table _ _ _ _ _ e _ _ l.load-loaded.ensures)
 
-returns-2 : tie.Need-returns-2
-returns-2 c =
-    let l = c.before.before.before.before in
-    let b = l.before.before.before in
-    let e = said b.before.before _ b.opened.given.1 in
-    (call_refused _ _ _ _ _ e _ _ l.load.ensures _ _ c.before.loaded.given.1, call_table _ _ _ _ _ e _ _ l.load.ensures)
+returns-in-Refused-loaded : tie.Need-returns-in-Refused-loaded
+returns-in-Refused-loaded c =
+    let l = c in
+    let b = l in
+    let e = said b.before.before.before.before.before _ b.in-Board.is in
+    (call_refused _ _ _ _ _ e _ _ l.load-loaded.ensures _ _ c.in-Refused-loaded.is, call_table _ _ _ _ _ e _ _ l.load-loaded.ensures)
 
-returns-3 : tie.Need-returns-3
-returns-3 c =
-    let e = call_stopped _ _ _ _ _ _ (said c.before.before.before _ c.before.opened2.given.1) in
+returns-in-Refused : tie.Need-returns-in-Refused
+returns-in-Refused c =
+    let e = call_stopped _ _ _ _ _ _ (said c.before _ c.in-Refused.is) in
     (sym e.0, sym e.1)
 
 pub read_spec : {M : Type 1} → statement M
@@ -43,13 +43,13 @@ read_spec =
     (tie.spec
     (λ c κs. search rules)
     (λ c. search rules)
-    load-requires
+    load-loaded-requires
     (λ c. search rules)
     (λ c. search rules)
     (λ c. search rules)
     (λ c. search rules)
-    returns
+    returns-in-Done
     (λ c. search rules)
-    returns-2
+    returns-in-Refused-loaded
     (λ c. search rules)
-    returns-3)
+    returns-in-Refused)

@@ -11,36 +11,36 @@ use Rattle.files.proofs.read_library.item_turn.Tie as tie
 known : (c : tie.Start) (x : Entry) → c.args.item ≡ x → LegalEntry c.args.bytes.now c.args.cursor.at x
 known c x e = subst (LegalEntry c.args.bytes.now c.args.cursor.at) e c.requires.1
 
-entry-turn-requires : tie.Need-entry-turn-requires
-entry-turn-requires c κs =
-    let i = c.before.before in
-    let s = i.before.before.before in
-    let l = known s _ i.item.given.1 in
+entry_turn-requires : tie.Need-entry_turn-requires
+entry_turn-requires c κs =
+    let i = c in
+    let s = i in
+    let l = known s _ i.in-Ticks.is in
     (omega (arith, l.1), (omega arith, s.requires.0.few))
 
-end-turn-requires : tie.Need-end-turn-requires
-end-turn-requires c κs = let i = c.before in known i.before.before.before _ i.item2.given.1
+end_turn-requires : tie.Need-end_turn-requires
+end_turn-requires c κs = let i = c in known i.before.before _ i.in-End.is
 
-returns : tie.Need-returns
-returns c =
-    let i = c.before.before.before in
-    let s = i.before.before.before in
-    record_is entry_shape s.args.bytes.now i.item.given.1 (known s _ i.item.given.1).0 c.entry-turn.ensures
+returns-in-Ticks : tie.Need-returns-in-Ticks
+returns-in-Ticks c =
+    let i = c in
+    let s = i in
+    record_is entry_shape s.args.bytes.now i.in-Ticks.is (known s _ i.in-Ticks.is).0 c.entry_turn.ensures
 
-returns-2 : tie.Need-returns-2
-returns-2 c =
-    let i = c.before.before in
-    let s = i.before.before.before in
-    record_is entry_shape s.args.bytes.now i.item2.given.1 (omega arith) c.end-turn.ensures
+returns-in-End : tie.Need-returns-in-End
+returns-in-End c =
+    let i = c in
+    let s = i in
+    record_is entry_shape s.args.bytes.now i.in-End.is (omega arith) c.end_turn.ensures
 
-pub item-turn-spec : {M : Type 1} → statement M
-item-turn-spec =
+pub item_turn_spec : {M : Type 1} → statement M
+item_turn_spec =
     tie.close
     (tie.spec
     (λ c. search rules)
     (λ c. search rules)
-    entry-turn-requires
+    entry_turn-requires
     (λ c. search rules)
-    end-turn-requires
-    returns
-    returns-2)
+    end_turn-requires
+    returns-in-Ticks
+    returns-in-End)

@@ -20,105 +20,105 @@ use Rattle.files.proofs.Entries.{Placing, placing_start, placing_length, placing
 use Rattle.files.proofs.read_library.place_entries.Statement.{statement}
 use Rattle.files.proofs.read_library.place_entries.Tie as tie
 
-abbrev invariant-loop : tie.invariant-loop
+abbrev invariant-loop : tie.invariant-loop-item
 invariant-loop bytes library₀ at₀ library at = Placing bytes library at
 
-abbrev decreases-loop : tie.decreases-loop
+abbrev decreases-loop : tie.decreases-loop-item
 decreases-loop bytes library₀ at₀ library at = length bytes - at
 
-loop-holds : tie.Need-loop-init invariant-loop decreases-loop
-loop-holds c =
-    let k = c.before in
-    let s = k.before.before.before in
+loop-item-init : tie.Need-loop-item-init invariant-loop decreases-loop
+loop-item-init c =
+    let k = c in
+    let s = k in
     placing_start _ _ (k.clear.ensures ∙ ap (λ (n : ℕ). tabulate n (λ _. absent_cell)) s.requires)
 
-entry-at-requires : tie.Need-entry-at-requires invariant-loop decreases-loop
-entry-at-requires c κs = c.loop.invariant.inside
+entry_at-found-requires : tie.Need-entry_at-found-requires invariant-loop decreases-loop
+entry_at-found-requires c κs = c.loop-item.invariant.inside
 
 -- what stands there
-module _ (c : tie.After-entry-at invariant-loop decreases-loop) where
-  abbrev l : tie.At-loop invariant-loop decreases-loop
+module _ (c : tie.After-entry_at-found invariant-loop decreases-loop) where
+  abbrev l : tie.At-loop-item invariant-loop decreases-loop
   l = c.before
 
   abbrev start : tie.Start invariant-loop decreases-loop
   start = l.before.before.before.before.before
 
-  found : (x : FoundEntry) → c.entry_at.result ≡ x → entry_at start.args.bytes.now l.loop.at ≡ entry_meaning x
-  found x e = said entry_meaning c.entry_at.ensures e
+  found : (x : FoundEntry) → c.entry_at-found.result ≡ x → entry_at start.args.bytes.now l.loop-item.at ≡ entry_meaning x
+  found x e = said entry_meaning c.entry_at-found.ensures e
 
-returns : tie.Need-returns invariant-loop decreases-loop
-returns c = let k = c.before.before in placing_stop _ _ _ (l k).loop.invariant _ (found k _ c.enum_told.given.1)
+returns-in_default : tie.Need-returns-in_default invariant-loop decreases-loop
+returns-in_default c = let k = c in placing_stop _ _ _ (l k.before).loop-item.invariant _ (found k.before _ c.in_default.is)
 
 -- an entry does
-module _ (c : tie.After-known-told invariant-loop decreases-loop) where
-  abbrev k : tie.After-entry-at invariant-loop decreases-loop
-  k = c.before.before.before
+module _ (c : tie.In-Entry invariant-loop decreases-loop) where
+  abbrev k : tie.After-entry_at-found invariant-loop decreases-loop
+  k = c.before
 
-  is : (x : Entry) → c.before.found.given.0.0 ≡ x → entry_at (start k).args.bytes.now (l k).loop.at ≡ accepted x
-  is x e = found k _ c.before.found.given.1 ∙ ap accepted e
+  is : (x : Entry) → c.in-Entry.item ≡ x → entry_at (start k).args.bytes.now (l k).loop-item.at ≡ accepted x
+  is x e = found k _ c.in-Entry.is ∙ ap accepted e
 
-returns-2 : tie.Need-returns-2 invariant-loop decreases-loop
-returns-2 c = let o = c.before.before in placing_end _ _ _ (l (k o)).loop.inv _ (is o _ c.enum-told2.given.1)
+returns-in_default-item : tie.Need-returns-in_default-item invariant-loop decreases-loop
+returns-in_default-item c = let o = c in placing_end _ _ _ (l (k o.before)).loop-item.invariant _ (is o.before _ c.in_default-item.is)
 
 -- with ticks
-module _ (c : tie.After-known-told2 invariant-loop decreases-loop) where
-  abbrev i : tie.After-item invariant-loop decreases-loop
-  i = c.before
+module _ (c : tie.In-Ticks invariant-loop decreases-loop) where
+  abbrev i : tie.In-Ticks invariant-loop decreases-loop
+  i = c
 
-  abbrev o : tie.After-known-told invariant-loop decreases-loop
-  o = i.before.before
+  abbrev o : tie.In-Entry invariant-loop decreases-loop
+  o = i.before
 
   abbrev code : ℕ
-  code = i.item.given.0.0
+  code = i.in-Ticks.code
 
   abbrev d : ℤ
-  d = i.item.given.0.1.0
+  d = i.in-Ticks.ticks
 
-  entry : entry_at (start (k o)).args.bytes.now (l (k o)).loop.at ≡ accepted (E.Ticks code d)
-  entry = is o _ i.item.given.1
+  entry : entry_at (start (k o)).args.bytes.now (l (k o)).loop-item.at ≡ accepted (E.Ticks code d)
+  entry = is o _ i.in-Ticks.is
 
   held : to_z w32 (of_z w32 d) ≡ d
   held = search rules
 
-mul-ticks : tie.Need-overflow-mul-ticks invariant-loop decreases-loop
-mul-ticks c = omega (arith, (legal_entry _ _ _ (entry c)).1)
+offset_bounds-library-code : tie.Need-offset_bounds-library-code invariant-loop decreases-loop
+offset_bounds-library-code c = omega (arith, (legal_entry _ _ _ (entry c)).1)
 
-slice-set-from-ticks : tie.Need-slice-set-from-ticks invariant-loop decreases-loop
-slice-set-from-ticks c = let h = (l (k (o c))).loop.inv in omega (arith, (legal_entry _ _ _ (entry c)).1, placing_length _ _ _ h)
+bounds-library-code : tie.Need-bounds-library-code invariant-loop decreases-loop
+bounds-library-code c = let h = (l (k (o c))).loop-item.invariant in omega (arith, (legal_entry _ _ _ (entry c)).1, placing_length _ _ _ h)
 
-loop-less : tie.Need-loop-smaller invariant-loop decreases-loop
-loop-less c = omega (arith, (legal_entry _ _ _ (entry c)).0)
+loop-item-smaller : tie.Need-loop-item-smaller invariant-loop decreases-loop
+loop-item-smaller c = omega (arith, (legal_entry _ _ _ (entry c)).0)
 
-loop-again : tie.Need-loop-preserved invariant-loop decreases-loop
-loop-again c = simp (held c) (placing_turn _ _ _ (l (k (o c))).loop.inv (code c) (d c) (entry c))
+loop-item-preserved : tie.Need-loop-item-preserved invariant-loop decreases-loop
+loop-item-preserved c = simp (held c) (placing_turn _ _ _ (l (k (o c))).loop-item.invariant (code c) (d c) (entry c))
 
-same_length : tie.Need-same-length invariant-loop decreases-loop
-same_length c =
-    let h = c.before.before.before in
-    placing_length _ _ _ h.loop.invariant ∙ sym (start c.before.before).pre
+shape_of-library-in_default : tie.Need-shape_of-library-in_default invariant-loop decreases-loop
+shape_of-library-in_default c =
+    let h = c in
+    placing_length _ _ _ h.loop-item.invariant ∙ sym (start c.before).requires
 
-same-length-2 : tie.Need-same-length-2 invariant-loop decreases-loop
-same-length-2 c = let o = c.before.before in placing_length _ _ _ (l (k o)).loop.inv ∙ sym (start (k o)).pre
+shape_of-library-in_default-item : tie.Need-shape_of-library-in_default-item invariant-loop decreases-loop
+shape_of-library-in_default-item c = let o = c in placing_length _ _ _ (l (k o.before)).loop-item.invariant ∙ sym (start (k o.before)).requires
 
-pub place-entries-spec : {M : Type 1} → statement M
-place-entries-spec =
+pub place_entries_spec : {M : Type 1} → statement M
+place_entries_spec =
     tie.close
     (tie.spec
     invariant-loop
     decreases-loop
     (λ c κs. search rules)
-    loop-holds
-    entry-at-requires
+    loop-item-init
+    entry_at-found-requires
     (λ c. search rules)
     (λ c. search rules)
-    same_length
-    returns
+    shape_of-library-in_default
+    returns-in_default
     (λ c. search rules)
     (λ c. search rules)
-    same-length-2
-    returns-2
-    mul-ticks
-    slice-set-from-ticks
+    shape_of-library-in_default-item
+    returns-in_default-item
+    offset_bounds-library-code
+    bounds-library-code
     (λ c. search rules)
-    loop-less
-    loop-again)
+    loop-item-smaller
+    loop-item-preserved)

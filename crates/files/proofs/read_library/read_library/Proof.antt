@@ -9,46 +9,46 @@ use Rattle.files.specs.Scan.{scan_meaning}
 use Rattle.files.proofs.read_library.read_library.Statement.{statement}
 use Rattle.files.proofs.read_library.read_library.Tie as tie
 
-returns : tie.Need-returns
+returns-then-library-ne-CODES : tie.Need-returns-then-library-ne-CODES
 unfolding library_call
-returns c =
-    let l = c.before.before.args.library.now in
-    let n = ne_eqb (length l) library_cells c.if1.true in
+returns-then-library-ne-CODES c =
+    let l = c.args.library.now in
+    let n = ne_eqb (length l) library_cells c.if-library-ne-CODES.true in
     (sym (simp n), sym (simp n))
 
 -- 32 cells are lent, and the records are checked
-module _ (c : tie.After-scan-entries) where
+module _ (c : tie.After-scan_entries-scanned) where
   abbrev start : tie.Start
   start = c.before.before.before
 
-  call : (x : Scanned) → c.scan-entries.result ≡ x → library_call start.args.bytes.now start.args.library.now ≡ scan_meaning x
+  call : (x : Scanned) → c.scan_entries-scanned.result ≡ x → library_call start.args.bytes.now start.args.library.now ≡ scan_meaning x
   unfolding library_call
-  call x e = simp (eq-eqb (length start.args.library.now) library_cells c.before.if1.false) (sym c.scan-entries.ensures ∙ ap scan_meaning e)
+  call x e = simp (eq-eqb (length start.args.library.now) library_cells c.if-library-ne-CODES.false) (sym c.scan_entries-scanned.ensures ∙ ap scan_meaning e)
 
-place-entries-requires : tie.Need-place-entries-requires
-place-entries-requires c κs = c.before.before.before.before.if1.false
+place_entries-requires : tie.Need-place_entries-requires
+place_entries-requires c κs = c.if-library-ne-CODES.false
 
-returns-2 : tie.Need-returns-2
-returns-2 c =
-    let p = c.before in
-    let t = p.before.before in
-    let e = call t.before.before _ t.enum_told.given.1 in
-    (ap scan_meaning t.enum_told.given.1 ∙ sym e, p.place-entries.ensures ∙ sym (simp e))
+returns-in-Done : tie.Need-returns-in-Done
+returns-in-Done c =
+    let p = c in
+    let t = p in
+    let e = call t.before.before.before.before _ t.in-Done.is in
+    (ap scan_meaning t.in-Done.is ∙ sym e, p.place_entries.ensures ∙ sym (simp e))
 
-returns-3 : tie.Need-returns-3
-returns-3 c =
-    let e = call c.before.before _ c.enum-told2.given.1 in
-    (ap scan_meaning c.enum-told2.given.1 ∙ sym e, sym (simp e))
+returns-in_default : tie.Need-returns-in_default
+returns-in_default c =
+    let e = call c.before _ c.in_default.is in
+    (ap scan_meaning c.in_default.is ∙ sym e, sym (simp e))
 
-pub read-library-spec : {M : Type 1} → statement M
-read-library-spec =
+pub read_library_spec : {M : Type 1} → statement M
+read_library_spec =
     tie.close
     (tie.spec
-    returns
+    returns-then-library-ne-CODES
     (λ c κs. search rules)
     (λ c. search rules)
-    place-entries-requires
+    place_entries-requires
     (λ c. search rules)
     (λ c. search rules)
-    returns-2
-    returns-3)
+    returns-in-Done
+    returns-in_default)

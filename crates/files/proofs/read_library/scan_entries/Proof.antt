@@ -14,47 +14,47 @@ invariant-records bytes cursor₀ cursor = Left entry_shape (entry_at bytes) byt
 abbrev decreases-records : tie.decreases-records
 decreases-records bytes cursor₀ cursor = length bytes - cursor.at
 
-records-holds : tie.Need-records-init invariant-records decreases-records
+records-init : tie.Need-records-init invariant-records decreases-records
 unfolding library_records
-records-holds c = let s = c.before.args.bytes.now in all_left entry_shape (entry_at s) s (entry_short s) 0 (omega arith)
+records-init c = let s = c.args.bytes.now in all_left entry_shape (entry_at s) s (entry_short s) 0 (omega arith)
 
-turn-requires : tie.Need-turn-requires invariant-records decreases-records
-turn-requires c κs = c.records.invariant.within
+turn-turned-requires : tie.Need-turn-turned-requires invariant-records decreases-records
+turn-turned-requires c κs = c.records.invariant.within
 
-records-less : tie.Need-records-smaller invariant-records decreases-records
-records-less c =
-    let u = c.before.before.before in
-    let f = u.turn.ensures.further _ c.before.turned.given.1 in
+records-smaller : tie.Need-records-smaller invariant-records decreases-records
+records-smaller c =
+    let u = c in
+    let f = u.turn-turned.ensures.further _ c.in-On.is in
     omega (arith, f.0, f.1.inside)
 
-records-again : tie.Need-records-preserved invariant-records decreases-records
-records-again c =
-    let u = c.before.before.before in
-    still_left entry_shape _ _ (entry_short _) u.before.records.invariant u.turn.ensures _ c.before.turned.given.1
+records-preserved : tie.Need-records-preserved invariant-records decreases-records
+records-preserved c =
+    let u = c in
+    still_left entry_shape _ _ (entry_short _) u.records.invariant u.turn-turned.ensures _ c.in-On.is
 
-returns : tie.Need-returns invariant-records decreases-records
-returns c =
-    let u = c.before.before in
-    turn_says entry_shape _ _ (entry_short _) u.before.records.invariant u.turn.ensures c.enum_told.given.1
+returns-in-Done : tie.Need-returns-in-Done invariant-records decreases-records
+returns-in-Done c =
+    let u = c in
+    turn_says entry_shape _ _ (entry_short _) u.records.invariant u.turn-turned.ensures c.in-Done.is
 
-returns-2 : tie.Need-returns-2 invariant-records decreases-records
-returns-2 c =
-    let k = c.before in
-    let u = k.before.before in
-    turn_says entry_shape _ _ (entry_short _) u.before.records.invariant u.turn.ensures k.turned2.given.1
+returns-in-Refused : tie.Need-returns-in-Refused invariant-records decreases-records
+returns-in-Refused c =
+    let k = c in
+    let u = k in
+    turn_says entry_shape _ _ (entry_short _) u.records.invariant u.turn-turned.ensures k.in-Refused.is
 
-pub scan-entries-spec : {M : Type 1} → statement M
-scan-entries-spec =
+pub scan_entries_spec : {M : Type 1} → statement M
+scan_entries_spec =
     tie.close
     (tie.spec
     invariant-records
     decreases-records
-    records-holds
-    turn-requires
+    records-init
+    turn-turned-requires
     (λ c. search rules)
-    records-less
-    records-again
+    records-smaller
+    records-preserved
     (λ c. search rules)
     (λ c. search rules)
-    returns
-    returns-2)
+    returns-in-Done
+    returns-in-Refused)

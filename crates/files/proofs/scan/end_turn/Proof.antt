@@ -7,22 +7,26 @@ use Rattle.files.proofs.Turning.{refuses, ends}
 use Rattle.files.proofs.scan.end_turn.Statement.{statement}
 use Rattle.files.proofs.scan.end_turn.Tie as tie
 
+returns-then-count-cursor : tie.Need-returns-then-count-cursor
+returns-then-count-cursor c =
+    let a = c.args in
+    refuses WrongCount a.cursor.at (λ onward. simp (ne_eqb a.count a.cursor.count c.if-count-cursor.true))
+
+returns-then-end-bytes : tie.Need-returns-then-end-bytes
+returns-then-end-bytes c =
+    let e = c in
+    let a = e.args in
+    refuses FileGoesOn (a.cursor.at + 4) (λ onward. simp (eq-eqb a.count a.cursor.count e.if-count-cursor.false, ne_eqb (a.cursor.at + 4) (length a.bytes.now) c.if-end-bytes.true))
+
 returns : tie.Need-returns
 returns c =
-    let a = c.before.before.before.args in
-    refuses WrongCount a.cursor.at (λ onward. simp (ne_eqb a.count a.cursor.count c.if1.true))
+    let e = c in
+    let a = e.args in
+    ends (λ onward. simp (eq-eqb a.count a.cursor.count e.if-count-cursor.false, eq-eqb (a.cursor.at + 4) (length a.bytes.now) c.if-end-bytes.false))
 
-returns-2 : tie.Need-returns-2
-returns-2 c =
-    let e = c.before in
-    let a = e.before.before.before.args in
-    refuses FileGoesOn (a.cursor.at + 4) (λ onward. simp (eq-eqb a.count a.cursor.count e.if1.false, ne_eqb (a.cursor.at + 4) (length a.bytes.now) c.if2.true))
-
-returns-3 : tie.Need-returns-3
-returns-3 c =
-    let e = c.before in
-    let a = e.before.before.before.args in
-    ends (λ onward. simp (eq-eqb a.count a.cursor.count e.if1.false, eq-eqb (a.cursor.at + 4) (length a.bytes.now) c.if2.false))
-
-pub end-turn-spec : {M : Type 1} → statement M
-end-turn-spec = tie.close (tie.spec (λ c. search rules) returns returns-2 returns-3)
+pub end_turn_spec : {M : Type 1} → statement M
+end_turn_spec = tie.close (tie.spec
+    (λ c. search rules)
+    returns-then-count-cursor
+    returns-then-end-bytes
+    returns)

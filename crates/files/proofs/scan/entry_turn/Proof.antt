@@ -8,20 +8,24 @@ use Rattle.files.proofs.Turning.{refuses, goes_on}
 use Rattle.files.proofs.scan.entry_turn.Statement.{statement}
 use Rattle.files.proofs.scan.entry_turn.Tie as tie
 
+returns-then-place-cursor : tie.Need-returns-then-place-cursor
+returns-then-place-cursor c =
+    let a = c.args in
+    refuses NotRising a.cursor.at (λ onward. simp (lt-leb a.cursor.low a.place c.if-place-cursor.true))
+
 returns : tie.Need-returns
 returns c =
-    let a = c.before.before.args in
-    refuses NotRising a.cursor.at (λ onward. simp (lt-leb a.cursor.low a.place c.if1.true))
-
-returns-2 : tie.Need-returns-2
-returns-2 c =
-    let e = c.before in
-    let s = e.before.before in
+    let e = c in
+    let s = e in
     let a = s.args in
     goes_on (record { at = a.after; low = a.place + 1; count = a.cursor.count + 1 })
-    (λ onward. simp (le-leb a.cursor.low a.place e.if1.false, add-one a.place, add-one a.cursor.count))
+    (λ onward. simp (le-leb a.cursor.low a.place e.if-place-cursor.false, add-one a.place, add-one a.cursor.count))
     s.requires.1.0
     (record { inside = omega arith; few = omega arith })
 
-pub entry-turn-spec : {M : Type 1} → statement M
-entry-turn-spec = tie.close (tie.spec returns (λ c. search rules) (λ c. search rules) returns-2)
+pub entry_turn_spec : {M : Type 1} → statement M
+entry_turn_spec = tie.close (tie.spec
+    returns-then-place-cursor
+    (λ c. search rules)
+    (λ c. search rules)
+    returns)

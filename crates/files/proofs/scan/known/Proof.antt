@@ -14,39 +14,39 @@ use Rattle.files.proofs.scan.known.Statement.{statement}
 use Rattle.files.proofs.scan.known.Tie as tie
 
 -- an arc's delay, as the code has it
-arc-is : (c : tie.After-known-told) → to_z w32 (of_z w32 c.before.item.given.0.1.1.0) ≡ c.before.item.given.0.1.1.0
-arc-is c = search rules
+arc_is : (c : tie.In-Arc) → to_z w32 (of_z w32 c.in-Arc.d) ≡ c.in-Arc.d
+arc_is c = search rules
 
-returns : tie.Need-returns
-returns c =
-    let i = c.before in
-    (λ k. accepted (R.Arc i.item.given.0.0 i.item.given.0.1.0 (arc-is c k))) ∙ sym (ap (format.known i.before.before.args.library.now) i.item.given.1)
+returns-in-Arc : tie.Need-returns-in-Arc
+returns-in-Arc c =
+    let i = c in
+    (λ k. accepted (R.Arc i.in-Arc.u i.in-Arc.v (arc_is c k))) ∙ sym (ap (format.known i.args.library.now) i.in-Arc.is)
 
 -- a cell, once its ticks are asked
-module _ (t : tie.After-ticks-in) where
-  abbrev i : tie.After-item2
-  i = t.before.before
+module _ (t : tie.After-ticks_in-ticks) where
+  abbrev i : tie.In-Cell
+  i = t.before
 
   abbrev start : tie.Start
-  start = i.before.before
+  start = i.before
 
   abbrev cell : Verdict ℤ → Verdict Record
-  cell v = v then λ _. accepted (R.Cell i.item2.given.0.0 i.item2.given.0.1.0 i.item2.given.0.1.1.0)
+  cell v = v then λ _. accepted (R.Cell i.in-Cell.u i.in-Cell.v i.in-Cell.code)
 
-  ticks : (x : Ticks) → t.ticks-in.result ≡ x → format.known start.args.library.now start.args.item ≡ cell (ticks_meaning x)
-  ticks x e = ap (format.known start.args.library.now) i.item2.given.1 ∙ ap cell (said ticks_meaning t.ticks-in.ensures e)
+  ticks : (x : Ticks) → t.ticks_in-ticks.result ≡ x → format.known start.args.library.now start.args.item ≡ cell (ticks_meaning x)
+  ticks x e = ap (format.known start.args.library.now) i.in-Cell.is ∙ ap cell (said ticks_meaning t.ticks_in-ticks.ensures e)
 
-returns-2 : tie.Need-returns-2
-returns-2 c = sym (ticks c.before.before _ c.enum_told.given.1)
+returns-in-Of : tie.Need-returns-in-Of
+returns-in-Of c = sym (ticks c.before _ c.in-Of.is)
 
-returns-3 : tie.Need-returns-3
-returns-3 c = let o = c.before in sym (ticks o.before.before _ o.ticks.given.1)
+returns-in-Refused : tie.Need-returns-in-Refused
+returns-in-Refused c = let o = c in sym (ticks o.before _ o.in-Refused.is)
 
-returns-4 : tie.Need-returns-4
-returns-4 c = let i = c.before in sym (ap (format.known i.before.before.args.library.now) i.item3.given.1)
+returns-in-End : tie.Need-returns-in-End
+returns-in-End c = let i = c in sym (ap (format.known i.args.library.now) i.in-End.is)
 
-pub known-spec : {M : Type 1} → statement M
-known-spec =
+pub known_spec : {M : Type 1} → statement M
+known_spec =
     tie.close
     (tie.spec
     (λ c. search rules)
@@ -55,7 +55,7 @@ known-spec =
     (λ c. search rules)
     (λ c. search rules)
     (λ c. search rules)
-    returns
-    returns-2
-    returns-3
-    returns-4)
+    returns-in-Arc
+    returns-in-Of
+    returns-in-Refused
+    returns-in-End)

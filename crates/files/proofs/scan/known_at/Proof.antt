@@ -10,24 +10,24 @@ use Rattle.records.specs.Records.{found_meaning}
 use Rattle.files.proofs.scan.known_at.Statement.{statement}
 use Rattle.files.proofs.scan.known_at.Tie as tie
 
-found : (c : tie.After-record-at) (x : Found) → c.record-at.result ≡ x → let a = c.before.before.args in known_at a.library.now a.n a.bytes.now a.at ≡ (found_meaning x then known a.library.now)
-found c x e = let a = c.before.before.args in ap (λ (v : Verdict Record). v then known a.library.now) (said found_meaning c.record-at.ensures e)
+found : (c : tie.After-record_at-found) (x : Found) → c.record_at-found.result ≡ x → let a = c.args in known_at a.library.now a.n a.bytes.now a.at ≡ (found_meaning x then known a.library.now)
+found c x e = let a = c.before.before.args in ap (λ (v : Verdict Record). v then known a.library.now) (said found_meaning c.record_at-found.ensures e)
 
-returns : tie.Need-returns
-returns c =
-    let f = c.before.before in
-    c.known.ensures ∙ sym (found f.before.before _ f.found.given.1)
+returns-in-Record : tie.Need-returns-in-Record
+returns-in-Record c =
+    let f = c in
+    c.known.ensures ∙ sym (found f.before.before _ f.in-Record.is)
 
-returns-2 : tie.Need-returns-2
-returns-2 c = let f = c.before in sym (found f.before.before _ f.found2.given.1)
+returns-in-Refused : tie.Need-returns-in-Refused
+returns-in-Refused c = let f = c in sym (found f.before _ f.in-Refused.is)
 
-pub known-at-spec : {M : Type 1} → statement M
-known-at-spec =
+pub known_at_spec : {M : Type 1} → statement M
+known_at_spec =
     tie.close
     (tie.spec
     (λ c κs. search rules)
     (λ c. search rules)
     (λ c κs. search rules)
     (λ c. search rules)
-    returns
-    returns-2)
+    returns-in-Record
+    returns-in-Refused)

@@ -19,72 +19,72 @@ known : (c : tie.Start) (x : Record) → c.args.item ≡ x → LegalRecord c.arg
 known c x e = subst (LegalRecord c.args.n c.args.bytes.now c.args.cursor.at) e c.requires.1.1
 
 -- its cell is one of a board's
-in-board : (n x : ℕ) → n ≤ max_vertices → x < n * n → x < max_vertices * max_vertices
-in-board n x l h = omega (arith, h, area n max_vertices l)
+in_board : (n x : ℕ) → n ≤ max_vertices → x < n * n → x < max_vertices * max_vertices
+in_board n x l h = omega (arith, h, area n max_vertices l)
 
 -- and is its place
 placed_at : {c : Cursor} {x y after : ℕ} {r : Turned} → x ≡ y → Turns after c (entry_says c x after) r → Turns after c (entry_says c y after) r
 placed_at {c} {after = after} {r = r} e t = subst (λ (z : ℕ). Turns after c (entry_says c z after) r) e t
 
-cell-of-requires : tie.Need-cell-of-requires
-cell-of-requires c κs =
-    let i = c.before in
-    let s = i.before.before.before in
-    let l = known s _ i.item.given.1 in
+cell_of-requires : tie.Need-cell_of-requires
+cell_of-requires c κs =
+    let i = c in
+    let s = i in
+    let l = known s _ i.in-Arc.is in
     (s.requires.0, (l.1, l.2))
 
-entry-turn-requires : tie.Need-entry-turn-requires
-entry-turn-requires c κs =
-    let s = c.before.before.before.before.before.before in
-    (in-board _ _ s.requires.0 c.before.cell-of.ensures.1, (omega arith, s.requires.1.0.few))
+entry_turn-requires : tie.Need-entry_turn-requires
+entry_turn-requires c κs =
+    let s = c in
+    (in_board _ _ s.requires.0 c.cell_of.ensures.1, (omega arith, s.requires.1.0.few))
 
-cell-of-requires-2 : tie.Need-cell-of-requires-2
-cell-of-requires-2 c κs =
-    let i = c.before in
-    let s = i.before.before.before in
-    let l = known s _ i.item2.given.1 in
+cell_of-requires-in-Cell : tie.Need-cell_of-requires-in-Cell
+cell_of-requires-in-Cell c κs =
+    let i = c in
+    let s = i in
+    let l = known s _ i.in-Cell.is in
     (s.requires.0, (l.1, l.2))
 
-entry-turn-requires-2 : tie.Need-entry-turn-requires-2
-entry-turn-requires-2 c κs =
-    let s = c.before.before.before.before.before.before in
-    (in-board _ _ s.requires.0 c.before.cell-of2.ensures.1, (omega arith, s.requires.1.0.few))
+entry_turn-requires-in-Cell : tie.Need-entry_turn-requires-in-Cell
+entry_turn-requires-in-Cell c κs =
+    let s = c in
+    (in_board _ _ s.requires.0 c.cell_of-in-Cell.ensures.1, (omega arith, s.requires.1.0.few))
 
-end-turn-requires : tie.Need-end-turn-requires
-end-turn-requires c κs = let i = c.before in known i.before.before.before _ i.item3.given.1
+end_turn-requires : tie.Need-end_turn-requires
+end_turn-requires c κs = let i = c in known i.before.before _ i.in-End.is
 
-returns : tie.Need-returns
-returns c =
-    let i = c.before.before.before.before in
-    let s = i.before.before.before in
-    record_is (board_shape s.args.n) s.args.bytes.now i.item.given.1 (known s _ i.item.given.1).0 (placed_at c.before.before.cell-of.ensures.0 c.entry-turn.ensures)
+returns-in-Arc : tie.Need-returns-in-Arc
+returns-in-Arc c =
+    let i = c in
+    let s = i in
+    record_is (board_shape s.args.n) s.args.bytes.now i.in-Arc.is (known s _ i.in-Arc.is).0 (placed_at c.cell_of.ensures.0 c.entry_turn.ensures)
 
-returns-2 : tie.Need-returns-2
-returns-2 c =
-    let i = c.before.before.before.before in
-    let s = i.before.before.before in
-    record_is (board_shape s.args.n) s.args.bytes.now i.item2.given.1 (known s _ i.item2.given.1).0 (placed_at c.before.before.cell-of2.ensures.0 c.entry-turn2.ensures)
+returns-in-Cell : tie.Need-returns-in-Cell
+returns-in-Cell c =
+    let i = c in
+    let s = i in
+    record_is (board_shape s.args.n) s.args.bytes.now i.in-Cell.is (known s _ i.in-Cell.is).0 (placed_at c.cell_of-in-Cell.ensures.0 c.entry_turn-in-Cell.ensures)
 
-returns-3 : tie.Need-returns-3
-returns-3 c =
-    let i = c.before.before in
-    let s = i.before.before.before in
-    record_is (board_shape s.args.n) s.args.bytes.now i.item3.given.1 (omega arith) c.end-turn.ensures
+returns-in-End : tie.Need-returns-in-End
+returns-in-End c =
+    let i = c in
+    let s = i in
+    record_is (board_shape s.args.n) s.args.bytes.now i.in-End.is (omega arith) c.end_turn.ensures
 
-pub record-turn-spec : {M : Type 1} → statement M
-record-turn-spec =
+pub record_turn_spec : {M : Type 1} → statement M
+record_turn_spec =
     tie.close
     (tie.spec
     (λ c. search rules)
-    cell-of-requires
+    cell_of-requires
     (λ c. search rules)
-    entry-turn-requires
+    entry_turn-requires
     (λ c. search rules)
-    cell-of-requires-2
+    cell_of-requires-in-Cell
     (λ c. search rules)
-    entry-turn-requires-2
+    entry_turn-requires-in-Cell
     (λ c. search rules)
-    end-turn-requires
-    returns
-    returns-2
-    returns-3)
+    end_turn-requires
+    returns-in-Arc
+    returns-in-Cell
+    returns-in-End)

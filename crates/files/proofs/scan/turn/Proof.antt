@@ -10,29 +10,29 @@ use Rattle.files.proofs.scan.turn.Statement.{statement}
 use Rattle.files.proofs.scan.turn.Tie as tie
 
 -- what stands there, under the library
-found : (c : tie.After-known-at) (x : Found) → c.known_at_lem.result ≡ x → let a = c.before.before.args in known_at a.library.now a.n a.bytes.now a.cursor.at ≡ found_meaning x
+found : (c : tie.After-known_at-found) (x : Found) → c.known_at-found.result ≡ x → let a = c.args in known_at a.library.now a.n a.bytes.now a.cursor.at ≡ found_meaning x
 found c x e = said found_meaning c.known_at_lem.ensures e
 
-record-turn-requires : tie.Need-record-turn-requires
-record-turn-requires c κs =
-    let f = c.before in
-    let r = f.before.before in
-    let s = r.before.before in
-    (s.requires.0, (s.requires.1, legal s.args.n s.args.bytes.now s.args.cursor.at _ (stands s.args.library.now _ _ _ _ (found r _ f.found.given.1))))
+record_turn-requires : tie.Need-record_turn-requires
+record_turn-requires c κs =
+    let f = c in
+    let r = f in
+    let s = r in
+    (s.requires.0, (s.requires.1, legal s.args.n s.args.bytes.now s.args.cursor.at _ (stands s.args.library.now _ _ _ _ (found r _ f.in-Record.is))))
 
-returns : tie.Need-returns
-returns c =
-    let f = c.before.before in
-    let r = f.before.before in
-    let s = r.before.before in
-    found_is (board_shape s.args.n) s.args.bytes.now (found r _ f.found.given.1) c.record-turn.ensures
+returns-in-Record : tie.Need-returns-in-Record
+returns-in-Record c =
+    let f = c in
+    let r = f in
+    let s = r in
+    found_is (board_shape s.args.n) s.args.bytes.now (found r _ f.in-Record.is) c.record_turn.ensures
 
-returns-2 : tie.Need-returns-2
-returns-2 c =
-    let f = c.before in
-    let r = f.before.before in
-    let s = r.before.before in
-    found_is (board_shape s.args.n) s.args.bytes.now (found r _ f.found2.given.1) (refuses _ s.args.cursor.at (λ onward. refl))
+returns-in-Refused : tie.Need-returns-in-Refused
+returns-in-Refused c =
+    let f = c in
+    let r = f in
+    let s = r in
+    found_is (board_shape s.args.n) s.args.bytes.now (found r _ f.in-Refused.is) (refuses _ s.args.cursor.at (λ onward. refl))
 
 pub turn_spec : {M : Type 1} → statement M
 turn_spec =
@@ -40,7 +40,7 @@ turn_spec =
     (tie.spec
     (λ c κs. search rules)
     (λ c. search rules)
-    record-turn-requires
+    record_turn-requires
     (λ c. search rules)
-    returns
-    returns-2)
+    returns-in-Record
+    returns-in-Refused)

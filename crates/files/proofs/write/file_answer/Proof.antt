@@ -25,37 +25,44 @@ module _ (c : tie.Start) where
   long : length (file_of b.inputs b.outputs b.vertices g) ≡ 9 + 8 * arcs b.vertices g
   long = file_length b.vertices g b.inputs b.outputs
 
-few : (c : tie.After-arcs) → c.arcs.result ≤ 8100
-few c = let s = c.before.before in omega (arith, c.arcs.ensures, arcs_few (b s).vertices (g s), board_area (b s) s.requires.lent.sized)
+few : (c : tie.After-arcs-count) → c.arcs-count.result ≤ 8100
+few c = let s = c in omega (arith, c.arcs-count.ensures, arcs_few (b s.before.before).vertices (g s.before.before), board_area (b s.before.before) s.requires.lent.sized)
 
-mul-if1 : tie.Need-overflow-mul-if1
-mul-if1 c = omega (arith, few c)
+overflow_mul-count : tie.Need-overflow_mul-count
+overflow_mul-count c = omega (arith, few c)
 
-add-if1 : tie.Need-overflow-add-if1
-add-if1 c = omega (arith, few c)
+overflow_add-count : tie.Need-overflow_add-count
+overflow_add-count c = omega (arith, few c)
+
+returns-then-destination-count : tie.Need-returns-then-destination-count
+returns-then-destination-count c =
+    let a = c in
+    let s = a in
+    file_short (b s.before.before.before).inputs (b s.before.before.before).outputs (b s.before.before.before).vertices (g s.before.before.before) s.args.destination.now (omega (arith, c.if-destination-count.true, a.arcs-count.ensures, long s.before.before.before))
+
+put_file-requires : tie.Need-put_file-requires
+put_file-requires c κs =
+    let e = c in
+    let a = e in
+    let s = a in
+    (s.requires, (a.arcs-count.ensures, omega (arith, e.if-destination-count.false, a.arcs-count.ensures, long s.before.before.before.before)))
 
 returns : tie.Need-returns
 returns c =
-    let a = c.before in
-    let s = a.before.before in
-    file_short (b s).inputs (b s).outputs (b s).vertices (g s) s.args.destination.now (omega (arith, c.if1.true, a.arcs.ensures, long s))
+    let p = c in
+    let e = p in
+    let a = e in
+    let s = a in
+    file_done (b s.before.before.before.before.before.before.before).inputs (b s.before.before.before.before.before.before.before).outputs (b s.before.before.before.before.before.before.before).vertices (g s.before.before.before.before.before.before.before) s.args.destination.now (omega (arith, e.if-destination-count.false, a.arcs-count.ensures, long s.before.before.before.before.before.before.before)) p.put_file.ensures
 
-put-file-requires : tie.Need-put-file-requires
-put-file-requires c κs =
-    let e = c.before in
-    let a = e.before in
-    let s = a.before.before in
-    (s.requires, (a.arcs.ensures, omega (arith, e.if1.false, a.arcs.ensures, long s)))
-
-returns-2 : tie.Need-returns-2
-returns-2 c =
-    let p = c.before.before in
-    let e = p.before.before in
-    let a = e.before in
-    let s = a.before.before in
-    file_done (b s).inputs (b s).outputs (b s).vertices (g s) s.args.destination.now (omega (arith, e.if1.false, a.arcs.ensures, long s)) p.put-file.ensures
-
-pub file-answer-spec : {M : Type 1} → statement M
-file-answer-spec =
+pub file_answer_spec : {M : Type 1} → statement M
+file_answer_spec =
     tie.close
-    (tie.spec (λ c κs. search rules) mul-if1 add-if1 returns put-file-requires (λ c. search rules) returns-2)
+    (tie.spec
+    (λ c κs. search rules)
+    overflow_mul-count
+    overflow_add-count
+    returns-then-destination-count
+    put_file-requires
+    (λ c. search rules)
+    returns)

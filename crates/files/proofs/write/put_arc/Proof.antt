@@ -17,13 +17,13 @@ use Rattle.files.proofs.write.put_arc.Statement.{statement}
 use Rattle.files.proofs.write.put_arc.Tie as tie
 
 module _ (c : tie.After-wide) where
-  abbrev to : tie.After-put-small2
+  abbrev to : tie.After-put_small-p-2
   to = c.before.before.before.before
 
-  abbrev from : tie.After-put-small
+  abbrev from : tie.After-put_small-p
   from = to.before.before.before.before
 
-  abbrev mark : tie.After-put-mark
+  abbrev mark : tie.After-put_mark-p
   mark = from.before.before.before.before
 
   abbrev start : tie.Start
@@ -33,33 +33,33 @@ module _ (c : tie.After-wide) where
   delay = start.args.delay
 
   widened : to_z w64 (of_z w64 c.wide.result) ≡ delay
-  widened = handed w64 (c.wide.ensures ∙ to_z-of_z {w = w32} start.fits.delay) (widens start.fits.delay)
+  widened = handed w64 (c.wide.ensures ∙ to_z-of_z {w = w32} start.ranges.delay) (widens start.ranges.delay)
 
-put-signed-requires : tie.Need-put-signed-requires
-put-signed-requires c κs = (
+put_signed-requires : tie.Need-put_signed-requires
+put_signed-requires c κs = (
   record {
     some = omega arith;
     few = omega arith;
-    inside = omega (arith, (start c).requires.1.1, length-tabulate (byte_of (pattern 4 (delay c))) 4, (mark c).put-mark.ensures.end, (mark c).put-mark.auto.0, (from c).put_small.ensures.end, (from c).put_small.auto.0, (to c).put-small2.ensures.end, (to c).put-small2.auto.0);
+    inside = omega (arith, (start c).requires.1.1, length-tabulate (byte_of (pattern 4 (delay c))) 4, (mark c).put_mark-p.ensures.end, (mark c).put_mark-p.auto.out, (from c).put_small-p.ensures.end, (from c).put_small-p.auto.out, (to c).put_small-p-2.ensures.end, (to c).put_small-p-2.auto.out);
   },
   subst (λ (z : ℤ). T (in_width 4 z)) (sym (widened c)) (fits_in_width w32 4 (omega arith) (start c).ranges.delay),
 )
 
 returns : tie.Need-returns
 returns c =
-    let number = c.before.before in
-    let d = number.before in
-    subst (λ (z : ℤ). Appends (arc_record (record { from = (start d).args.u; to = (start d).args.v; delay = z })) (start d).args.out.now (start d).args.at number.put-signed.new.0 number.put-signed.result) (widened d)
-    (appends_more (appends_more (appends_more (mark d).put-mark.ensures (from d).put_small.ensures) (to d).put-small2.ensures) number.put-signed.ensures)
+    let number = c in
+    let d = number in
+    subst (λ (z : ℤ). Appends (arc_record (record { from = (start d.before.before.before).args.u; to = (start d.before.before.before).args.v; delay = z })) (start d.before.before.before).args.out.now (start d.before.before.before).args.at number.put_signed.new.out number.put_signed.result) (widened d.before.before.before)
+    (appends_more (appends_more (appends_more (mark d.before.before.before).put_mark-p.ensures (from d.before.before.before).put_small-p.ensures) (to d.before.before.before).put_small-p-2.ensures) number.put_signed.ensures)
 
-pub put-arc-spec : {M : Type 1} → statement M
-put-arc-spec =
+pub put_arc_spec : {M : Type 1} → statement M
+put_arc_spec =
     tie.close
     (tie.spec
     (λ c κs. search rules)
     (λ c κs. search rules)
     (λ c κs. search rules)
     (λ c κs. search rules)
-    put-signed-requires
+    put_signed-requires
     (λ c. search rules)
     returns)

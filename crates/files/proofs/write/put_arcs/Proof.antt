@@ -13,70 +13,70 @@ use Rattle.files.proofs.ArcForms.{arcs_join}
 use Rattle.files.proofs.write.put_arcs.Statement.{statement}
 use Rattle.files.proofs.write.put_arcs.Tie as tie
 
-abbrev invariant-loop : tie.invariant-loop
+abbrev invariant-loop : tie.invariant-loop-u
 invariant-loop form board table out₀ at n next₀ u₀ out next u =
     (u ≤ n) × Remains (arcs_as form (arcs_of n (graph_of n table))) out₀ at (left (arcs_as form) (arcs_between n (graph_of n table)) n u) out next
 
-abbrev decreases-loop : tie.decreases-loop
+abbrev decreases-loop : tie.decreases-loop-u
 decreases-loop form board table out₀ at n next₀ u₀ out next u = n - u
 
-loop-holds : tie.Need-loop-init invariant-loop decreases-loop
-loop-holds c = let s = c.before in let n = s.args.board.vertices in (omega arith, remains_all (left_all (arcs_as s.args.form) (arcs_between n (graph_of n s.args.table.now)) n))
+loop-u-init : tie.Need-loop-u-init invariant-loop decreases-loop
+loop-u-init c = let s = c in let n = s.args.board.vertices in (omega arith, remains_all (left_all (arcs_as s.args.form) (arcs_between n (graph_of n s.args.table.now)) n))
 
-module _ (c : tie.In-loop invariant-loop decreases-loop) where
-  abbrev head : tie.At-loop invariant-loop decreases-loop
+module _ (c : tie.In-loop-u invariant-loop decreases-loop) where
+  abbrev head : tie.At-loop-u invariant-loop decreases-loop
   head = c.before
 
   abbrev s : tie.Start invariant-loop decreases-loop
   s = head.before.before
 
-  abbrev as-form : List Arc → List ℕ
-  as-form = arcs_as s.args.form
+  abbrev as_form : List Arc → List ℕ
+  as_form = arcs_as s.args.form
 
   abbrev n : ℕ
   n = s.args.board.vertices
 
   abbrev u : ℕ
-  u = head.loop.u
+  u = head.loop-u.u
 
   abbrev g : Graph
   g = graph_of n s.args.table.now
 
   -- the row's arcs, and what is left after them
-  next-left : left as-form (arcs_between n g) n u ≡ as-form (row_arcs g u 0 n) ++ left as-form (arcs_between n g) n (u + 1)
-  next-left = left_next (arcs_join s.args.form) (rows_parts n g) n u c.loop-test.true
+  next_left : left as_form (arcs_between n g) n u ≡ as_form (row_arcs g u 0 n) ++ left as_form (arcs_between n g) n (u + 1)
+  next_left = left_next (arcs_join s.args.form) (rows_parts n g) n u c.loop-u-test.true
 
-put-row-requires : tie.Need-put-row-requires invariant-loop decreases-loop
-put-row-requires c κs =
-    let i = c.before in
-    ((s i).requires.0, (i.loop-test.true, remains_fits (head i).loop.invariant.1 (s i).requires.1 (as-form i (row_arcs (g i) (u i) 0 (n i))) (left (as-form i) (arcs_between (n i) (g i)) (n i) (u i + 1)) (next-left i)))
+put_row-next-requires : tie.Need-put_row-next-requires invariant-loop decreases-loop
+put_row-next-requires c κs =
+    let i = c in
+    ((s i.before).requires.0, (i.loop-u-test.true, remains_fits (head i.before).loop-u.invariant.1 (s i.before).requires.1 (as_form i.before (row_arcs (g i.before) (u i.before) 0 (n i.before))) (left (as_form i.before) (arcs_between (n i.before) (g i.before)) (n i.before) (u i.before + 1)) (next_left i.before)))
 
-loop-again : tie.Need-loop-preserved invariant-loop decreases-loop
-loop-again c =
-    let p = c.before.before in
-    let i = p.before.before in
-    (omega (arith, i.loop-test.true), remains_next (head i).loop.invariant.1 {xs = as-form i (row_arcs (g i) (u i) 0 (n i))} (next-left i) p.put-row.ensures)
+loop-u-preserved : tie.Need-loop-u-preserved invariant-loop decreases-loop
+loop-u-preserved c =
+    let p = c in
+    let i = p in
+    (omega (arith, i.loop-u-test.true), remains_next (head i.before.before.before.before).loop-u.invariant.1 {xs = as_form i.before.before.before.before (row_arcs (g i.before.before.before.before) (u i.before.before.before.before) 0 (n i.before.before.before.before))} (next_left i.before.before.before.before) p.put_row-next.ensures)
 
-same_length : tie.Need-same-length invariant-loop decreases-loop
-same_length c = remains_length c.before.loop.invariant.1
+shape_of-out : tie.Need-shape_of-out invariant-loop decreases-loop
+shape_of-out c = remains_length c.loop-u.invariant.1
 
 returns : tie.Need-returns invariant-loop decreases-loop
 returns c =
-    let l = c.before in
-    let s = l.before.before in
+    let l = c in
+    let s = l in
     let n = s.args.board.vertices in
-    remains_none l.loop.invariant.1 (left_none (arcs_join s.args.form) (rows_parts n (graph_of n s.args.table.now)) n l.loop.u (omega (arith, c.loop-test.false)))
+    remains_none l.loop-u.invariant.1 (left_none (arcs_join s.args.form) (rows_parts n (graph_of n s.args.table.now)) n l.loop-u.u (omega (arith, c.loop-u-test.false)))
 
-pub put-arcs-spec : {M : Type 1} → statement M
-put-arcs-spec =
+pub put_arcs_spec : {M : Type 1} → statement M
+put_arcs_spec =
     tie.close
     (tie.spec
     invariant-loop
     decreases-loop
-    loop-holds
-    put-row-requires
+    loop-u-init
+    put_row-next-requires
     (λ c. omega arith)
     (λ c. omega arith)
-    loop-again
-    same_length
+    loop-u-preserved
+    shape_of-out
     returns)

@@ -5,14 +5,14 @@ use Rattle.files.proofs.write.put_board.Tie as tie
 
 returns : tie.Need-returns
 returns c =
-    let vertices = c.before.before in
-    let outputs = vertices.before.before.before.before in
-    let inputs = outputs.before.before.before.before in
-    let mark = inputs.before.before.before.before in
-    appends_more (appends_more (appends_more mark.put-mark.ensures inputs.put_small.ensures) outputs.put-small2.ensures) vertices.put-small3.ensures
+    let vertices = c in
+    let outputs = vertices in
+    let inputs = outputs in
+    let mark = inputs in
+    appends_more (appends_more (appends_more mark.put_mark-p.ensures inputs.put_small-p.ensures) outputs.put_small-p-2.ensures) vertices.put_small.ensures
 
-pub put-board-spec : {M : Type 1} → statement M
-put-board-spec =
+pub put_board_spec : {M : Type 1} → statement M
+put_board_spec =
     tie.close
     (tie.spec
     (λ c κs. search rules)

@@ -6,17 +6,21 @@ use Rattle.records.proofs.Appending.{appends_more}
 use Rattle.files.proofs.write.put_end.Statement.{statement}
 use Rattle.files.proofs.write.put_end.Tie as tie
 
-put-unsigned-requires : tie.Need-put-unsigned-requires
-put-unsigned-requires c κs =
-    let mark = c.before.before.before in
-    let s = mark.before.before.before in
-    (record { some = omega arith; few = omega arith; inside = omega (arith, s.requires.1, length-tabulate (byte_of s.args.count) 2, mark.put-mark.ensures.end, mark.put-mark.auto.0) }, s.requires.0)
+put_unsigned-requires : tie.Need-put_unsigned-requires
+put_unsigned-requires c κs =
+    let mark = c in
+    let s = mark in
+    (record { some = omega arith; few = omega arith; inside = omega (arith, s.requires.1, length-tabulate (byte_of s.args.count) 2, mark.put_mark-p.ensures.end, mark.put_mark-p.auto.out) }, s.requires.0)
 
 returns : tie.Need-returns
 returns c =
-    let number = c.before.before in
-    let mark = number.before.before.before.before in
-    appends_more mark.put-mark.ensures number.put-unsigned.ensures
+    let number = c in
+    let mark = number in
+    appends_more mark.put_mark-p.ensures number.put_unsigned.ensures
 
-pub put-end-spec : {M : Type 1} → statement M
-put-end-spec = tie.close (tie.spec (λ c κs. search rules) put-unsigned-requires (λ c. search rules) returns)
+pub put_end_spec : {M : Type 1} → statement M
+put_end_spec = tie.close (tie.spec
+    (λ c κs. search rules)
+    put_unsigned-requires
+    (λ c. search rules)
+    returns)

@@ -29,45 +29,50 @@ module _ (c : tie.Start) where
   long : length (file_of b.inputs b.outputs b.vertices g) ≡ 9 + 8 * arcs b.vertices g
   long = file_length b.vertices g b.inputs b.outputs
 
-put-board-requires : tie.Need-put-board-requires
-put-board-requires c κs = let s = c.before.before in (s.requires.0.lent.sized, omega (arith, s.requires.1.1, long s))
+put_board-first-requires : tie.Need-put_board-first-requires
+put_board-first-requires c κs = let s = c in (s.requires.0.lent.sized, omega (arith, s.requires.1.1, long s.before.before))
 
-put-arcs-requires : tie.Need-put-arcs-requires
-put-arcs-requires c κs =
-    let board = c.before.before.before in
-    let s = board.before.before.before in
-    (s.requires.0, omega (arith, s.requires.1.1, long s, all_records_length (b s).vertices (g s), board.put-board.ensures.end, board.put-board.auto.1.0))
+put_arcs-end-requires : tie.Need-put_arcs-end-requires
+put_arcs-end-requires c κs =
+    let board = c in
+    let s = board in
+    (s.requires.0, omega (arith, s.requires.1.1, long s.before.before.before.before.before.before, all_records_length (b s.before.before.before.before.before.before).vertices (g s.before.before.before.before.before.before), board.put_board-first.ensures.end, board.put_board-first.auto.out))
 
-put-end-requires : tie.Need-put-end-requires
-put-end-requires c κs =
-    let rows = c.before.before.before in
-    let board = rows.before.before.before.before in
-    let s = board.before.before.before in (
-      omega (arith, s.requires.1.0, arcs_few (b s).vertices (g s), board_area (b s) s.requires.0.lent.sized),
+put_end-requires : tie.Need-put_end-requires
+put_end-requires c κs =
+    let rows = c in
+    let board = rows in
+    let s = board in (
+      omega (arith, s.requires.1.0, arcs_few (b s.before.before.before.before.before.before.before.before.before.before).vertices (g s.before.before.before.before.before.before.before.before.before.before), board_area (b s.before.before.before.before.before.before.before.before.before.before) s.requires.0.lent.sized),
       omega (
         arith,
         s.requires.1.0,
         s.requires.1.1,
-        long s,
-        all_records_length (b s).vertices (g s),
+        long s.before.before.before.before.before.before.before.before.before.before,
+        all_records_length (b s.before.before.before.before.before.before.before.before.before.before).vertices (g s.before.before.before.before.before.before.before.before.before.before),
         length-tabulate (byte_of s.args.count) 2,
-        board.put-board.ensures.end,
-        board.put-board.auto.1.0,
-        rows.put-arcs.ensures.end,
-        rows.put-arcs.auto.1.1.1.0,
+        board.put_board-first.ensures.end,
+        board.put_board-first.auto.out,
+        rows.put_arcs-end.ensures.end,
+        rows.put_arcs-end.auto.out,
       ),
     )
 
 returns : tie.Need-returns
 returns c =
-    let end = c.before.before in
-    let rows = end.before.before.before.before in
-    let board = rows.before.before.before.before in
-    let s = board.before.before.before in
+    let end = c in
+    let rows = end in
+    let board = rows in
+    let s = board in
     appends_same
-    (ap (λ (k : ℕ). board_record (b s).inputs (b s).outputs (b s).vertices ++ arc_records (arcs_of (b s).vertices (g s)) ++ end_record k) s.requires.1.0 ∙ file_parts (b s).vertices (g s) (b s).inputs (b s).outputs)
-    (appends_more (appends_more board.put-board.ensures rows.put-arcs.ensures) end.put-end.ensures)
+    (ap (λ (k : ℕ). board_record (b s.before.before.before.before.before.before.before.before.before.before.before.before.before).inputs (b s.before.before.before.before.before.before.before.before.before.before.before.before.before).outputs (b s.before.before.before.before.before.before.before.before.before.before.before.before.before).vertices ++ arc_records (arcs_of (b s.before.before.before.before.before.before.before.before.before.before.before.before.before).vertices (g s.before.before.before.before.before.before.before.before.before.before.before.before.before)) ++ end_record k) s.requires.1.0 ∙ file_parts (b s.before.before.before.before.before.before.before.before.before.before.before.before.before).vertices (g s.before.before.before.before.before.before.before.before.before.before.before.before.before) (b s.before.before.before.before.before.before.before.before.before.before.before.before.before).inputs (b s.before.before.before.before.before.before.before.before.before.before.before.before.before).outputs)
+    (appends_more (appends_more board.put_board-first.ensures rows.put_arcs-end.ensures) end.put_end.ensures)
 
-pub put-file-spec : {M : Type 1} → statement M
-put-file-spec =
-    tie.close (tie.spec put-board-requires put-arcs-requires put-end-requires (λ c. search rules) returns)
+pub put_file_spec : {M : Type 1} → statement M
+put_file_spec =
+    tie.close (tie.spec
+    put_board-first-requires
+    put_arcs-end-requires
+    put_end-requires
+    (λ c. search rules)
+    returns)

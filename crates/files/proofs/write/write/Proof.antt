@@ -3,20 +3,20 @@ use Rattle.files.proofs.FileAnswers.{call_written, call_stopped}
 use Rattle.files.proofs.write.write.Statement.{statement}
 use Rattle.files.proofs.write.write.Tie as tie
 
-file-answer-requires : tie.Need-file-answer-requires
-file-answer-requires c κs =
-    let k = c.before.before in
-    let p = (k.before.before.checked.ensures.passable _ k.lent.given.1).0 in
+file_answer-requires : tie.Need-file_answer-requires
+file_answer-requires c κs =
+    let k = c in
+    let p = (k.checked-lent.ensures.passable _ k.in-Board.is).0 in
     p.checked
 
-returns : tie.Need-returns
-returns c =
-    let a = c.before.before in
-    let k = a.before.before.before in
-    call_written k.before.before.checked.ensures _ k.lent.given.1 _ _ _ a.file-answer.ensures
+returns-in-Board : tie.Need-returns-in-Board
+returns-in-Board c =
+    let a = c in
+    let k = a in
+    call_written k.checked-lent.ensures _ k.in-Board.is _ _ _ a.file_answer.ensures
 
-returns-2 : tie.Need-returns-2
-returns-2 c = let k = c.before in call_stopped k.before.before.checked.ensures _ k.lent2.given.1 _
+returns-in-Refused : tie.Need-returns-in-Refused
+returns-in-Refused c = let k = c in call_stopped k.checked-lent.ensures _ k.in-Refused.is _
 
 pub write_spec : {M : Type 1} → statement M
 write_spec =
@@ -25,8 +25,8 @@ write_spec =
     (λ c κs. search rules)
     (λ c κs. search rules)
     (λ c. search rules)
-    file-answer-requires
+    file_answer-requires
     (λ c. search rules)
     (λ c. search rules)
-    returns
-    returns-2)
+    returns-in-Board
+    returns-in-Refused)

@@ -16,23 +16,23 @@ use Rattle.pruning.proofs.Marking.{up_to, decider, none_yet, one_more}
 abbrev Spent : ℕ → List ℤ → List ℤ → Type 0
 Spent l f₀ f = Unit {0}
 
-abbrev invariant-loop : tie.invariant-loop
+abbrev invariant-loop : tie.invariant-loop-l
 invariant-loop board table order chain i f₀ marks₀ n l₀ f marks l = (l ≤ 4) × (length marks ≡ length marks₀) × Lanes n Spent f₀ f l × AlsoMarked n (up_to (λ k. decider board table (i + k)) l) marks₀ marks
 
-abbrev decreases-loop : tie.decreases-loop
+abbrev decreases-loop : tie.decreases-loop-l
 decreases-loop board table order chain i f₀ marks₀ n l₀ f marks l = 4 - l
 
-delays-from-four-requires : tie.Need-delays-from-four-requires invariant-loop decreases-loop
-delays-from-four-requires c κs = let s = c.before.before.before in (s.requires.0, (s.requires.1.0, (omega (arith, s.requires.1.1.0, s.requires.0.checked.sound.room), s.requires.1.1.1.0)))
+delays_from_four-requires : tie.Need-delays_from_four-requires invariant-loop decreases-loop
+delays_from_four-requires c κs = let s = c in (s.requires.0, (s.requires.1.0, (omega (arith, s.requires.1.1.0, s.requires.0.checked.sound.room), s.requires.1.1.1.0)))
 
-loop-holds : tie.Need-loop-init invariant-loop decreases-loop
-loop-holds c =
-    let s = c.before.before.before.before.before in
+loop-l-init : tie.Need-loop-l-init invariant-loop decreases-loop
+loop-l-init c =
+    let s = c in
     (omega arith, refl, lanes_start _ _ _, none_yet s.args.board.vertices (λ k. decider s.args.board s.args.table.now (s.args.i + k)) s.args.marks.now)
 
 -- after the pass forwards
-module _ (h : tie.At-loop invariant-loop decreases-loop) where
-  abbrev d : tie.After-delays-from-four invariant-loop decreases-loop
+module _ (h : tie.At-loop-l invariant-loop decreases-loop) where
+  abbrev d : tie.After-delays_from_four invariant-loop decreases-loop
   d = h.before.before
 
   abbrev s : tie.Start invariant-loop decreases-loop
@@ -42,121 +42,121 @@ module _ (h : tie.At-loop invariant-loop decreases-loop) where
   n = s.args.board.vertices
 
   abbrev f₀ : List ℤ
-  f₀ = d.delays-from-four.last.1.1.1.1.1.0
+  f₀ = d.delays_from_four.new.f
 
   long : n * 4 ≤ length f₀
-  long = omega (arith, s.pre.1.1.1.0, d.delays-from-four.kept.1.1.1.1.1.0)
+  long = omega (arith, s.requires.1.1.1.0, d.delays_from_four.auto.f)
 
 -- a turn
-module _ (t : tie.In-loop invariant-loop decreases-loop) where
-  abbrev h : tie.At-loop invariant-loop decreases-loop
+module _ (t : tie.In-loop-l invariant-loop decreases-loop) where
+  abbrev h : tie.At-loop-l invariant-loop decreases-loop
   h = t.before
 
   abbrev l : ℕ
-  l = h.loop.l
+  l = h.loop-l.l
 
   room : n h * l + n h ≤ length (f₀ h)
-  room = lane_room (n h) l 4 (f₀ h) t.loop-test.taken (long h)
+  room = lane_room (n h) l 4 (f₀ h) t.loop-l-test.true (long h)
 
   part : length (lane (n h) l (f₀ h)) ≡ n h
   part = lane-length (n h) l (f₀ h) room
 
   small : n h * l + n h ≤ length (s h).args.f.now
-  small = lane_room (n h) l 4 (s h).args.f.now t.loop-test.taken (s h).pre.1.1.1.0
+  small = lane_room (n h) l 4 (s h).args.f.now t.loop-l-test.true (s h).requires.1.1.1.0
 
   before : length (lane (n h) l (s h).args.f.now) ≡ n h
   before = lane-length (n h) l (s h).args.f.now small
 
   delays : DelaysIn (s h).args.board (s h).args.table.now ((s h).args.i + l) (lane (n h) l (f₀ h))
-  delays = delays_in (s h).pre.0 ((s h).args.i + l) (omega (arith, (s h).pre.1.1.0, t.loop-test.taken)) (lane (n h) l (s h).args.f.now) (lane (n h) l (f₀ h)) (omega (arith, before)) (part ∙ sym before)
-      ((d h).delays-from-four.ensures.0 l t.loop-test.taken)
+  delays = delays_in (s h).requires.0 ((s h).args.i + l) (omega (arith, (s h).requires.1.1.0, t.loop-l-test.true)) (lane (n h) l (s h).args.f.now) (lane (n h) l (f₀ h)) (omega (arith, before)) (part ∙ sym before)
+      ((d h).delays_from_four.ensures.0 l t.loop-l-test.true)
 
-mul_at : tie.Need-overflow-mul-at invariant-loop decreases-loop
-mul_at c = omega (arith, small c, (s (h c)).good)
+overflow_mul-at : tie.Need-overflow_mul-at invariant-loop decreases-loop
+overflow_mul-at c = omega (arith, small c, (s (h c)).well_formed)
 
-add-end : tie.Need-overflow-add-end invariant-loop decreases-loop
-add-end c = omega (arith, small c, (s (h c)).good)
+overflow_add-end : tie.Need-overflow_add-end invariant-loop decreases-loop
+overflow_add-end c = omega (arith, small c, (s (h c)).well_formed)
 
-mul-sweep : tie.Need-overflow-mul-sweep invariant-loop decreases-loop
-mul-sweep c = omega (arith, small c, (s (h c)).good)
+offset_bounds-f-at : tie.Need-offset_bounds-f-at invariant-loop decreases-loop
+offset_bounds-f-at c = omega (arith, small c, (s (h c)).well_formed)
 
-part-sweep-end : tie.Need-slice-bounds-sweep-end invariant-loop decreases-loop
-part-sweep-end c = omega (arith, room c, (h c).loop.invariant.2.size)
+slice_bounds-sweep-end : tie.Need-slice_bounds-sweep-end invariant-loop decreases-loop
+slice_bounds-sweep-end c = omega (arith, room c, (h c).loop-l.invariant.2.size)
 
 sweep-requires : tie.Need-sweep-requires invariant-loop decreases-loop
 sweep-requires c κs =
-    let t = c.before.before in
-    let a = h t in
+    let t = c in
+    let a = h t.before.before in
     let b = s a in (
-      b.pre.0,
+      b.requires.0,
       (
-        b.pre.1.0,
+        b.requires.1.0,
         (
-          record { input = b.args.i + l t; delays = subst (DelaysIn b.args.board b.args.table.now (b.args.i + l t)) (sym (lanes_part a.loop.inv.2)) (delays t) },
-          omega (arith, b.pre.1.1.1.1, a.loop.inv.1),
+          record { input = b.args.i + l t.before.before; delays = subst (DelaysIn b.args.board b.args.table.now (b.args.i + l t.before.before)) (sym (lanes_part a.loop-l.invariant.2)) (delays t.before.before) },
+          omega (arith, b.requires.1.1.1.1, a.loop-l.invariant.1),
         ),
       ),
     )
 
-abbrev swept : tie.After-slice-known2 invariant-loop decreases-loop → tie.After-sweep invariant-loop decreases-loop
+abbrev swept : tie.After-slice_known-in-loop-l-1 invariant-loop decreases-loop → tie.After-sweep invariant-loop decreases-loop
 swept c = c.before.before.before
 
-abbrev turn-of : tie.After-slice-known2 invariant-loop decreases-loop → tie.In-loop invariant-loop decreases-loop
-turn-of c = (swept c).before.before.before
+abbrev turn_of : tie.After-slice_known-in-loop-l-1 invariant-loop decreases-loop → tie.In-loop-l invariant-loop decreases-loop
+turn_of c = (swept c).before.before.before
 
-add-l : tie.Need-overflow-add-l invariant-loop decreases-loop
-add-l c = omega (arith, (turn-of c).loop-test.true)
+overflow_add-l : tie.Need-overflow_add-l invariant-loop decreases-loop
+overflow_add-l c = omega (arith, (turn_of c).loop-l-test.true)
 
-loop-less : tie.Need-loop-smaller invariant-loop decreases-loop
-loop-less c = omega (arith, (turn-of c).loop-test.true)
+loop-l-smaller : tie.Need-loop-l-smaller invariant-loop decreases-loop
+loop-l-smaller c = omega (arith, (turn_of c).loop-l-test.true)
 
-loop-again : tie.Need-loop-preserved invariant-loop decreases-loop
-loop-again c =
-    let t = turn-of c in
+loop-l-preserved : tie.Need-loop-l-preserved invariant-loop decreases-loop
+loop-l-preserved c =
+    let t = turn_of c in
     let a = h t in
     let b = s a in
     let k = (swept c).sweep in
-    let L = a.loop.inv.2 in (
-      omega (arith, t.loop-test.taken),
-      k.kept.1.1.1.1.1.0 ∙ a.loop.inv.1,
-      lanes_turn L (room t) k.last.1.1.1.1.0 (k.kept.1.1.1.1.0 ∙ ap length (lanes_part L) ∙ part t) tt,
-      one_more (n a) (λ x. decider b.args.board b.args.table.now (b.args.i + x)) b.args.marks.now a.loop.marks k.last.1.1.1.1.1.0 (l t) a.loop.inv.3
+    let L = a.loop-l.invariant.2 in (
+      omega (arith, t.loop-l-test.true),
+      k.auto.marks ∙ a.loop-l.invariant.1,
+      lanes_turn L (room t) k.new.f (k.auto.f ∙ ap length (lanes_part L) ∙ part t) tt,
+      one_more (n a) (λ x. decider b.args.board b.args.table.now (b.args.i + x)) b.args.marks.now a.loop-l.marks k.new.marks (l t) a.loop-l.invariant.3
           (k.ensures.0 (b.args.i + l t) (subst (DelaysIn b.args.board b.args.table.now (b.args.i + l t)) (sym (lanes_part L)) (delays t))),
     )
 
-same_length : tie.Need-same-length invariant-loop decreases-loop
-same_length c = let a = c.before in a.loop.invariant.2.size ∙ (d a).delays-from-four.auto.1.1.1.1.1.0
+shape_of-f : tie.Need-shape_of-f invariant-loop decreases-loop
+shape_of-f c = let a = c in a.loop-l.invariant.2.size ∙ (d a.before).delays_from_four.auto.f
 
-same-length-2 : tie.Need-same-length-2 invariant-loop decreases-loop
-same-length-2 c = c.before.loop.invariant.1
+shape_of-marks : tie.Need-shape_of-marks invariant-loop decreases-loop
+shape_of-marks c = c.loop-l.invariant.1
 
 returns : tie.Need-returns invariant-loop decreases-loop
 returns c =
-    let a = c.before in
-    let b = s a in
-    let e : a.loop.l ≡ 4 = omega (arith, a.loop.invariant.0, c.loop-test.false) in (
-      subst (λ (k : ℕ). AlsoMarked (n a) (up_to (λ x. decider b.args.board b.args.table.now (b.args.i + x)) k) b.args.marks.now a.loop.marks) e a.loop.invariant.3,
-      subst (λ (k : ℕ). drop (n a * k) a.loop.f ≡ drop (n a * k) (f₀ a)) e (lanes_past a.loop.invariant.2) ∙ (d a).delays-from-four.ensures.1,
+    let a = c in
+    let b = s a.before in
+    let e : a.loop-l.l ≡ 4 = omega (arith, a.loop-l.invariant.0, c.loop-l-test.false) in (
+      subst (λ (k : ℕ). AlsoMarked (n a.before) (up_to (λ x. decider b.args.board b.args.table.now (b.args.i + x)) k) b.args.marks.now a.loop-l.marks) e a.loop-l.invariant.3,
+      subst (λ (k : ℕ). drop (n a.before * k) a.loop-l.f ≡ drop (n a.before * k) (f₀ a.before)) e (lanes_past a.loop-l.invariant.2) ∙ (d a.before).delays_from_four.ensures.1,
     )
 
-pub mark-four-spec : {M : Type 1} → statement M
-mark-four-spec =
+pub mark_four_spec : {M : Type 1} → statement M
+mark_four_spec =
     tie.close
     (tie.spec
     invariant-loop
     decreases-loop
-    delays-from-four-requires
-    loop-holds
-    mul_at
-    add-end
-    mul-sweep
+    delays_from_four-requires
+    loop-l-init
+    overflow_mul-at
+    overflow_add-end
+    offset_bounds-f-at
     (λ c. omega arith)
     (λ c. omega arith)
-    part-sweep-end
+    slice_bounds-sweep-end
     sweep-requires
-    add-l
-    loop-less
-    loop-again
-    same_length
-    same-length-2
+    overflow_add-l
+    loop-l-smaller
+    loop-l-preserved
+    shape_of-f
+    shape_of-marks
     returns)

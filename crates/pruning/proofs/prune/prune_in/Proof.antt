@@ -18,68 +18,68 @@ use borrow.Author.Tests.{not-true, not-false}
 use Rattle.pruning.proofs.Marking.{only}
 use Rattle.pruning.proofs.PruneOutcome.{same_table, nothing_goes, some_go}
 
-prune-marks-requires : tie.Need-prune-marks-requires
-prune-marks-requires c κs = let p = c.before.before.before.before.requires in (p.0, (p.1.0, p.1.1.room))
+prune_marks-requires : tie.Need-prune_marks-requires
+prune_marks-requires c κs = let p = c.requires in (p.0, (p.1.0, p.1.1.room))
 
 -- the arcs are marked
-module _ (k : tie.After-prune-marks) where
+module _ (k : tie.After-prune_marks) where
   abbrev s : tie.Start
-  s = k.before.before.before.before.before
+  s = k.before.before.before.before
 
   abbrev marks : List Bool
-  marks = k.prune-marks.last.1.1.1.1.0
+  marks = k.prune_marks.new.marks
 
   room : s.args.board.vertices * s.args.board.vertices ≤ length marks
-  room = omega (arith, k.prune-marks.kept.1.1.1.1.0, s.pre.1.1.room)
+  room = omega (arith, k.prune_marks.auto.marks, s.requires.1.1.room)
 
   marked : StayMarked s.args.board s.args.table.now marks
-  marked = only s.args.board s.args.table.now s.args.marks.now marks s.pre.1.1 k.prune-marks.ensures.0
+  marked = only s.args.board s.args.table.now s.args.marks.now marks s.requires.1.1 k.prune_marks.ensures.0
 
-abbrev marked-of : tie.After-some-unmarked → tie.After-prune-marks
-marked-of c = c.before.before.before.before.before.before
+abbrev marked_of : tie.After-some_unmarked → tie.After-prune_marks
+marked_of c = c.before.before.before.before
 
-some-unmarked-requires : tie.Need-some-unmarked-requires
-some-unmarked-requires c κs = let k = c.before.before.before.before.before in ((s k).requires.0.checked.lent, room k)
+some_unmarked-requires : tie.Need-some_unmarked-requires
+some_unmarked-requires c κs = let k = c in ((s k.before.before.before).requires.0.checked.lent, room k.before.before.before)
 
 -- prune's plan, from its verdict
 abbrev kept : tie.Start → Unit {0} → Graph
 kept s _ = pruned s.args.board.inputs s.args.board.outputs s.args.board.vertices (graph_of s.args.board.vertices s.args.table.now)
 
+returns-then-not-some_unmarked : tie.Need-returns-then-not-some_unmarked
+unfolding plan
+returns-then-not-some_unmarked c =
+    let k = marked_of c.before in
+    let b = (s k).args.board in
+    let t = (s k).args.table.now in
+    let e = nothing_goes b t (marks k) (marked k) (sym c.some_unmarked.ensures ∙ not-true _ c.if-not-some_unmarked.true-raw) in
+    (step_refused b t prune (kept (s k)) NothingSaved e refl, k.prune_marks.ensures.1)
+
+thin-requires : tie.Need-thin-requires
+thin-requires c κs = let k = marked_of c.before.before in ((s k).requires.0.checked.lent, room k)
+
 returns : tie.Need-returns
 unfolding plan
 returns c =
-    let k = marked-of c.before in
+    let w = c in
+    let e = w in
+    let k = marked_of e.before.before.before.before in
     let b = (s k).args.board in
     let t = (s k).args.table.now in
-    let e = nothing_goes b t (marks k) (marked k) (sym c.before.some-unmarked.ensures ∙ not-true _ c.if1.true) in
-    (step_refused b t prune (kept (s k)) NothingSaved e refl, k.prune-marks.ensures.1)
+    let go = some_go b t (marks k) (marked k) (sym e.some_unmarked.ensures ∙ not-false _ e.if-not-some_unmarked.false-raw) in
+    (step_done b t prune (kept (s k)) tt go refl w.thin.new.table (w.thin.ensures ∙ same_table b t (marks k) (marked k)), k.prune_marks.ensures.1)
 
-thin-requires : tie.Need-thin-requires
-thin-requires c κs = let k = marked-of c.before.before.before in ((s k).pre.0.checked.lent, room k)
-
-returns-2 : tie.Need-returns-2
-unfolding plan
-returns-2 c =
-    let w = c.before in
-    let e = w.before.before.before in
-    let k = marked-of e.before in
-    let b = (s k).args.board in
-    let t = (s k).args.table.now in
-    let go = some_go b t (marks k) (marked k) (sym e.before.some-unmarked.ensures ∙ not-false _ e.if1.false) in
-    (step_done b t prune (kept (s k)) tt go refl w.thin.new.1.0 (w.thin.ensures ∙ same_table b t (marks k) (marked k)), k.prune-marks.ensures.1)
-
-pub prune-in-spec : {M : Type 1} → statement M
-prune-in-spec =
+pub prune_in_spec : {M : Type 1} → statement M
+prune_in_spec =
     tie.close
     (tie.spec
-    prune-marks-requires
-    some-unmarked-requires
+    prune_marks-requires
+    some_unmarked-requires
     (λ c. search rules)
     (λ c. search rules)
     (λ c. search rules)
-    returns
+    returns-then-not-some_unmarked
     thin-requires
     (λ c. search rules)
     (λ c. search rules)
     (λ c. search rules)
-    returns-2)
+    returns)

@@ -12,34 +12,34 @@ use Rattle.paths.proofs.Sizes.{board_area, vector_fits, lanes_fit}
 use Rattle.pruning.specs.PruneMarks.{AlsoMarked}
 use Rattle.pruning.proofs.Marking.{decider, decides_below, none_yet, one_more, more, all_inputs}
 
-abbrev invariant-loop : tie.invariant-loop
+abbrev invariant-loop : tie.invariant-loop-i
 invariant-loop board table list scratch₀ marks₀ chain m i₀ scratch marks i =
     (i ≤ m) × (length scratch ≡ length scratch₀) × (length marks ≡ length marks₀) × (drop (scratch_cells board.vertices) scratch ≡ drop (scratch_cells board.vertices) scratch₀)
     × AlsoMarked board.vertices (decides_below board table i) marks₀ marks
 
-abbrev decreases-loop : tie.decreases-loop
+abbrev decreases-loop : tie.decreases-loop-i
 decreases-loop board table list scratch₀ marks₀ chain m i₀ scratch marks i = m - i
 
 -- the inputs that are left: what was marked before them is marked still
-abbrev invariant-loop2 : tie.invariant-loop2
+abbrev invariant-loop2 : tie.invariant-loop-i-2
 invariant-loop2 board table list scratch₀ marks₀ chain m i₀ scratch marks i =
     (i ≤ m) × (length scratch ≡ length scratch₀) × (length marks ≡ length marks₀) × (drop (scratch_cells board.vertices) scratch ≡ drop (scratch_cells board.vertices) scratch₀)
     × ((first : List Bool) → AlsoMarked board.vertices (decides_below board table i₀) first marks₀ → AlsoMarked board.vertices (decides_below board table i) first marks)
 
-abbrev decreases-loop2 : tie.decreases-loop2
+abbrev decreases-loop2 : tie.decreases-loop-i-2
 decreases-loop2 board table list scratch₀ marks₀ chain m i₀ scratch marks i = m - i
 
-slice-aggregate-chains : tie.Need-slice-aggregate-chains invariant-loop decreases-loop invariant-loop2 decreases-loop2
-slice-aggregate-chains c = sym c.before.cell-bytes.ensures
+slice_bounds-chains-end : tie.Need-slice_bounds-chains-end invariant-loop decreases-loop invariant-loop2 decreases-loop2
+slice_bounds-chains-end c = sym c.cell_bytes-chain.ensures
 
 chains-requires : tie.Need-chains-requires invariant-loop decreases-loop invariant-loop2 decreases-loop2
 chains-requires c κs =
-    let s = c.before.before.before in
+    let s = c in
     let l = s.requires.0 in
-    (l, omega (arith, c.before.cell-bytes.ensures, board_area s.args.board l.checked.lent.sized))
+    (l, omega (arith, c.cell_bytes-chain.ensures, board_area s.args.board l.checked.lent.sized))
 
 -- the loop begins
-module _ (h : tie.At-loop invariant-loop decreases-loop invariant-loop2 decreases-loop2) where
+module _ (h : tie.At-loop-i invariant-loop decreases-loop invariant-loop2 decreases-loop2) where
   abbrev made : tie.After-chains invariant-loop decreases-loop invariant-loop2 decreases-loop2
   made = h.before.before
 
@@ -50,130 +50,130 @@ module _ (h : tie.At-loop invariant-loop decreases-loop invariant-loop2 decrease
   N = start.args.board.vertices
 
   few : start.args.board.inputs ≤ 90
-  few = omega (arith, start.pre.0.checked.lent.sized)
+  few = omega (arith, start.requires.0.checked.lent.sized)
 
-  chain-long : 8100 ≡ length made.chains.last.1.1.1.0
-  chain-long = sym (made.chains.kept.1.1.1.0 ∙ made.before.before.cell-bytes.ensures)
+  chain_long : 8100 ≡ length made.chains.new.chain
+  chain_long = sym (made.chains.auto.chain ∙ made.cell_bytes-chain.ensures)
 
-loop-holds : tie.Need-loop-init invariant-loop decreases-loop invariant-loop2 decreases-loop2
-loop-holds c =
-    let s = c.before.before.before.before.before in
+loop-i-init : tie.Need-loop-i-init invariant-loop decreases-loop invariant-loop2 decreases-loop2
+loop-i-init c =
+    let s = c in
     (omega arith, refl, refl, refl, none_yet s.args.board.vertices (decider s.args.board s.args.table.now) s.args.marks.now)
 
 -- ---- four inputs
 
-add-loop : tie.Need-overflow-add-loop invariant-loop decreases-loop invariant-loop2 decreases-loop2
-add-loop c = omega (arith, c.loop.invariant.0, few c)
+overflow_add-i : tie.Need-overflow_add-i invariant-loop decreases-loop invariant-loop2 decreases-loop2
+overflow_add-i c = omega (arith, c.loop-i.invariant.0, few c)
 
-slice-aggregate-mark-four : tie.Need-slice-aggregate-mark-four invariant-loop decreases-loop invariant-loop2 decreases-loop2
-slice-aggregate-mark-four c = chain-long c.before.before
+slice_bounds-mark_four-end : tie.Need-slice_bounds-mark_four-end invariant-loop decreases-loop invariant-loop2 decreases-loop2
+slice_bounds-mark_four-end c = chain_long c.before.before
 
-module _ (t : tie.In-loop invariant-loop decreases-loop invariant-loop2 decreases-loop2) where
-  abbrev h : tie.At-loop invariant-loop decreases-loop invariant-loop2 decreases-loop2
+module _ (t : tie.In-loop-i invariant-loop decreases-loop invariant-loop2 decreases-loop2) where
+  abbrev h : tie.At-loop-i invariant-loop decreases-loop invariant-loop2 decreases-loop2
   h = t.before
 
   lanes : N h * 4 ≤ scratch_cells (N h)
-  lanes = lanes_fit (start h).args.board (start h).pre.0.checked.lent.sized h.loop.i t.loop-test.taken
+  lanes = lanes_fit (start h).args.board (start h).requires.0.checked.lent.sized h.loop-i.i t.loop-i-test.true
 
-mark-four-requires : tie.Need-mark-four-requires invariant-loop decreases-loop invariant-loop2 decreases-loop2
-mark-four-requires c κs =
-    let t = c.before.before.before in
-    let a = h t in
+mark_four-requires : tie.Need-mark_four-requires invariant-loop decreases-loop invariant-loop2 decreases-loop2
+mark_four-requires c κs =
+    let t = c in
+    let a = h t.before.before.before in
     let s = start a in
-    (s.pre.0, ((made a).chains.ensures, (t.loop-test.true, (omega (arith, a.loop.inv.1, s.pre.1.0, lanes t), omega (arith, a.loop.inv.2, s.pre.1.1)))))
+    (s.requires.0, ((made a).chains.ensures, (t.loop-i-test.true, (omega (arith, a.loop-i.invariant.1, s.requires.1.0, lanes t.before.before.before), omega (arith, a.loop-i.invariant.2, s.requires.1.1)))))
 
-abbrev marked : tie.After-slice-known2 invariant-loop decreases-loop invariant-loop2 decreases-loop2 → tie.After-mark-four invariant-loop decreases-loop invariant-loop2 decreases-loop2
+abbrev marked : tie.After-slice_known-in-loop-i-1 invariant-loop decreases-loop invariant-loop2 decreases-loop2 → tie.After-mark_four invariant-loop decreases-loop invariant-loop2 decreases-loop2
 marked c = c.before.before.before
 
-abbrev turn-of : tie.After-slice-known2 invariant-loop decreases-loop invariant-loop2 decreases-loop2 → tie.In-loop invariant-loop decreases-loop invariant-loop2 decreases-loop2
-turn-of c = (marked c).before.before.before.before
+abbrev turn_of : tie.After-slice_known-in-loop-i-1 invariant-loop decreases-loop invariant-loop2 decreases-loop2 → tie.In-loop-i invariant-loop decreases-loop invariant-loop2 decreases-loop2
+turn_of c = (marked c).before.before.before.before
 
-add-i : tie.Need-overflow-add-i invariant-loop decreases-loop invariant-loop2 decreases-loop2
-add-i c = let t = turn-of c in omega (arith, t.loop-test.taken, few (h t))
+overflow_add-i-in-loop-i : tie.Need-overflow_add-i-in-loop-i invariant-loop decreases-loop invariant-loop2 decreases-loop2
+overflow_add-i-in-loop-i c = let t = turn_of c in omega (arith, t.loop-i-test.true, few (h t))
 
-loop-less : tie.Need-loop-smaller invariant-loop decreases-loop invariant-loop2 decreases-loop2
-loop-less c = omega (arith, (turn-of c).loop-test.true)
+loop-i-smaller : tie.Need-loop-i-smaller invariant-loop decreases-loop invariant-loop2 decreases-loop2
+loop-i-smaller c = omega (arith, (turn_of c).loop-i-test.true)
 
-loop-again : tie.Need-loop-preserved invariant-loop decreases-loop invariant-loop2 decreases-loop2
-loop-again c =
-    let t = turn-of c in
+loop-i-preserved : tie.Need-loop-i-preserved invariant-loop decreases-loop invariant-loop2 decreases-loop2
+loop-i-preserved c =
+    let t = turn_of c in
     let a = h t in
     let s = start a in
-    let k = (marked c).mark-four in (
-      omega (arith, t.loop-test.taken),
-      k.kept.1.1.1.1.1.0 ∙ a.loop.inv.1,
-      k.kept.1.1.1.1.1.1.0 ∙ a.loop.inv.2,
-      drop_further (N a * 4) (scratch_cells (N a)) a.loop.scratch k.last.1.1.1.1.1.0 (lanes t) k.ensures.1 ∙ a.loop.inv.3,
-      more (N a) (decider s.args.board s.args.table.now) s.args.marks.now a.loop.marks k.last.1.1.1.1.1.1.0 a.loop.i 4 a.loop.inv.4 k.ensures.0,
+    let k = (marked c).mark_four in (
+      omega (arith, t.loop-i-test.true),
+      k.auto.f ∙ a.loop-i.invariant.1,
+      k.auto.marks ∙ a.loop-i.invariant.2,
+      drop_further (N a * 4) (scratch_cells (N a)) a.loop-i.scratch k.new.f (lanes t) k.ensures.1 ∙ a.loop-i.invariant.3,
+      more (N a) (decider s.args.board s.args.table.now) s.args.marks.now a.loop-i.marks k.new.marks a.loop-i.i 4 a.loop-i.invariant.4 k.ensures.0,
     )
 
 -- ---- one input
 
-loop2-holds : tie.Need-loop2-init invariant-loop decreases-loop invariant-loop2 decreases-loop2
-loop2-holds c = (c.before.loop.invariant.0, refl, refl, refl, λ first m. m)
+loop-i-2-init : tie.Need-loop-i-2-init invariant-loop decreases-loop invariant-loop2 decreases-loop2
+loop-i-2-init c = (c.loop-i.invariant.0, refl, refl, refl, λ first m. m)
 
-module _ (t : tie.In-loop2 invariant-loop decreases-loop invariant-loop2 decreases-loop2) where
-  abbrev r : tie.At-loop2 invariant-loop decreases-loop invariant-loop2 decreases-loop2
+module _ (t : tie.In-loop-i-2 invariant-loop decreases-loop invariant-loop2 decreases-loop2) where
+  abbrev r : tie.At-loop-i-2 invariant-loop decreases-loop invariant-loop2 decreases-loop2
   r = t.before
 
-  abbrev from : tie.At-loop invariant-loop decreases-loop invariant-loop2 decreases-loop2
+  abbrev from : tie.At-loop-i invariant-loop decreases-loop invariant-loop2 decreases-loop2
   from = r.before.before
 
-slice-aggregate-mark-from : tie.Need-slice-aggregate-mark-from invariant-loop decreases-loop invariant-loop2 decreases-loop2
-slice-aggregate-mark-from c = chain-long (from c.before)
+slice_bounds-mark_from-end : tie.Need-slice_bounds-mark_from-end invariant-loop decreases-loop invariant-loop2 decreases-loop2
+slice_bounds-mark_from-end c = chain_long (from c.before)
 
-mark-from-requires : tie.Need-mark-from-requires invariant-loop decreases-loop invariant-loop2 decreases-loop2
-mark-from-requires c κs =
-    let t = c.before.before.before in
-    let a = from t in
+mark_from-requires : tie.Need-mark_from-requires invariant-loop decreases-loop invariant-loop2 decreases-loop2
+mark_from-requires c κs =
+    let t = c in
+    let a = from t.before.before.before in
     let s = start a in (
-      s.pre.0,
-      ((made a).chains.ensures, (t.loop2-test.true, (omega (arith, (r t).loop2.invariant.1, a.loop.inv.1, s.pre.1.0, vector_fits s.args.board s.pre.0.checked.lent.sized), omega (arith, (r t).loop2.invariant.2, a.loop.inv.2, s.pre.1.1)))),
+      s.requires.0,
+      ((made a).chains.ensures, (t.loop-i-2-test.true, (omega (arith, (r t.before.before.before).loop-i-2.invariant.1, a.loop-i.invariant.1, s.requires.1.0, vector_fits s.args.board s.requires.0.checked.lent.sized), omega (arith, (r t.before.before.before).loop-i-2.invariant.2, a.loop-i.invariant.2, s.requires.1.1)))),
     )
 
-abbrev marked-2 : tie.After-slice-known3 invariant-loop decreases-loop invariant-loop2 decreases-loop2 → tie.After-mark-from invariant-loop decreases-loop invariant-loop2 decreases-loop2
-marked-2 c = c.before.before.before
+abbrev marked_2 : tie.After-slice_known-in-loop-i-2-1 invariant-loop decreases-loop invariant-loop2 decreases-loop2 → tie.After-mark_from invariant-loop decreases-loop invariant-loop2 decreases-loop2
+marked_2 c = c.before.before.before
 
-abbrev turn-of-2 : tie.After-slice-known3 invariant-loop decreases-loop invariant-loop2 decreases-loop2 → tie.In-loop2 invariant-loop decreases-loop invariant-loop2 decreases-loop2
-turn-of-2 c = (marked-2 c).before.before.before.before
+abbrev turn_of_2 : tie.After-slice_known-in-loop-i-2-1 invariant-loop decreases-loop invariant-loop2 decreases-loop2 → tie.In-loop-i-2 invariant-loop decreases-loop invariant-loop2 decreases-loop2
+turn_of_2 c = (marked_2 c).before.before.before.before
 
-add-i-2 : tie.Need-overflow-add-i-2 invariant-loop decreases-loop invariant-loop2 decreases-loop2
-add-i-2 c = let t = turn-of-2 c in omega (arith, t.loop2-test.taken, few (from t))
+overflow_add-i-in-loop-i-2 : tie.Need-overflow_add-i-in-loop-i-2 invariant-loop decreases-loop invariant-loop2 decreases-loop2
+overflow_add-i-in-loop-i-2 c = let t = turn_of_2 c in omega (arith, t.loop-i-2-test.true, few (from t))
 
-loop2-less : tie.Need-loop2-smaller invariant-loop decreases-loop invariant-loop2 decreases-loop2
-loop2-less c = omega (arith, (turn-of-2 c).loop2-test.true)
+loop-i-2-smaller : tie.Need-loop-i-2-smaller invariant-loop decreases-loop invariant-loop2 decreases-loop2
+loop-i-2-smaller c = omega (arith, (turn_of_2 c).loop-i-2-test.true)
 
-loop2-again : tie.Need-loop2-preserved invariant-loop decreases-loop invariant-loop2 decreases-loop2
-loop2-again c =
-    let t = turn-of-2 c in
-    let a = (r t).loop2 in
+loop-i-2-preserved : tie.Need-loop-i-2-preserved invariant-loop decreases-loop invariant-loop2 decreases-loop2
+loop-i-2-preserved c =
+    let t = turn_of_2 c in
+    let a = (r t).loop-i-2 in
     let s = start (from t) in
     let n = N (from t) in
-    let k = (marked-2 c).mark-from in (
-      omega (arith, t.loop2-test.taken),
-      k.kept.1.1.1.1.1.0 ∙ a.inv.1,
-      k.kept.1.1.1.1.1.1.0 ∙ a.inv.2,
-      drop_further n (scratch_cells n) a.scratch k.last.1.1.1.1.1.0 (vector_fits s.args.board s.pre.0.checked.lent.sized) k.ensures.1 ∙ a.inv.3,
-      λ first m. one_more n (decider s.args.board s.args.table.now) first a.marks k.last.1.1.1.1.1.1.0 a.i (a.inv.4 first m) k.ensures.0,
+    let k = (marked_2 c).mark_from in (
+      omega (arith, t.loop-i-2-test.true),
+      k.auto.f ∙ a.invariant.1,
+      k.auto.marks ∙ a.invariant.2,
+      drop_further n (scratch_cells n) a.scratch k.new.f (vector_fits s.args.board s.requires.0.checked.lent.sized) k.ensures.1 ∙ a.invariant.3,
+      λ first m. one_more n (decider s.args.board s.args.table.now) first a.marks k.new.marks a.i (a.invariant.4 first m) k.ensures.0,
     )
 
-same_length : tie.Need-same-length invariant-loop decreases-loop invariant-loop2 decreases-loop2
-same_length c = let l = c.before in l.loop2.invariant.1 ∙ l.before.before.loop.invariant.1
+shape_of-scratch : tie.Need-shape_of-scratch invariant-loop decreases-loop invariant-loop2 decreases-loop2
+shape_of-scratch c = let l = c in l.loop-i-2.invariant.1 ∙ l.loop-i.invariant.1
 
-same-length-2 : tie.Need-same-length-2 invariant-loop decreases-loop invariant-loop2 decreases-loop2
-same-length-2 c = let l = c.before in l.loop2.invariant.2 ∙ l.before.before.loop.invariant.2
+shape_of-marks : tie.Need-shape_of-marks invariant-loop decreases-loop invariant-loop2 decreases-loop2
+shape_of-marks c = let l = c in l.loop-i-2.invariant.2 ∙ l.loop-i.invariant.2
 
 returns : tie.Need-returns invariant-loop decreases-loop invariant-loop2 decreases-loop2
 returns c =
-    let l = c.before in
-    let a = l.before.before in
-    let s = start a in (
-      all_inputs s.args.board s.args.table.now s.args.marks.now l.loop2.marks l.loop2.i (omega (arith, l.loop2.invariant.0, c.loop2-test.false)) (l.loop2.invariant.4 s.args.marks.now a.loop.invariant.4),
-      l.loop2.invariant.3 ∙ a.loop.invariant.3,
+    let l = c in
+    let a = l in
+    let s = start a.before.before.before in (
+      all_inputs s.args.board s.args.table.now s.args.marks.now l.loop-i-2.marks l.loop-i-2.i (omega (arith, l.loop-i-2.invariant.0, c.loop-i-2-test.false)) (l.loop-i-2.invariant.4 s.args.marks.now a.loop-i.invariant.4),
+      l.loop-i-2.invariant.3 ∙ a.loop-i.invariant.3,
     )
 
-pub prune-marks-spec : {M : Type 1} → statement M
-prune-marks-spec =
+pub prune_marks_spec : {M : Type 1} → statement M
+prune_marks_spec =
     tie.close
     (tie.spec
     invariant-loop
@@ -181,21 +181,21 @@ prune-marks-spec =
     invariant-loop2
     decreases-loop2
     (λ c κs. tt)
-    slice-aggregate-chains
+    slice_bounds-chains-end
     chains-requires
-    loop-holds
-    add-loop
-    slice-aggregate-mark-four
-    mark-four-requires
-    add-i
-    loop-less
-    loop-again
-    loop2-holds
-    slice-aggregate-mark-from
-    mark-from-requires
-    add-i-2
-    loop2-less
-    loop2-again
-    same_length
-    same-length-2
+    loop-i-init
+    overflow_add-i
+    slice_bounds-mark_four-end
+    mark_four-requires
+    overflow_add-i-in-loop-i
+    loop-i-smaller
+    loop-i-preserved
+    loop-i-2-init
+    slice_bounds-mark_from-end
+    mark_from-requires
+    overflow_add-i-in-loop-i-2
+    loop-i-2-smaller
+    loop-i-2-preserved
+    shape_of-scratch
+    shape_of-marks
     returns)

@@ -22,17 +22,17 @@ use Rattle.paths.proofs.Propagating.{pushable}
 use Rattle.pruning.specs.PruneMarks.{RowMarked, DelaysIn}
 use Rattle.pruning.proofs.AliveSweep as A
 
-abbrev invariant-loop : tie.invariant-loop
+abbrev invariant-loop : tie.invariant-loop-p
 invariant-loop board table order chain f₀ marks₀ n p₀ f marks p = (i : ℕ) (S : A.Sweep board i table order f₀ marks₀) → A.Going board i table S.passable.order.rank f₀ f marks₀ marks p
 
-abbrev decreases-loop : tie.decreases-loop
+abbrev decreases-loop : tie.decreases-loop-p
 decreases-loop board table order chain f₀ marks₀ n p₀ f marks p = p
 
-loop-holds : tie.Need-loop-init invariant-loop decreases-loop
-loop-holds c i S = A.start S
+loop-p-init : tie.Need-loop-p-init invariant-loop decreases-loop
+loop-p-init c i S = A.start S
 
 -- the pass begins, with the delays from input i
-module _ (h : tie.At-loop invariant-loop decreases-loop) where
+module _ (h : tie.At-loop-p invariant-loop decreases-loop) where
   abbrev s : tie.Start invariant-loop decreases-loop
   s = h.before.before.before
 
@@ -40,219 +40,219 @@ module _ (h : tie.At-loop invariant-loop decreases-loop) where
   n = s.args.board.vertices
 
   abbrev i : ℕ
-  i = s.pre.1.1.0.input
+  i = s.requires.1.1.0.input
 
   abbrev Sweep : ℕ → Type 0
   Sweep j = A.Sweep s.args.board j s.args.table.now s.args.order.now s.args.f.now s.args.marks.now
 
   from : (j : ℕ) → DelaysIn s.args.board s.args.table.now j s.args.f.now → Sweep j
-  from j D = record { passable = s.pre.0; delays = D; cells = s.pre.1.1.1 }
+  from j D = record { passable = s.requires.0; delays = D; cells = s.requires.1.1.1 }
 
   S : Sweep i
-  S = from i s.pre.1.1.0.delays
+  S = from i s.requires.1.1.0.delays
 
 -- a turn, at the place before p
-module _ (t : tie.In-loop invariant-loop decreases-loop) where
-  abbrev h : tie.At-loop invariant-loop decreases-loop
+module _ (t : tie.In-loop-p invariant-loop decreases-loop) where
+  abbrev h : tie.At-loop-p invariant-loop decreases-loop
   h = t.before
 
   abbrev q : ℕ
-  q = h.loop.p - 1
+  q = h.loop-p.p - 1
 
   abbrev x : ℕ
   x = get_or (s h).args.order.now q 0
 
-  going : (j : ℕ) (w : Sweep h j) → A.Going (s h).args.board j (s h).args.table.now w.passable.order.rank (s h).args.f.now h.loop.f (s h).args.marks.now h.loop.marks (q + 1)
+  going : (j : ℕ) (w : Sweep h j) → A.Going (s h).args.board j (s h).args.table.now w.passable.order.rank (s h).args.f.now h.loop-p.f (s h).args.marks.now h.loop-p.marks (q + 1)
   going j w =
-      let e : h.loop.p ≡ q + 1 = omega (arith, t.loop-test.taken) in
-      subst (λ (k : ℕ). A.Going (s h).args.board j (s h).args.table.now w.passable.order.rank (s h).args.f.now h.loop.f (s h).args.marks.now h.loop.marks k) e (h.loop.inv j w)
+      let e : h.loop-p.p ≡ q + 1 = omega (arith, t.loop-p-test.true) in
+      subst (λ (k : ℕ). A.Going (s h).args.board j (s h).args.table.now w.passable.order.rank (s h).args.f.now h.loop-p.f (s h).args.marks.now h.loop-p.marks k) e (h.loop-p.invariant j w)
 
   vertex : x < n h
-  vertex = A.x-in (S h) h.loop.f h.loop.marks q (going (i h) (S h))
+  vertex = A.x-in (S h) h.loop-p.f h.loop-p.marks q (going (i h) (S h))
 
   row : n h * x + n h ≤ n h * n h
   row = row_in (n h) x vertex
 
   area : n h * n h ≤ 8100
-  area = board_area (s h).args.board (s h).pre.0.checked.lent.sized
+  area = board_area (s h).args.board (s h).requires.0.checked.lent.sized
 
-abbrev turn-of : tie.Then1 invariant-loop decreases-loop → tie.In-loop invariant-loop decreases-loop
-turn-of c = c.before.before.before
+abbrev turn_of : tie.Then-a invariant-loop decreases-loop → tie.In-loop-p invariant-loop decreases-loop
+turn_of c = c.before.before.before.before
 
-sub-p : tie.Need-overflow-sub-p invariant-loop decreases-loop
-sub-p c = omega (arith, c.loop-test.true)
+overflow_sub-p : tie.Need-overflow_sub-p invariant-loop decreases-loop
+overflow_sub-p c = omega (arith, c.loop-p-test.true)
 
-element-copy-out-u : tie.Need-element-copy-out-u invariant-loop decreases-loop
-element-copy-out-u c = omega (arith, c.loop-test.true, (going c (i (h c)) (S (h c))).upto, (s (h c)).pre.0.checked.lent.sized.few)
+bounds-order-p : tie.Need-bounds-order-p invariant-loop decreases-loop
+bounds-order-p c = omega (arith, c.loop-p-test.true, (going c.before (i (h c.before)) (S (h c.before))).upto, (s (h c.before)).requires.0.checked.lent.sized.few)
 
-cast-u : tie.Need-overflow-cast-u invariant-loop decreases-loop
-cast-u c = let t = c.before in omega (arith, vertex t, (s (h t)).pre.0.checked.lent.sized.few)
+overflow_cast-u : tie.Need-overflow_cast-u invariant-loop decreases-loop
+overflow_cast-u c = let t = c in omega (arith, vertex t.before.before, (s (h t.before.before)).requires.0.checked.lent.sized.few)
 
-mul-a : tie.Need-overflow-mul-a invariant-loop decreases-loop
-mul-a c = let t = c.before in omega (arith, vertex t, (s (h t)).pre.0.checked.lent.sized.few)
+offset_bounds-f-u : tie.Need-offset_bounds-f-u invariant-loop decreases-loop
+offset_bounds-f-u c = let t = c in omega (arith, vertex t.before.before, (s (h t.before.before)).requires.0.checked.lent.sized.few)
 
-slice-copy-out-a : tie.Need-slice-copy-out-a invariant-loop decreases-loop
-slice-copy-out-a c = let t = c.before in omega (arith, vertex t, (S (h t)).delays.room, (going t (i (h t)) (S (h t))).long)
+slice_copy_out-a : tie.Need-slice_copy_out-a invariant-loop decreases-loop
+slice_copy_out-a c = let t = c in omega (arith, vertex t.before.before, (S (h t.before.before)).delays.room, (going t.before.before (i (h t.before.before)) (S (h t.before.before))).long)
 
-mul_at : tie.Need-overflow-mul-at invariant-loop decreases-loop
-mul_at c = let t = turn-of c in omega (arith, row t, vertex t, area t)
+overflow_mul-at : tie.Need-overflow_mul-at invariant-loop decreases-loop
+overflow_mul-at c = let t = turn_of c in omega (arith, row t, vertex t, area t)
 
-add-end : tie.Need-overflow-add-end invariant-loop decreases-loop
-add-end c = let t = turn-of c in omega (arith, row t, vertex t, area t)
+overflow_add-end : tie.Need-overflow_add-end invariant-loop decreases-loop
+overflow_add-end c = let t = turn_of c in omega (arith, row t, vertex t, area t)
 
-mul-mark-row : tie.Need-overflow-mul-mark-row invariant-loop decreases-loop
-mul-mark-row c = let t = turn-of c in omega (arith, row t, vertex t, area t)
+offset_bounds-table-at : tie.Need-offset_bounds-table-at invariant-loop decreases-loop
+offset_bounds-table-at c = let t = turn_of c in omega (arith, row t, vertex t, area t)
 
-sub-mark-row : tie.Need-overflow-sub-mark-row invariant-loop decreases-loop
-sub-mark-row c = let t = turn-of c in omega (arith, row t, (s (h t)).pre.0.checked.lent.room)
+slice_bounds-mark_row-count : tie.Need-slice_bounds-mark_row-count invariant-loop decreases-loop
+slice_bounds-mark_row-count c = let t = turn_of c in omega (arith, row t, (s (h t)).requires.0.checked.lent.room)
 
-part-mark-row-start : tie.Need-slice-bounds-mark-row-start invariant-loop decreases-loop
-part-mark-row-start c = let t = turn-of c in omega (arith, row t, (s (h t)).pre.0.checked.lent.room)
+slice_bounds-mark_row-start : tie.Need-slice_bounds-mark_row-start invariant-loop decreases-loop
+slice_bounds-mark_row-start c = let t = turn_of c in omega (arith, row t, (s (h t)).requires.0.checked.lent.room)
 
-sub-mark-row-2 : tie.Need-overflow-sub-mark-row-2 invariant-loop decreases-loop
-sub-mark-row-2 c = let t = turn-of c.before in omega (arith, row t, (s (h t)).pre.1.0.room)
+slice_bounds-mark_row-count-then-a : tie.Need-slice_bounds-mark_row-count-then-a invariant-loop decreases-loop
+slice_bounds-mark_row-count-then-a c = let t = turn_of c.before in omega (arith, row t, (s (h t)).requires.1.0.room)
 
-part-mark-row-start-2 : tie.Need-slice-bounds-mark-row-start-2 invariant-loop decreases-loop
-part-mark-row-start-2 c = let t = turn-of c.before in omega (arith, row t, (s (h t)).pre.1.0.room)
+slice_bounds-mark_row-start-then-a : tie.Need-slice_bounds-mark_row-start-then-a invariant-loop decreases-loop
+slice_bounds-mark_row-start-then-a c = let t = turn_of c.before in omega (arith, row t, (s (h t)).requires.1.0.room)
 
-part-mark-row-end-3 : tie.Need-slice-bounds-mark-row-end-3 invariant-loop decreases-loop
-part-mark-row-end-3 c = let t = turn-of c.before.before.before in omega (arith, row t, (s (h t)).pre.1.1.1, (going t (i (h t)) (S (h t))).size)
+slice_bounds-mark_row-end-then-a-2 : tie.Need-slice_bounds-mark_row-end-then-a-2 invariant-loop decreases-loop
+slice_bounds-mark_row-end-then-a-2 c = let t = turn_of c.before.before in omega (arith, row t, (s (h t)).requires.1.1.1, (going t (i (h t)) (S (h t))).size)
 
 -- the vertex is reached
-module _ (k : tie.Then1 invariant-loop decreases-loop) where
-  abbrev t : tie.In-loop invariant-loop decreases-loop
-  t = turn-of k
+module _ (k : tie.Then-a invariant-loop decreases-loop) where
+  abbrev t : tie.In-loop-p invariant-loop decreases-loop
+  t = turn_of k
 
   abbrev a : ℤ
-  a = get_or (h t).loop.f (x t) (pos 0)
+  a = get_or (h t).loop-p.f (x t) (pos 0)
 
   reached : Reached a
-  reached = A.reached (S (h t)) (h t).loop.f (h t).loop.marks (q t) (going t (i (h t)) (S (h t))) (other_bits w64 k.if1.taken)
+  reached = A.reached (S (h t)) (h t).loop-p.f (h t).loop-p.marks (q t) (going t (i (h t)) (S (h t))) (other_bits w64 k.if-a.true)
 
-  part : length (A.part (S (h t)) (h t).loop.f (h t).loop.marks (q t) (going t (i (h t)) (S (h t)))) ≡ n (h t)
-  part = A.part_length (S (h t)) (h t).loop.f (h t).loop.marks (q t) (going t (i (h t)) (S (h t)))
+  part : length (A.part (S (h t)) (h t).loop-p.f (h t).loop-p.marks (q t) (going t (i (h t)) (S (h t)))) ≡ n (h t)
+  part = A.part_length (S (h t)) (h t).loop-p.f (h t).loop-p.marks (q t) (going t (i (h t)) (S (h t)))
 
-mark-row-requires : tie.Need-mark-row-requires invariant-loop decreases-loop
-mark-row-requires c κs =
-    let k = c.before.before.before.before in
-    let t = turn-of k in
+mark_row-found-requires : tie.Need-mark_row-found-requires invariant-loop decreases-loop
+mark_row-found-requires c κs =
+    let k = c in
+    let t = turn_of k.before.before.before in
     let b = s (h t) in
-    let p = b.pre.0 in (
-      subst Reached (sym (back w64 _ k.before.a.given)) (reached k),
-      subst (λ (z : ℕ). Pushable z (lent (n (h t)) b.args.table.now (x t) p.checked.lent.room (vertex t)) (lent_chain b.pre.1.0 (x t) p.checked.lent.room (vertex t)) (h t).loop.f) (sym (part k))
-          (pushable p b.pre.1.0 (x t) (vertex t) (h t).loop.f (omega (arith, (S (h t)).delays.room, (going t (i (h t)) (S (h t))).long))),
+    let p = b.requires.0 in (
+      subst Reached (sym (back w64 _ k.a-1.given)) (reached k.before.before.before),
+      subst (λ (z : ℕ). Pushable z (lent (n (h t)) b.args.table.now (x t) p.checked.lent.room (vertex t)) (lent_chain b.requires.1.0 (x t) p.checked.lent.room (vertex t)) (h t).loop-p.f) (sym (part k.before.before.before))
+          (pushable p b.requires.1.0 (x t) (vertex t) (h t).loop-p.f (omega (arith, (S (h t)).delays.room, (going t (i (h t)) (S (h t))).long))),
     )
 
-abbrev reached-of : tie.After-mark-row invariant-loop decreases-loop → tie.Then1 invariant-loop decreases-loop
-reached-of c = c.before.before.before.before.before
+abbrev reached_of : tie.After-mark_row-found invariant-loop decreases-loop → tie.Then-a invariant-loop decreases-loop
+reached_of c = c.before.before.before.before
 
-is-alive-requires : tie.Need-is-alive-requires invariant-loop decreases-loop
-is-alive-requires c κs = (s (h (turn-of (reached-of c.before.before)))).pre.0.checked.lent.sized
+is_alive-requires : tie.Need-is_alive-requires invariant-loop decreases-loop
+is_alive-requires c κs = (s (h (turn_of (reached_of c.before.before)))).requires.0.checked.lent.sized
 
 -- a vertex that is reached has been looked at
-module _ (c : tie.After-is-alive invariant-loop decreases-loop) where
-  abbrev r : tie.After-mark-row invariant-loop decreases-loop
+module _ (c : tie.After-is_alive invariant-loop decreases-loop) where
+  abbrev r : tie.After-mark_row-found invariant-loop decreases-loop
   r = c.before.before.before
 
-  abbrev k : tie.Then1 invariant-loop decreases-loop
-  k = reached-of r
+  abbrev k : tie.Then-a invariant-loop decreases-loop
+  k = reached_of r
 
-  abbrev now : tie.In-loop invariant-loop decreases-loop
-  now = turn-of k
+  abbrev now : tie.In-loop-p invariant-loop decreases-loop
+  now = turn_of k
 
   abbrev ys : List Bool
-  ys = r.mark-row.last.1.1.1.1.0
+  ys = r.mark_row-found.new.marks
 
   marked : (j : ℕ) (w : Sweep (h now) j)
-      → RowMarked (walked_at (lent (n (h now)) (s (h now)).args.table.now (x now) (s (h now)).pre.0.checked.lent.room (vertex now)) (lent_chain (s (h now)).pre.1.0 (x now) (s (h now)).pre.0.checked.lent.room (vertex now)))
-      (a k) (h now).loop.f (A.part w (h now).loop.f (h now).loop.marks (q now) (going now j w)) ys r.mark-row.result
+      → RowMarked (walked_at (lent (n (h now)) (s (h now)).args.table.now (x now) (s (h now)).requires.0.checked.lent.room (vertex now)) (lent_chain (s (h now)).requires.1.0 (x now) (s (h now)).requires.0.checked.lent.room (vertex now)))
+      (a k) (h now).loop-p.f (A.part w (h now).loop-p.f (h now).loop-p.marks (q now) (going now j w)) ys r.mark_row-found.result
   marked j w =
-      subst (λ (y : ℤ). RowMarked (walked_at (lent (n (h now)) (s (h now)).args.table.now (x now) (s (h now)).pre.0.checked.lent.room (vertex now)) (lent_chain (s (h now)).pre.1.0 (x now) (s (h now)).pre.0.checked.lent.room (vertex now)))
-      y (h now).loop.f (A.part w (h now).loop.f (h now).loop.marks (q now) (going now j w)) ys r.mark-row.result) (back w64 _ k.before.a.given) r.mark-row.ensures
+      subst (λ (y : ℤ). RowMarked (walked_at (lent (n (h now)) (s (h now)).args.table.now (x now) (s (h now)).requires.0.checked.lent.room (vertex now)) (lent_chain (s (h now)).requires.1.0 (x now) (s (h now)).requires.0.checked.lent.room (vertex now)))
+      y (h now).loop-p.f (A.part w (h now).loop-p.f (h now).loop-p.marks (q now) (going now j w)) ys r.mark_row-found.result) (back w64 _ k.a-1.given) r.mark_row-found.ensures
 
-mul-f : tie.Need-overflow-mul-f invariant-loop decreases-loop
-mul-f c = let t = now c.before in omega (arith, vertex t, (s (h t)).pre.0.checked.lent.sized.few)
+offset_bounds-f-u-then-not-is_alive : tie.Need-offset_bounds-f-u-then-not-is_alive invariant-loop decreases-loop
+offset_bounds-f-u-then-not-is_alive c = let t = now c.before in omega (arith, vertex t, (s (h t)).requires.0.checked.lent.sized.few)
 
-slice-set-of-f : tie.Need-slice-set-of-f invariant-loop decreases-loop
-slice-set-of-f c = let t = now c.before in omega (arith, vertex t, (S (h t)).delays.room, (going t (i (h t)) (S (h t))).long)
+slice_set_of-f : tie.Need-slice_set_of-f invariant-loop decreases-loop
+slice_set_of-f c = let t = now c.before in omega (arith, vertex t, (S (h t)).delays.room, (going t (i (h t)) (S (h t))).long)
 
-loop-less : tie.Need-loop-smaller invariant-loop decreases-loop
-loop-less c = omega (arith, (now c.before).loop-test.taken)
+loop-p-smaller-then-not-is_alive : tie.Need-loop-p-smaller-then-not-is_alive invariant-loop decreases-loop
+loop-p-smaller-then-not-is_alive c = omega (arith, (now c.before).loop-p-test.true)
 
-loop-again : tie.Need-loop-preserved invariant-loop decreases-loop
-loop-again c j w =
-    let e = c.before in
-    let t = now e in
-    A.turn-dead w (h t).loop.f (h t).loop.marks (q t) (going t j w) (s (h t)).pre.1.0 (ys e) (r e).mark-row.result e.is-alive.result (marked e j w) (other_bits w64 (k e).if1.true) e.is-alive.ensures (r e).mark-row.auto.1.1.1.1.0
-    (not-true _ c.if2.true)
+loop-p-preserved-then-not-is_alive : tie.Need-loop-p-preserved-then-not-is_alive invariant-loop decreases-loop
+loop-p-preserved-then-not-is_alive c j w =
+    let e = c in
+    let t = now e.before in
+    A.turn-dead w (h t).loop-p.f (h t).loop-p.marks (q t) (going t j w) (s (h t)).requires.1.0 (ys e.before) (r e.before).mark_row-found.result e.is_alive.result (marked e.before j w) (other_bits w64 (k e.before).if-a.true) e.is_alive.ensures (r e.before).mark_row-found.auto.marks
+    (not-true _ c.if-not-is_alive.true-raw)
 
-loop-less-2 : tie.Need-loop-smaller-2 invariant-loop decreases-loop
-loop-less-2 c = omega (arith, (now c.before).loop-test.taken)
+loop-p-smaller-else-not-is_alive : tie.Need-loop-p-smaller-else-not-is_alive invariant-loop decreases-loop
+loop-p-smaller-else-not-is_alive c = omega (arith, (now c.before).loop-p-test.true)
 
-loop-again-2 : tie.Need-loop-preserved-2 invariant-loop decreases-loop
-loop-again-2 c j w =
-    let e = c.before in
-    let t = now e in
-    A.turn-alive w (h t).loop.f (h t).loop.marks (q t) (going t j w) (s (h t)).pre.1.0 (ys e) (r e).mark-row.result e.is-alive.result (marked e j w) (other_bits w64 (k e).if1.true) e.is-alive.ensures (r e).mark-row.auto.1.1.1.1.0
-    (not-false _ c.if2.false)
+loop-p-preserved-else-not-is_alive : tie.Need-loop-p-preserved-else-not-is_alive invariant-loop decreases-loop
+loop-p-preserved-else-not-is_alive c j w =
+    let e = c in
+    let t = now e.before in
+    A.turn-alive w (h t).loop-p.f (h t).loop-p.marks (q t) (going t j w) (s (h t)).requires.1.0 (ys e.before) (r e.before).mark_row-found.result e.is_alive.result (marked e.before j w) (other_bits w64 (k e.before).if-a.true) e.is_alive.ensures (r e.before).mark_row-found.auto.marks
+    (not-false _ c.if-not-is_alive.false-raw)
 
-loop-less-3 : tie.Need-loop-smaller-3 invariant-loop decreases-loop
-loop-less-3 c = omega (arith, c.before.before.before.loop-test.true)
+loop-p-smaller : tie.Need-loop-p-smaller invariant-loop decreases-loop
+loop-p-smaller c = omega (arith, c.loop-p-test.true)
 
-loop-again-3 : tie.Need-loop-preserved-3 invariant-loop decreases-loop
-loop-again-3 c j w =
-    let t = c.before.before.before in
-    A.skip w (h t).loop.f (h t).loop.marks (q t) (going t j w) (same_bits {w = w64} {b = absent_wide} (record { sfits = c.before.a.given }) (sfits_lit tt) c.if1.false)
+loop-p-preserved : tie.Need-loop-p-preserved invariant-loop decreases-loop
+loop-p-preserved c j w =
+    let t = c in
+    A.skip w (h t.before.before.before.before).loop-p.f (h t.before.before.before.before).loop-p.marks (q t.before.before.before.before) (going t.before.before.before.before j w) (same_bits {w = w64} {b = absent_wide} (record { sfits = c.a-1.given }) (sfits_lit tt) c.if-a.false)
 
-same_length : tie.Need-same-length invariant-loop decreases-loop
-same_length c = let l = c.before in (l.loop.invariant (i l) (S l)).long
+shape_of-f : tie.Need-shape_of-f invariant-loop decreases-loop
+shape_of-f c = let l = c in (l.loop-p.invariant (i l.before) (S l.before)).long
 
-same-length-2 : tie.Need-same-length-2 invariant-loop decreases-loop
-same-length-2 c = let l = c.before in (l.loop.invariant (i l) (S l)).size
+shape_of-marks : tie.Need-shape_of-marks invariant-loop decreases-loop
+shape_of-marks c = let l = c in (l.loop-p.invariant (i l.before) (S l.before)).size
 
 returns : tie.Need-returns invariant-loop decreases-loop
 returns c =
-    let l = c.before in
-    let e : l.loop.p ≡ 0 = omega (arith, c.loop-test.false) in (
-      λ j D. A.end (from l j D) l.loop.f l.loop.marks
-          (subst (λ (k : ℕ). A.Going (s l).args.board j (s l).args.table.now (from l j D).passable.order.rank (s l).args.f.now l.loop.f (s l).args.marks.now l.loop.marks k) e (l.loop.invariant j (from l j D))),
-      (l.loop.invariant (i l) (S l)).past,
+    let l = c in
+    let e : l.loop-p.p ≡ 0 = omega (arith, c.loop-p-test.false) in (
+      λ j D. A.end (from l.before j D) l.loop-p.f l.loop-p.marks
+          (subst (λ (k : ℕ). A.Going (s l.before).args.board j (s l.before).args.table.now (from l.before j D).passable.order.rank (s l.before).args.f.now l.loop-p.f (s l.before).args.marks.now l.loop-p.marks k) e (l.loop-p.invariant j (from l.before j D))),
+      (l.loop-p.invariant (i l.before) (S l.before)).past,
     )
 
-pub sweep-spec : {M : Type 1} → statement M
-sweep-spec =
+pub sweep_spec : {M : Type 1} → statement M
+sweep_spec =
     tie.close
     (tie.spec
     invariant-loop
     decreases-loop
-    loop-holds
-    sub-p
-    element-copy-out-u
-    cast-u
-    mul-a
-    slice-copy-out-a
-    mul_at
-    add-end
-    mul-mark-row
-    sub-mark-row
-    part-mark-row-start
+    loop-p-init
+    overflow_sub-p
+    bounds-order-p
+    overflow_cast-u
+    offset_bounds-f-u
+    slice_copy_out-a
+    overflow_mul-at
+    overflow_add-end
+    offset_bounds-table-at
+    slice_bounds-mark_row-count
+    slice_bounds-mark_row-start
     (λ c. omega arith)
-    sub-mark-row-2
-    part-mark-row-start-2
+    slice_bounds-mark_row-count-then-a
+    slice_bounds-mark_row-start-then-a
     (λ c. omega arith)
     (λ c. omega arith)
     (λ c. omega arith)
-    part-mark-row-end-3
-    mark-row-requires
-    is-alive-requires
-    mul-f
-    slice-set-of-f
-    loop-less
-    loop-again
-    loop-less-2
-    loop-again-2
-    loop-less-3
-    loop-again-3
-    same_length
-    same-length-2
+    slice_bounds-mark_row-end-then-a-2
+    mark_row-found-requires
+    is_alive-requires
+    offset_bounds-f-u-then-not-is_alive
+    slice_set_of-f
+    loop-p-smaller-then-not-is_alive
+    loop-p-preserved-then-not-is_alive
+    loop-p-smaller-else-not-is_alive
+    loop-p-preserved-else-not-is_alive
+    loop-p-smaller
+    loop-p-preserved
+    shape_of-f
+    shape_of-marks
     returns)

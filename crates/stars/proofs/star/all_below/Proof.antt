@@ -7,42 +7,42 @@ use lib.ListN.{length, drop}
 use Rattle.stars.specs.StarReady.{below}
 use Rattle.stars.proofs.Members.{each_pass, each_stop, each_end, is_below, not-below}
 
-abbrev invariant-loop : tie.invariant-loop
+abbrev invariant-loop : tie.invariant-loop-i
 invariant-loop xs n i₀ i = (i ≤ length xs) × (below n xs ≡ below n (drop i xs))
 
-abbrev decreases-loop : tie.decreases-loop
+abbrev decreases-loop : tie.decreases-loop-i
 decreases-loop xs n i₀ i = length xs - i
 
-loop-holds : tie.Need-loop-init invariant-loop decreases-loop
-loop-holds c = (omega arith, refl)
+loop-i-init : tie.Need-loop-i-init invariant-loop decreases-loop
+loop-i-init c = (omega arith, refl)
+
+returns-then-n-xs : tie.Need-returns-then-n-xs invariant-loop decreases-loop
+unfolding below
+returns-then-n-xs c =
+    let l = c in
+    sym (l.loop-i.invariant.1 ∙ each_stop _ _ c.loop-i-test.true _ (not-below _ _ c.if-n-xs.true))
+
+loop-i-preserved : tie.Need-loop-i-preserved invariant-loop decreases-loop
+unfolding below
+loop-i-preserved c =
+    let l = c in
+    (omega arith, l.loop-i.invariant.1 ∙ each_pass _ _ c.loop-i-test.true _ (is_below _ _ c.if-n-xs.false))
 
 returns : tie.Need-returns invariant-loop decreases-loop
 unfolding below
-returns c =
-    let l = c.before.before.before in
-    sym (l.loop.invariant.1 ∙ each_stop _ _ c.before.before.loop-test.true _ (not-below _ _ c.if1.true))
+returns c = sym (c.loop-i.invariant.1 ∙ each_end _ _ c.loop-i-test.false _)
 
-loop-again : tie.Need-loop-preserved invariant-loop decreases-loop
-unfolding below
-loop-again c =
-    let l = c.before.before.before in
-    (omega arith, l.loop.invariant.1 ∙ each_pass _ _ c.before.before.loop-test.true _ (is_below _ _ c.if1.false))
-
-returns-2 : tie.Need-returns-2 invariant-loop decreases-loop
-unfolding below
-returns-2 c = sym (c.before.loop.invariant.1 ∙ each_end _ _ c.loop-test.false _)
-
-pub all-below-spec : {M : Type 1} → statement M
-all-below-spec =
+pub all_below_spec : {M : Type 1} → statement M
+all_below_spec =
     tie.close
     (tie.spec
     invariant-loop
     decreases-loop
-    loop-holds
+    loop-i-init
     (λ c. omega arith)
     (λ c. omega arith)
-    returns
+    returns-then-n-xs
     (λ c. omega arith)
     (λ c. omega arith)
-    loop-again
-    returns-2)
+    loop-i-preserved
+    returns)

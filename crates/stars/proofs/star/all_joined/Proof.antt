@@ -20,16 +20,16 @@ use Rattle.stars.proofs.Sets.{each_same}
 abbrev joined : ℕ → List ℤ → List ℕ → ℕ → Bool
 joined n table targets s = each targets (λ t. present (graph_of n table s t))
 
-abbrev invariant-loop : tie.invariant-loop
+abbrev invariant-loop : tie.invariant-loop-i
 invariant-loop table sources targets n i₀ i = (i ≤ length sources) × (each sources (joined n table targets) ≡ each (drop i sources) (joined n table targets))
 
-abbrev decreases-loop : tie.decreases-loop
+abbrev decreases-loop : tie.decreases-loop-i
 decreases-loop table sources targets n i₀ i = length sources - i
 
-loop-holds : tie.Need-loop-init invariant-loop decreases-loop
-loop-holds c = (omega arith, refl)
+loop-i-init : tie.Need-loop-i-init invariant-loop decreases-loop
+loop-i-init c = (omega arith, refl)
 
-module _ (c : tie.In-loop invariant-loop decreases-loop) where
+module _ (c : tie.In-loop-i invariant-loop decreases-loop) where
   abbrev start : tie.Start invariant-loop decreases-loop
   start = c.before.before.before.before
 
@@ -40,69 +40,69 @@ module _ (c : tie.In-loop invariant-loop decreases-loop) where
   t = start.args.table.now
 
   abbrev u : ℕ
-  u = get_or start.args.sources.now c.before.loop.i 0
+  u = get_or start.args.sources.now c.loop-i.i 0
 
   low : u < n
-  low = below_at n start.args.sources.now start.pre.1.0 c.before.loop.i c.loop-test.true
+  low = below_at n start.args.sources.now start.requires.1.0 c.loop-i.i c.loop-i-test.true
 
   row : n * u + n ≤ n * n
   row = row_in n u low
 
   room : n * n ≤ length t
-  room = start.pre.0.room
+  room = start.requires.0.room
 
-mul_at : tie.Need-overflow-mul-at invariant-loop decreases-loop
-mul_at c = omega (arith, row c.before, room c.before)
+overflow_mul-at : tie.Need-overflow_mul-at invariant-loop decreases-loop
+overflow_mul-at c = omega (arith, row c.before, room c.before)
 
-mul-row-joined : tie.Need-overflow-mul-row-joined invariant-loop decreases-loop
-mul-row-joined c = omega (arith, row c.before, room c.before)
+offset_bounds-table-at : tie.Need-offset_bounds-table-at invariant-loop decreases-loop
+offset_bounds-table-at c = omega (arith, row c.before, room c.before)
 
-sub-row-joined : tie.Need-overflow-sub-row-joined invariant-loop decreases-loop
-sub-row-joined c = omega (arith, row c.before, room c.before)
+slice_bounds-row_joined-count : tie.Need-slice_bounds-row_joined-count invariant-loop decreases-loop
+slice_bounds-row_joined-count c = omega (arith, row c.before, room c.before)
 
-part-row-joined-start : tie.Need-slice-bounds-row-joined-start invariant-loop decreases-loop
-part-row-joined-start c = omega (arith, row c.before, room c.before)
+slice_bounds-row_joined-start : tie.Need-slice_bounds-row_joined-start invariant-loop decreases-loop
+slice_bounds-row_joined-start c = omega (arith, row c.before, room c.before)
 
-row-joined-requires : tie.Need-row-joined-requires invariant-loop decreases-loop
-row-joined-requires c κs = let i = c.before.before in below_wider (n i) _ (start i).args.targets.now (lent_long (n i) (t i) (u i) (room i) (low i)) (start i).requires.1.1
+row_joined-requires : tie.Need-row_joined-requires invariant-loop decreases-loop
+row_joined-requires c κs = let i = c in below_wider (n i.before.before) _ (start i.before.before).args.targets.now (lent_long (n i.before.before) (t i.before.before) (u i.before.before) (room i.before.before) (low i.before.before)) (start i.before.before).requires.1.1
 
-said : (c : tie.After-row-joined invariant-loop decreases-loop) → let i = c.before.before.before in joined (n i) (t i) (start i).args.targets.now (u i) ≡ c.row-joined.result
+said : (c : tie.After-row_joined invariant-loop decreases-loop) → let i = c in joined (n i.before.before.before) (t i.before.before.before) (start i.before.before.before).args.targets.now (u i.before.before.before) ≡ c.row_joined.result
 said c =
-    let i = c.before.before.before in
-    let targets = (start i).args.targets.now in
-    sym (c.row-joined.ensures ∙ each_same targets (λ v. present (cell_at (lent (n i) (t i) (u i) (room i) (low i)) v)) (λ v. present (graph_of (n i) (t i) (u i) v))
-    (λ v m. ap present (lent_cell (n i) (t i) (u i) (room i) (low i) v (below-member (n i) targets (start i).requires.1.1 v m))))
+    let i = c in
+    let targets = (start i.before.before.before).args.targets.now in
+    sym (c.row_joined.ensures ∙ each_same targets (λ v. present (cell_at (lent (n i.before.before.before) (t i.before.before.before) (u i.before.before.before) (room i.before.before.before) (low i.before.before.before)) v)) (λ v. present (graph_of (n i.before.before.before) (t i.before.before.before) (u i.before.before.before) v))
+    (λ v m. ap present (lent_cell (n i.before.before.before) (t i.before.before.before) (u i.before.before.before) (room i.before.before.before) (low i.before.before.before) v (below-member (n i.before.before.before) targets (start i.before.before.before).requires.1.1 v m))))
+
+returns-then-not-row_joined : tie.Need-returns-then-not-row_joined invariant-loop decreases-loop
+returns-then-not-row_joined c =
+    let i = c in
+    sym (i.loop-i.invariant.1 ∙ each_stop _ _ i.loop-i-test.true _ (said c.before ∙ not-true _ c.if-not-row_joined.true-raw))
+
+loop-i-preserved : tie.Need-loop-i-preserved invariant-loop decreases-loop
+loop-i-preserved c =
+    let i = c in
+    (omega (arith, i.loop-i-test.true), i.loop-i.invariant.1 ∙ each_pass _ _ i.loop-i-test.true _ (said c.before ∙ not-false _ c.if-not-row_joined.false-raw))
 
 returns : tie.Need-returns invariant-loop decreases-loop
-returns c =
-    let i = c.before.before.before.before in
-    sym (i.before.loop.invariant.1 ∙ each_stop _ _ i.loop-test.true _ (said c.before ∙ not-true _ c.if1.true))
+returns c = sym (c.loop-i.invariant.1 ∙ each_end _ _ c.loop-i-test.false _)
 
-loop-again : tie.Need-loop-preserved invariant-loop decreases-loop
-loop-again c =
-    let i = c.before.before.before.before in
-    (omega (arith, i.loop-test.true), i.before.loop.invariant.1 ∙ each_pass _ _ i.loop-test.true _ (said c.before ∙ not-false _ c.if1.false))
-
-returns-2 : tie.Need-returns-2 invariant-loop decreases-loop
-returns-2 c = sym (c.before.loop.invariant.1 ∙ each_end _ _ c.loop-test.false _)
-
-pub all-joined-spec : {M : Type 1} → statement M
-all-joined-spec =
+pub all_joined_spec : {M : Type 1} → statement M
+all_joined_spec =
     tie.close
     (tie.spec
     invariant-loop
     decreases-loop
-    loop-holds
+    loop-i-init
     (λ c. omega arith)
     (λ c. omega arith)
-    mul_at
-    mul-row-joined
-    sub-row-joined
-    part-row-joined-start
+    overflow_mul-at
+    offset_bounds-table-at
+    slice_bounds-row_joined-count
+    slice_bounds-row_joined-start
     (λ c. omega arith)
-    row-joined-requires
-    returns
+    row_joined-requires
+    returns-then-not-row_joined
     (λ c. omega arith)
     (λ c. omega arith)
-    loop-again
-    returns-2)
+    loop-i-preserved
+    returns)

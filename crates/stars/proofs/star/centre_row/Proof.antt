@@ -18,72 +18,72 @@ use Rattle.stars.proofs.RowCells.{centre_target, centre_other}
 abbrev old : List ℤ → ℕ → ℤ
 old row v = get_or row v (pos 0)
 
-abbrev invariant-loop : tie.invariant-loop
+abbrev invariant-loop : tie.invariant-loop-i
 invariant-loop row₀ first targets i₀ row i = (i ≤ length targets) × (length row ≡ length row₀) × Rewriting targets (old row₀) (centre_cell row₀ first targets) row i
 
-abbrev decreases-loop : tie.decreases-loop
+abbrev decreases-loop : tie.decreases-loop-i
 decreases-loop row₀ first targets i₀ row i = length targets - i
 
-loop-holds : tie.Need-loop-init invariant-loop decreases-loop
-loop-holds c = let row = c.args.row.now in let ts = c.args.targets.now in (omega arith, refl, rewriting_start ts (old row) (centre_cell row c.args.first.now ts) row (λ v. refl) (centre_other row c.args.first.now ts))
+loop-i-init : tie.Need-loop-i-init invariant-loop decreases-loop
+loop-i-init c = let row = c.args.row.now in let ts = c.args.targets.now in (omega arith, refl, rewriting_start ts (old row) (centre_cell row c.args.first.now ts) row (λ v. refl) (centre_other row c.args.first.now ts))
 
-inside : (c : tie.In-loop invariant-loop decreases-loop) → let l = c.before in let s = l.before in
+inside : (c : tie.In-loop-i invariant-loop decreases-loop) → let l = c in let s = l in
     get_or s.args.targets.now l.loop.i 0 < length s.args.row.now
-inside c = let l = c.before in let s = l.before in below_at _ _ s.requires.0.under l.loop.i c.loop-test.true
+inside c = let l = c in let s = l in below_at _ _ s.requires.0.under l.loop-i.i c.loop-i-test.true
 
-mul-row : tie.Need-overflow-mul-row invariant-loop decreases-loop
-mul-row c = omega (arith, inside c.before, c.before.before.before.requires.1)
+offset_bounds-first-t : tie.Need-offset_bounds-first-t invariant-loop decreases-loop
+offset_bounds-first-t c = omega (arith, inside c.before, c.requires.1)
 
-element-copy-out-row : tie.Need-element-copy-out-row invariant-loop decreases-loop
-element-copy-out-row c = omega (arith, inside c.before, c.before.before.before.requires.1)
+bounds-first-t : tie.Need-bounds-first-t invariant-loop decreases-loop
+bounds-first-t c = omega (arith, inside c.before, c.requires.1)
 
-mul-t9 : tie.Need-overflow-mul-t9 invariant-loop decreases-loop
-mul-t9 c = omega (arith, inside c.before.before, c.before.before.before.before.requires.1)
+offset_bounds-row-t : tie.Need-offset_bounds-row-t invariant-loop decreases-loop
+offset_bounds-row-t c = omega (arith, inside c.before.before, c.requires.1)
 
-slice-set-from-row : tie.Need-slice-set-from-row invariant-loop decreases-loop
-slice-set-from-row c = omega (arith, inside c.before.before, c.before.before.before.loop.invariant.1)
+bounds-row-t : tie.Need-bounds-row-t invariant-loop decreases-loop
+bounds-row-t c = omega (arith, inside c.before.before, c.loop-i.invariant.1)
 
-loop-again : tie.Need-loop-preserved invariant-loop decreases-loop
-loop-again c =
-    let i = c.before.before in
-    let l = i.before in
-    let s = l.before in
+loop-i-preserved : tie.Need-loop-i-preserved invariant-loop decreases-loop
+loop-i-preserved c =
+    let i = c in
+    let l = i in
+    let s = l in
     let row = s.args.row.now in
     let first = s.args.first.now in
     let ts = s.args.targets.now in
-    let t = get_or ts l.loop.i 0 in (
-      omega (arith, i.loop-test.true),
-      simp length-set l.loop.invariant.1,
-      rewriting_set ts (old row) (centre_cell row first ts) l.loop.i i.loop-test.true l.loop.row l.loop.invariant.2 s.requires.0.apart (omega (arith, inside i, l.loop.invariant.1)) _
-          (back w32 (get_or first t (pos 0)) c.row.given ∙ sym (centre_target row first ts t (is_true (member t ts) (member_at ts l.loop.i i.loop-test.true)))),
+    let t = get_or ts l.loop-i.i 0 in (
+      omega (arith, i.loop-i-test.true),
+      simp length-set l.loop-i.invariant.1,
+      rewriting_set ts (old row) (centre_cell row first ts) l.loop-i.i i.loop-i-test.true l.loop-i.row l.loop-i.invariant.2 s.requires.0.apart (omega (arith, inside i.before.before, l.loop-i.invariant.1)) _
+          (back w32 (get_or first t (pos 0)) c.row-1.given ∙ sym (centre_target row first ts t (is_true (member t ts) (member_at ts l.loop-i.i i.loop-i-test.true)))),
     )
 
-same_length : tie.Need-same-length invariant-loop decreases-loop
-same_length c = c.before.loop.invariant.1
+shape_of-row : tie.Need-shape_of-row invariant-loop decreases-loop
+shape_of-row c = c.loop-i.invariant.1
 
 returns : tie.Need-returns invariant-loop decreases-loop
 returns c =
-    let l = c.before in
-    let s = l.before in
+    let l = c in
+    let s = l in
     let row = s.args.row.now in
     let ts = s.args.targets.now in
-    rewriting_end ts (old row) (centre_cell row s.args.first.now ts) l.loop.i c.loop-test.false l.loop.row (length row) l.loop.invariant.1 l.loop.invariant.2
+    rewriting_end ts (old row) (centre_cell row s.args.first.now ts) l.loop-i.i c.loop-i-test.false l.loop-i.row (length row) l.loop-i.invariant.1 l.loop-i.invariant.2
 
-pub centre-row-spec : {M : Type 1} → statement M
-centre-row-spec =
+pub centre_row_spec : {M : Type 1} → statement M
+centre_row_spec =
     tie.close
     (tie.spec
     invariant-loop
     decreases-loop
-    loop-holds
+    loop-i-init
     (λ c. omega arith)
     (λ c. omega arith)
-    mul-row
-    element-copy-out-row
-    mul-t9
-    slice-set-from-row
+    offset_bounds-first-t
+    bounds-first-t
+    offset_bounds-row-t
+    bounds-row-t
     (λ c. omega arith)
     (λ c. omega arith)
-    loop-again
-    same_length
+    loop-i-preserved
+    shape_of-row
     returns)

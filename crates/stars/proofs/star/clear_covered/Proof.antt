@@ -23,22 +23,22 @@ use Rattle.stars.proofs.RowCells.{cleared, kept, cleared_other}
 abbrev old : List ℤ → ℕ → ℤ
 old row v = get_or row v (pos 0)
 
-abbrev invariant-loop : tie.invariant-loop
+abbrev invariant-loop : tie.invariant-loop-i
 invariant-loop row₀ first targets e i₀ row i = (i ≤ length targets) × (length row ≡ length row₀) × Rewriting targets (old row₀) (cleared_cell row₀ first targets (to_z w64 e)) row i
 
-abbrev decreases-loop : tie.decreases-loop
+abbrev decreases-loop : tie.decreases-loop-i
 decreases-loop row₀ first targets e i₀ row i = length targets - i
 
-loop-holds : tie.Need-loop-init invariant-loop decreases-loop
-loop-holds c =
-    let s = c.before in
+loop-i-init : tie.Need-loop-i-init invariant-loop decreases-loop
+loop-i-init c =
+    let s = c in
     let row = s.args.row.now in
     let first = s.args.first.now in
     let ts = s.args.targets.now in
     let e = to_z w64 (of_z w64 s.args.e) in
     (omega arith, refl, rewriting_start ts (old row) (cleared_cell row first ts e) row (λ v. refl) (λ v. cleared_other row first ts v e))
 
-module _ (c : tie.In-loop invariant-loop decreases-loop) where
+module _ (c : tie.In-loop-i invariant-loop decreases-loop) where
   abbrev start : tie.Start invariant-loop decreases-loop
   start = c.before.before.before
 
@@ -52,7 +52,7 @@ module _ (c : tie.In-loop invariant-loop decreases-loop) where
   ts = start.args.targets.now
 
   abbrev i : ℕ
-  i = c.before.loop.i
+  i = c.loop-i.i
 
   abbrev t : ℕ
   t = get_or ts i 0
@@ -61,89 +61,89 @@ module _ (c : tie.In-loop invariant-loop decreases-loop) where
   e = to_z w64 (of_z w64 start.args.e)
 
   low : t < length old_row
-  low = below_at _ ts start.pre.0.under i c.loop-test.true
+  low = below_at _ ts start.requires.0.under i c.loop-i-test.true
 
   small : t < 90
-  small = omega (arith, low, start.pre.1)
+  small = omega (arith, low, start.requires.1)
 
-  inside : t < length c.before.loop.row
-  inside = omega (arith, low, c.before.loop.invariant.1)
+  inside : t < length c.loop-i.row
+  inside = omega (arith, low, c.loop-i.invariant.1)
 
-mul-is-covered : tie.Need-overflow-mul-is-covered invariant-loop decreases-loop
-mul-is-covered c = omega (arith, small c.before)
+offset_bounds-row-t : tie.Need-offset_bounds-row-t invariant-loop decreases-loop
+offset_bounds-row-t c = omega (arith, small c.before)
 
-slice-copy-out-is-covered : tie.Need-slice-copy-out-is-covered invariant-loop decreases-loop
-slice-copy-out-is-covered c = inside c.before
+slice_copy_out-is_covered : tie.Need-slice_copy_out-is_covered invariant-loop decreases-loop
+slice_copy_out-is_covered c = inside c.before
 
-mul-is-covered-2 : tie.Need-overflow-mul-is-covered-2 invariant-loop decreases-loop
-mul-is-covered-2 c = omega (arith, small c.before.before)
+offset_bounds-first-t : tie.Need-offset_bounds-first-t invariant-loop decreases-loop
+offset_bounds-first-t c = omega (arith, small c.before.before)
 
-element-copy-out-is-covered : tie.Need-element-copy-out-is-covered invariant-loop decreases-loop
-element-copy-out-is-covered c = small c.before.before
+bounds-first-t : tie.Need-bounds-first-t invariant-loop decreases-loop
+bounds-first-t c = small c.before.before
 
-mul-row : tie.Need-overflow-mul-row invariant-loop decreases-loop
-mul-row c = omega (arith, small c.before.before.before.before.before)
+offset_bounds-row-t-then-is_covered : tie.Need-offset_bounds-row-t-then-is_covered invariant-loop decreases-loop
+offset_bounds-row-t-then-is_covered c = omega (arith, small c.before.before.before.before.before)
 
-slice-set-of-row : tie.Need-slice-set-of-row invariant-loop decreases-loop
-slice-set-of-row c = inside c.before.before.before.before.before
+slice_set_of-row : tie.Need-slice_set_of-row invariant-loop decreases-loop
+slice_set_of-row c = inside c.before.before.before.before.before
 
 -- what the call says of the target
-said : (c : tie.After-is-covered invariant-loop decreases-loop) → let j = c.before.before.before.before in meets (old_row j) (first j) (e j) (t j) ≡ c.is-covered.result
+said : (c : tie.After-is_covered invariant-loop decreases-loop) → let j = c in meets (old_row j.before.before.before.before) (first j.before.before.before.before) (e j.before.before.before.before) (t j.before.before.before.before) ≡ c.is_covered.result
 unfolding meets
 said c =
-    let j = c.before.before.before.before in
-    let l = j.before.loop in
-    let here : to_z w32 (of_z w32 (get_or l.row (t j) (pos 0))) ≡ get_or (old_row j) (t j) (pos 0) =
-    back w32 (get_or l.row (t j) (pos 0)) c.before.before.is-covered-arg.given
-    ∙ rewriting_here (ts j) (old (old_row j)) (cleared_cell (old_row j) (first j) (ts j) (e j)) (i j) j.loop-test.true l.row l.invariant.2 in
-    sym (c.is-covered.ensures ∙ ap₂ (λ (x y : ℤ). eq_z x (e j +ℤ y)) here (back w32 (get_or (first j) (t j) (pos 0)) c.before.is-covered-arg2.given))
+    let j = c in
+    let l = j.loop-i in
+    let here : to_z w32 (of_z w32 (get_or l.row (t j.before.before.before.before) (pos 0))) ≡ get_or (old_row j.before.before.before.before) (t j.before.before.before.before) (pos 0) =
+    back w32 (get_or l.row (t j.before.before.before.before) (pos 0)) c.is_covered-arg-1.given
+    ∙ rewriting_here (ts j.before.before.before.before) (old (old_row j.before.before.before.before)) (cleared_cell (old_row j.before.before.before.before) (first j.before.before.before.before) (ts j.before.before.before.before) (e j.before.before.before.before)) (i j.before.before.before.before) j.loop-i-test.true l.row l.invariant.2 in
+    sym (c.is_covered.ensures ∙ ap₂ (λ (x y : ℤ). eq_z x (e j.before.before.before.before +ℤ y)) here (back w32 (get_or (first j.before.before.before.before) (t j.before.before.before.before) (pos 0)) c.is_covered-arg-in-loop-i-1.given))
 
-loop-again : tie.Need-loop-preserved invariant-loop decreases-loop
-loop-again c =
-    let a = c.before in
-    let j = a.before.before.before.before in
-    let l = j.before.loop in
-    let new = cleared_cell (old_row j) (first j) (ts j) (e j) in
-    let met = is_true (member (t j) (ts j)) (member_at (ts j) (i j) j.loop-test.true) in (
-      omega (arith, j.loop-test.true),
-      split c.if1.branch (λ y. ap length y.1 ∙ length-set l.row (t j) absent_cell ∙ l.invariant.1) (λ y. ap length y.1 ∙ l.invariant.1),
-      split c.if1.branch
-          (λ y. subst (λ (r : List ℤ). Rewriting (ts j) (old (old_row j)) new r (i j + 1)) (sym y.1)
-          (rewriting_set (ts j) (old (old_row j)) new (i j) j.loop-test.true l.row l.invariant.2 (start j).requires.0.apart (inside j) absent_cell (sym (cleared (old_row j) (first j) (ts j) (t j) (e j) met (said a ∙ y.0.taken)))))
-          (λ y. subst (λ (r : List ℤ). Rewriting (ts j) (old (old_row j)) new r (i j + 1)) (sym y.1)
-          (rewriting_keep (ts j) (old (old_row j)) new (i j) j.loop-test.true l.row l.invariant.2 (start j).requires.0.apart (kept (old_row j) (first j) (ts j) (t j) (e j) (said a ∙ y.0.left)))),
+loop-i-preserved : tie.Need-loop-i-preserved invariant-loop decreases-loop
+loop-i-preserved c =
+    let a = c in
+    let j = a in
+    let l = j.loop-i in
+    let new = cleared_cell (old_row j.before.before.before.before.before) (first j.before.before.before.before.before) (ts j.before.before.before.before.before) (e j.before.before.before.before.before) in
+    let met = is_true (member (t j.before.before.before.before.before) (ts j.before.before.before.before.before)) (member_at (ts j.before.before.before.before.before) (i j.before.before.before.before.before) j.loop-i-test.true) in (
+      omega (arith, j.loop-i-test.true),
+      split c.if-is_covered.branch-raw (λ y. ap length y.row-is ∙ length-set l.row (t j.before.before.before.before.before) absent_cell ∙ l.invariant.1) (λ y. ap length y.row-is ∙ l.invariant.1),
+      split c.if-is_covered.branch-raw
+          (λ y. subst (λ (r : List ℤ). Rewriting (ts j.before.before.before.before.before) (old (old_row j.before.before.before.before.before)) new r (i j.before.before.before.before.before + 1)) (sym y.row-is)
+          (rewriting_set (ts j.before.before.before.before.before) (old (old_row j.before.before.before.before.before)) new (i j.before.before.before.before.before) j.loop-i-test.true l.row l.invariant.2 (start j.before.before.before.before.before).requires.0.apart (inside j.before.before.before.before.before) absent_cell (sym (cleared (old_row j.before.before.before.before.before) (first j.before.before.before.before.before) (ts j.before.before.before.before.before) (t j.before.before.before.before.before) (e j.before.before.before.before.before) met (said a.before ∙ y.if-is_covered.true)))))
+          (λ y. subst (λ (r : List ℤ). Rewriting (ts j.before.before.before.before.before) (old (old_row j.before.before.before.before.before)) new r (i j.before.before.before.before.before + 1)) (sym y.row-is)
+          (rewriting_keep (ts j.before.before.before.before.before) (old (old_row j.before.before.before.before.before)) new (i j.before.before.before.before.before) j.loop-i-test.true l.row l.invariant.2 (start j.before.before.before.before.before).requires.0.apart (kept (old_row j.before.before.before.before.before) (first j.before.before.before.before.before) (ts j.before.before.before.before.before) (t j.before.before.before.before.before) (e j.before.before.before.before.before) (said a.before ∙ y.if-is_covered.false)))),
     )
 
-same_length : tie.Need-same-length invariant-loop decreases-loop
-same_length c = c.before.loop.invariant.1
+shape_of-row : tie.Need-shape_of-row invariant-loop decreases-loop
+shape_of-row c = c.loop-i.invariant.1
 
 returns : tie.Need-returns invariant-loop decreases-loop
 returns c =
-    let l = c.before in
-    let s = l.before.before in
+    let l = c in
+    let s = l in
     let row = s.args.row.now in
     let ts = s.args.targets.now in
-    rewriting_end ts (old row) (cleared_cell row s.args.first.now ts (to_z w64 (of_z w64 s.args.e))) l.loop.i c.loop-test.false l.loop.row (length row) l.loop.invariant.1 l.loop.invariant.2
+    rewriting_end ts (old row) (cleared_cell row s.args.first.now ts (to_z w64 (of_z w64 s.args.e))) l.loop-i.i c.loop-i-test.false l.loop-i.row (length row) l.loop-i.invariant.1 l.loop-i.invariant.2
     ∙ ap (λ (z : ℤ). tabulate (length row) (cleared_cell row s.args.first.now ts z)) (to_z-of_z s.ranges.e)
 
-pub clear-covered-spec : {M : Type 1} → statement M
-clear-covered-spec =
+pub clear_covered_spec : {M : Type 1} → statement M
+clear_covered_spec =
     tie.close
     (tie.spec
     invariant-loop
     decreases-loop
-    loop-holds
+    loop-i-init
     (λ c. omega arith)
     (λ c. omega arith)
-    mul-is-covered
-    slice-copy-out-is-covered
-    mul-is-covered-2
-    element-copy-out-is-covered
+    offset_bounds-row-t
+    slice_copy_out-is_covered
+    offset_bounds-first-t
+    bounds-first-t
     (λ c κs. tt)
-    mul-row
-    slice-set-of-row
+    offset_bounds-row-t-then-is_covered
+    slice_set_of-row
     (λ c. omega arith)
     (λ c. omega arith)
-    loop-again
-    same_length
+    loop-i-preserved
+    shape_of-row
     returns)

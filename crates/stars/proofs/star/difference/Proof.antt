@@ -7,14 +7,14 @@ use Rattle.laws.proofs.Signed.{widens}
 use Rattle.stars.proofs.star.difference.Statement.{statement}
 use Rattle.stars.proofs.star.difference.Tie as tie
 
-cast-result : tie.Need-overflow-cast-result
-cast-result c = let f = c.ranges.a in simp to_z-of_z (widens f)
+overflow_cast-result : tie.Need-overflow_cast-result
+overflow_cast-result c = let f = c.ranges.a in simp to_z-of_z (widens f)
 
-cast-result-2 : tie.Need-overflow-cast-result-2
-cast-result-2 c = let f = c.ranges.b in simp to_z-of_z (widens f)
+overflow_cast-result-2 : tie.Need-overflow_cast-result-2
+overflow_cast-result-2 c = let f = c.ranges.b in simp to_z-of_z (widens f)
 
-sub-result : tie.Need-overflow-sub-result
-sub-result c =
+overflow_sub-result : tie.Need-overflow_sub-result
+overflow_sub-result c =
     let fa = c.ranges.a in
     let fb = c.ranges.b in
     simp (to_z-of_z, widens) (omega (zneeds, dif c.args.a c.args.b))
@@ -26,5 +26,9 @@ returns c =
     let f : SFits w64 (c.args.a -ℤ c.args.b) = omega (zneeds, dif c.args.a c.args.b) in
     simp (to_z-of_z, widens)
 
-pub difference-spec : {M : Type 1} → statement M
-difference-spec = tie.close (tie.spec cast-result cast-result-2 sub-result returns)
+pub difference_spec : {M : Type 1} → statement M
+difference_spec = tie.close (tie.spec
+    overflow_cast-result
+    overflow_cast-result-2
+    overflow_sub-result
+    returns)

@@ -3,25 +3,30 @@ use Rattle.stars.proofs.star.exist.Tie as tie
 use mathlib.Core.Path.{sym, ◌∙◌}
 use borrow.Author.Tests.{not-true, not-false}
 
-returns : tie.Need-returns
-returns c =
-    let e = sym c.before.all-below.ensures ∙ not-true _ c.if1.true in
+returns-then-not-all_below : tie.Need-returns-then-not-all_below
+returns-then-not-all_below c =
+    let e = sym c.all_below.ensures ∙ not-true _ c.if-not-all_below.true-raw in
     simp e
 
-returns-2 : tie.Need-returns-2
-returns-2 c =
-    let a = c.before in
-    let e = sym a.before.before.all-below.ensures ∙ not-false _ a.before.if1.false in
-    let e2 = sym a.all-below2.ensures ∙ not-true _ c.if2.true in
+returns-then-not-all_below-2 : tie.Need-returns-then-not-all_below-2
+returns-then-not-all_below-2 c =
+    let a = c in
+    let e = sym a.all_below.ensures ∙ not-false _ a.if-not-all_below.false-raw in
+    let e2 = sym a.all_below-2.ensures ∙ not-true _ c.if-not-all_below-2.true-raw in
     simp (e, e2)
 
-returns-3 : tie.Need-returns-3
-returns-3 c =
-    let a = c.before in
-    let e = sym a.before.before.all-below.ensures ∙ not-false _ a.before.if1.false in
-    let e2 = sym a.all-below2.ensures ∙ not-false _ c.if2.false in
+returns : tie.Need-returns
+returns c =
+    let a = c in
+    let e = sym a.all_below.ensures ∙ not-false _ a.if-not-all_below.false-raw in
+    let e2 = sym a.all_below-2.ensures ∙ not-false _ c.if-not-all_below-2.false-raw in
     simp (e, e2)
 
-pub exist-spec : {M : Type 1} → statement M
-exist-spec =
-    tie.close (tie.spec (λ c κs. tt) returns (λ c κs. tt) returns-2 returns-3)
+pub exist_spec : {M : Type 1} → statement M
+exist_spec =
+    tie.close (tie.spec
+    (λ c κs. tt)
+    returns-then-not-all_below
+    (λ c κs. tt)
+    returns-then-not-all_below-2
+    returns)

@@ -8,39 +8,39 @@ use Rattle.laws.specs.Bounded.{member}
 use Rattle.laws.proofs.Booleans.{is_true, eq→eqb, eqb_other}
 use Rattle.stars.proofs.Members.{member_pass, member_stop, member_end}
 
-abbrev invariant-loop : tie.invariant-loop
+abbrev invariant-loop : tie.invariant-loop-i
 invariant-loop xs from x i₀ i = (i ≤ length xs) × (member x (drop from xs) ≡ member x (drop i xs))
 
-abbrev decreases-loop : tie.decreases-loop
+abbrev decreases-loop : tie.decreases-loop-i
 decreases-loop xs from x i₀ i = length xs - i
 
-loop-holds : tie.Need-loop-init invariant-loop decreases-loop
-loop-holds c = (omega arith, refl)
+loop-i-init : tie.Need-loop-i-init invariant-loop decreases-loop
+loop-i-init c = (omega arith, refl)
+
+returns-then-x-xs : tie.Need-returns-then-x-xs invariant-loop decreases-loop
+returns-then-x-xs c =
+    let l = c in
+    sym (l.loop-i.invariant.1 ∙ member_stop _ _ c.loop-i-test.true _ (is_true _ (eq→eqb _ _ c.if-x-xs.true)))
+
+loop-i-preserved : tie.Need-loop-i-preserved invariant-loop decreases-loop
+loop-i-preserved c =
+    let l = c in
+    (omega arith, l.loop-i.invariant.1 ∙ member_pass _ _ c.loop-i-test.true _ (eqb_other _ _ c.if-x-xs.false))
 
 returns : tie.Need-returns invariant-loop decreases-loop
-returns c =
-    let l = c.before.before.before in
-    sym (l.loop.invariant.1 ∙ member_stop _ _ c.before.before.loop-test.true _ (is_true _ (eq→eqb _ _ c.if1.true)))
+returns c = sym (c.loop-i.invariant.1 ∙ member_end _ _ c.loop-i-test.false _)
 
-loop-again : tie.Need-loop-preserved invariant-loop decreases-loop
-loop-again c =
-    let l = c.before.before.before in
-    (omega arith, l.loop.invariant.1 ∙ member_pass _ _ c.before.before.loop-test.true _ (eqb_other _ _ c.if1.false))
-
-returns-2 : tie.Need-returns-2 invariant-loop decreases-loop
-returns-2 c = sym (c.before.loop.invariant.1 ∙ member_end _ _ c.loop-test.false _)
-
-pub found-spec : {M : Type 1} → statement M
-found-spec =
+pub found_spec : {M : Type 1} → statement M
+found_spec =
     tie.close
     (tie.spec
     invariant-loop
     decreases-loop
-    loop-holds
+    loop-i-init
     (λ c. omega arith)
     (λ c. omega arith)
-    returns
+    returns-then-x-xs
     (λ c. omega arith)
     (λ c. omega arith)
-    loop-again
-    returns-2)
+    loop-i-preserved
+    returns)

@@ -7,9 +7,11 @@ use Rattle.stars.proofs.star.is_covered.Tie as tie
 
 returns : tie.Need-returns
 returns c =
-    let s = c.before in
-    difference_bits s.args.delay s.args.first s.args.e c.difference.result s.ranges.e (record { sfits = c.difference.type-inv })
+    let s = c in
+    difference_bits s.args.delay s.args.first s.args.e c.difference.result s.ranges.e (record { sfits = c.difference.type_inv })
     (c.difference.ensures ∙ ap₂ ◌-ℤ◌ (to_z-of_z s.ranges.delay) (to_z-of_z s.ranges.first))
 
-pub is-covered-spec : {M : Type 1} → statement M
-is-covered-spec = tie.close (tie.spec (λ c κs. tt) returns)
+pub is_covered_spec : {M : Type 1} → statement M
+is_covered_spec = tie.close (tie.spec
+    (λ c κs. tt)
+    returns)

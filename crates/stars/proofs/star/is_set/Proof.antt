@@ -10,52 +10,52 @@ use Rattle.stars.proofs.Members.{distinct_pass, distinct_stop, distinct_end, non
 use Rattle.stars.proofs.Sets.{set-size}
 use Rattle.laws.proofs.Truth.{no_first, no_second, both}
 
-abbrev invariant-loop : tie.invariant-loop
+abbrev invariant-loop : tie.invariant-loop-i
 invariant-loop xs n i₀ i = (i ≤ length xs) × (distinct xs ≡ distinct (drop i xs))
 
-abbrev decreases-loop : tie.decreases-loop
+abbrev decreases-loop : tie.decreases-loop-i
 decreases-loop xs n i₀ i = length xs - i
 
+returns-then-xs-eq0 : tie.Need-returns-then-xs-eq0 invariant-loop decreases-loop
+returns-then-xs-eq0 c = let xs = c.args.xs.now in sym (no_first (non_empty xs) (distinct xs) (none xs c.if-xs-eq0.true))
+
+returns-then-n-xs : tie.Need-returns-then-n-xs invariant-loop decreases-loop
+returns-then-n-xs c = let xs = c.args.xs.now in sym (no_second (non_empty xs) (distinct xs) (is_false (distinct xs) (λ t. omega (arith, c.if-n-xs.true, set-size _ _ c.requires t))))
+
+loop-i-init : tie.Need-loop-i-init invariant-loop decreases-loop
+loop-i-init c = (omega arith, refl)
+
+returns-then-found : tie.Need-returns-then-found invariant-loop decreases-loop
+returns-then-found c =
+    let i = c in
+    let xs = i.args.xs.now in
+    sym (no_second (non_empty xs) (distinct xs) (i.loop-i.invariant.1 ∙ distinct_stop _ _ i.loop-i-test.true (sym c.found.ensures ∙ c.if-found.true)))
+
+loop-i-preserved : tie.Need-loop-i-preserved invariant-loop decreases-loop
+loop-i-preserved c =
+    let i = c in
+    (omega arith, i.loop-i.invariant.1 ∙ distinct_pass _ _ i.loop-i-test.true (sym c.found.ensures ∙ c.if-found.false))
+
 returns : tie.Need-returns invariant-loop decreases-loop
-returns c = let xs = c.before.before.args.xs.now in sym (no_first (non_empty xs) (distinct xs) (none xs c.if1.true))
+returns c =
+    let xs = c.args.xs.now in
+    sym (both (non_empty xs) (distinct xs) (one xs (omega (arith, c.if-xs-eq0.false))) (c.loop-i.invariant.1 ∙ distinct_end _ _ c.loop-i-test.false))
 
-returns-2 : tie.Need-returns-2 invariant-loop decreases-loop
-returns-2 c = let xs = c.before.before.before.args.xs.now in sym (no_second (non_empty xs) (distinct xs) (is_false (distinct xs) (λ t. omega (arith, c.if2.true, set-size _ _ c.before.before.before.requires t))))
-
-loop-holds : tie.Need-loop-init invariant-loop decreases-loop
-loop-holds c = (omega arith, refl)
-
-returns-3 : tie.Need-returns-3 invariant-loop decreases-loop
-returns-3 c =
-    let i = c.before.before.before in
-    let xs = i.before.before.before.before.before.args.xs.now in
-    sym (no_second (non_empty xs) (distinct xs) (i.before.loop.invariant.1 ∙ distinct_stop _ _ i.loop-test.true (sym c.before.found.ensures ∙ c.if3.true)))
-
-loop-again : tie.Need-loop-preserved invariant-loop decreases-loop
-loop-again c =
-    let i = c.before.before.before in
-    (omega arith, i.before.loop.invariant.1 ∙ distinct_pass _ _ i.loop-test.true (sym c.before.found.ensures ∙ c.if3.false))
-
-returns-4 : tie.Need-returns-4 invariant-loop decreases-loop
-returns-4 c =
-    let xs = c.before.before.before.before.before.args.xs.now in
-    sym (both (non_empty xs) (distinct xs) (one xs (omega (arith, c.before.before.before.if1.false))) (c.before.loop.invariant.1 ∙ distinct_end _ _ c.loop-test.false))
-
-pub is-set-spec : {M : Type 1} → statement M
-is-set-spec =
+pub is_set_spec : {M : Type 1} → statement M
+is_set_spec =
     tie.close
     (tie.spec
     invariant-loop
     decreases-loop
-    returns
-    returns-2
-    loop-holds
+    returns-then-xs-eq0
+    returns-then-n-xs
+    loop-i-init
     (λ c. omega arith)
     (λ c. omega arith)
     (λ c. omega arith)
     (λ c κs. omega arith)
-    returns-3
+    returns-then-found
     (λ c. omega arith)
     (λ c. omega arith)
-    loop-again
-    returns-4)
+    loop-i-preserved
+    returns)

@@ -19,132 +19,132 @@ use Rattle.stars.proofs.LeastOf.{least_last, least_turn}
 abbrev gap : List ℤ → List ℤ → ℕ → Delay
 gap row first t = at (get_or row t (pos 0) -ℤ get_or first t (pos 0))
 
-abbrev invariant-loop : tie.invariant-loop
+abbrev invariant-loop : tie.invariant-loop-i
 invariant-loop row first targets i₀ last e₀ i e = (i < length targets) × (z : ℤ) × SFits w64 z × (e ≡ of_z w64 z) × (at z ≡ least (drop i targets) (gap row first))
 
-abbrev decreases-loop : tie.decreases-loop
+abbrev decreases-loop : tie.decreases-loop-i
 decreases-loop row first targets i₀ last e₀ i e = i
 
 some : (c : tie.Start invariant-loop decreases-loop) → 0 < length c.args.targets.now
 some c = some-member c.args.targets.now c.requires.1.1
 
-sub-i : tie.Need-overflow-sub-i invariant-loop decreases-loop
-sub-i c = omega (arith, some c.before)
+overflow_sub-i : tie.Need-overflow_sub-i invariant-loop decreases-loop
+overflow_sub-i c = omega (arith, some c.before)
 
-mul-last : tie.Need-overflow-mul-last invariant-loop decreases-loop
-mul-last c = omega (arith, some c.before)
+offset_bounds-targets-i : tie.Need-offset_bounds-targets-i invariant-loop decreases-loop
+offset_bounds-targets-i c = omega (arith, some c.before)
 
-shared-slice-read-last : tie.Need-shared-slice-read-last invariant-loop decreases-loop
-shared-slice-read-last c = omega (arith, some c.before.before)
+bounds-targets-i : tie.Need-bounds-targets-i invariant-loop decreases-loop
+bounds-targets-i c = omega (arith, some c.before.before)
 
-final : (c : tie.After-shared-slice-known2 invariant-loop decreases-loop) → let s = c.before.before in let i = length s.args.targets.now - 1 in
+final : (c : tie.After-shared_slice_known-2-1 invariant-loop decreases-loop) → let s = c in let i = length s.args.targets.now - 1 in
     (get_or s.args.targets.now i 0 < length s.args.row.now) × (get_or s.args.targets.now i 0 < 90)
-final c = let s = c.before.before in (below_at _ _ s.requires.0 _ (omega (arith, some s)), below_at _ _ s.requires.1.0 _ (omega (arith, some s)))
+final c = let s = c in (below_at _ _ s.requires.0 _ (omega (arith, some s.before.before)), below_at _ _ s.requires.1.0 _ (omega (arith, some s.before.before)))
 
-mul-difference : tie.Need-overflow-mul-difference invariant-loop decreases-loop
-mul-difference c = omega (arith, (final c).1)
+offset_bounds-row-last : tie.Need-offset_bounds-row-last invariant-loop decreases-loop
+offset_bounds-row-last c = omega (arith, (final c).1)
 
-shared-slice-copy-out-difference : tie.Need-shared-slice-copy-out-difference invariant-loop decreases-loop
-shared-slice-copy-out-difference c = (final c).0
+bounds-row-last : tie.Need-bounds-row-last invariant-loop decreases-loop
+bounds-row-last c = (final c).0
 
-mul-difference-2 : tie.Need-overflow-mul-difference-2 invariant-loop decreases-loop
-mul-difference-2 c = omega (arith, (final c.before).1)
+offset_bounds-first-last : tie.Need-offset_bounds-first-last invariant-loop decreases-loop
+offset_bounds-first-last c = omega (arith, (final c.before).1)
 
-element-copy-out-difference : tie.Need-element-copy-out-difference invariant-loop decreases-loop
-element-copy-out-difference c = (final c.before).1
+bounds-first-last : tie.Need-bounds-first-last invariant-loop decreases-loop
+bounds-first-last c = (final c.before).1
 
-loop-holds : tie.Need-loop-init invariant-loop decreases-loop
-loop-holds c =
-    let s = c.before.before.before.before.before in
+loop-i-init : tie.Need-loop-i-init invariant-loop decreases-loop
+loop-i-init c =
+    let s = c in
     let ts = s.args.targets.now in
     let t = get_or ts (length ts - 1) 0 in (
-      omega (arith, some s),
-      c.difference.result,
-      record { sfits = c.difference.type-inv },
+      omega (arith, some s.before.before.before.before.before),
+      c.difference-e.result,
+      record { sfits = c.difference-e.type_inv },
       refl,
-      ap at (c.difference.ensures ∙ ap₂ ◌-ℤ◌ (back w32 (get_or s.args.row.now t (pos 0)) c.before.before.difference-arg.given) (back w32 (get_or s.args.first.now t (pos 0)) c.before.difference-arg2.given))
-          ∙ sym (least_last ts (gap s.args.row.now s.args.first.now) (length ts - 1) (omega (arith, some s))),
+      ap at (c.difference-e.ensures ∙ ap₂ ◌-ℤ◌ (back w32 (get_or s.args.row.now t (pos 0)) c.difference-arg-1.given) (back w32 (get_or s.args.first.now t (pos 0)) c.difference-arg-2-1.given))
+          ∙ sym (least_last ts (gap s.args.row.now s.args.first.now) (length ts - 1) (omega (arith, some s.before.before.before.before.before))),
     )
 
-mul-t : tie.Need-overflow-mul-t invariant-loop decreases-loop
-mul-t c = omega (arith, c.before.loop.invariant.0)
+offset_bounds-targets-i-in-loop-i : tie.Need-offset_bounds-targets-i-in-loop-i invariant-loop decreases-loop
+offset_bounds-targets-i-in-loop-i c = omega (arith, c.loop-i.invariant.0)
 
-shared-slice-read-t : tie.Need-shared-slice-read-t invariant-loop decreases-loop
-shared-slice-read-t c = omega (arith, c.before.before.loop.invariant.0)
+bounds-targets-i-in-loop-i : tie.Need-bounds-targets-i-in-loop-i invariant-loop decreases-loop
+bounds-targets-i-in-loop-i c = omega (arith, c.loop-i.invariant.0)
 
-inside : (c : tie.In-loop invariant-loop decreases-loop) → let l = c.before in let s = l.before.before.before.before.before.before in let i = l.loop.i - 1 in
+inside : (c : tie.In-loop-i invariant-loop decreases-loop) → let l = c in let s = l in let i = l.loop-i.i - 1 in
     (get_or s.args.targets.now i 0 < length s.args.row.now) × (get_or s.args.targets.now i 0 < 90)
-inside c = let l = c.before in let s = l.before.before.before.before.before.before in (below_at _ _ s.requires.0 _ (omega (arith, l.loop.invariant.0)), below_at _ _ s.requires.1.0 _ (omega (arith, l.loop.invariant.0)))
+inside c = let l = c in let s = l in (below_at _ _ s.requires.0 _ (omega (arith, l.loop-i.invariant.0)), below_at _ _ s.requires.1.0 _ (omega (arith, l.loop-i.invariant.0)))
 
-mul-difference-3 : tie.Need-overflow-mul-difference-3 invariant-loop decreases-loop
-mul-difference-3 c = omega (arith, (inside c.before).1)
+offset_bounds-row-t : tie.Need-offset_bounds-row-t invariant-loop decreases-loop
+offset_bounds-row-t c = omega (arith, (inside c.before).1)
 
-shared-slice-copy-out-difference-2 : tie.Need-shared-slice-copy-out-difference-2 invariant-loop decreases-loop
-shared-slice-copy-out-difference-2 c = (inside c.before).0
+bounds-row-t : tie.Need-bounds-row-t invariant-loop decreases-loop
+bounds-row-t c = (inside c.before).0
 
-mul-difference-4 : tie.Need-overflow-mul-difference-4 invariant-loop decreases-loop
-mul-difference-4 c = omega (arith, (inside c.before.before).1)
+offset_bounds-first-t : tie.Need-offset_bounds-first-t invariant-loop decreases-loop
+offset_bounds-first-t c = omega (arith, (inside c.before.before).1)
 
-element-copy-out-difference-2 : tie.Need-element-copy-out-difference-2 invariant-loop decreases-loop
-element-copy-out-difference-2 c = (inside c.before.before).1
+bounds-first-t : tie.Need-bounds-first-t invariant-loop decreases-loop
+bounds-first-t c = (inside c.before.before).1
 
-loop-less : tie.Need-loop-smaller invariant-loop decreases-loop
-loop-less c = omega (arith, c.before.before.before.before.before.loop-test.true)
+loop-i-smaller : tie.Need-loop-i-smaller invariant-loop decreases-loop
+loop-i-smaller c = omega (arith, c.loop-i-test.true)
 
-loop-again : tie.Need-loop-preserved invariant-loop decreases-loop
-loop-again c =
-    let d = c.before in
-    let i = d.before.before.before.before in
-    let l = i.before in
-    let s = l.before.before.before.before.before.before in
+loop-i-preserved : tie.Need-loop-i-preserved invariant-loop decreases-loop
+loop-i-preserved c =
+    let d = c in
+    let i = d in
+    let l = i in
+    let s = l in
     let row = s.args.row.now in
     let first = s.args.first.now in
-    let t = get_or s.args.targets.now (l.loop.i - 1) 0 in
-    let here : to_z w64 (of_z w64 d.difference2.result) ≡ get_or row t (pos 0) -ℤ get_or first t (pos 0) =
-    back w64 d.difference2.result d.difference2.type-inv ∙ d.difference2.ensures
-    ∙ ap₂ ◌-ℤ◌ (back w32 (get_or row t (pos 0)) d.before.before.difference-arg3.given) (back w32 (get_or first t (pos 0)) d.before.difference-arg4.given) in
-    let there : to_z w64 l.loop.e ≡ l.loop.invariant.1 = ap (to_z w64) l.loop.invariant.3 ∙ to_z-of_z l.loop.invariant.2 in (
-      omega (arith, l.loop.invariant.0),
-      c.lesser.result,
-      record { sfits = c.lesser.type-inv },
+    let t = get_or s.args.targets.now (l.loop-i.i - 1) 0 in
+    let here : to_z w64 (of_z w64 d.difference.result) ≡ get_or row t (pos 0) -ℤ get_or first t (pos 0) =
+    back w64 d.difference.result d.difference.type_inv ∙ d.difference.ensures
+    ∙ ap₂ ◌-ℤ◌ (back w32 (get_or row t (pos 0)) d.difference-arg-in-loop-i-1.given) (back w32 (get_or first t (pos 0)) d.difference-arg-in-loop-i-2-1.given) in
+    let there : to_z w64 l.loop-i.e-bits ≡ l.loop-i.invariant.1 = ap (to_z w64) l.loop-i.invariant.3 ∙ to_z-of_z l.loop-i.invariant.2 in (
+      omega (arith, l.loop-i.invariant.0),
+      c.lesser-e.result,
+      record { sfits = c.lesser-e.type_inv },
       refl,
-      ap at (c.lesser.ensures ∙ ap₂ min_z here there)
-          ∙ least_turn s.args.targets.now (gap row first) l.loop.i _ l.loop.invariant.1 i.loop-test.true l.loop.invariant.0 refl l.loop.invariant.4,
+      ap at (c.lesser-e.ensures ∙ ap₂ min_z here there)
+          ∙ least_turn s.args.targets.now (gap row first) l.loop-i.i _ l.loop-i.invariant.1 i.loop-i-test.true l.loop-i.invariant.0 refl l.loop-i.invariant.4,
     )
 
 returns : tie.Need-returns invariant-loop decreases-loop
 unfolding least_gap
 returns c =
-    let l = c.before in
-    let s = l.before.before.before.before.before.before in
-    let z : l.loop.i ≡ 0 = omega (arith, c.loop-test.false) in
-    ap at (ap (to_z w64) l.loop.invariant.3 ∙ to_z-of_z l.loop.invariant.2) ∙ l.loop.invariant.4
+    let l = c in
+    let s = l in
+    let z : l.loop-i.i ≡ 0 = omega (arith, c.loop-i-test.false) in
+    ap at (ap (to_z w64) l.loop-i.invariant.3 ∙ to_z-of_z l.loop-i.invariant.2) ∙ l.loop-i.invariant.4
     ∙ ap (λ (i : ℕ). least (drop i s.args.targets.now) (gap s.args.row.now s.args.first.now)) z
 
-pub least-difference-spec : {M : Type 1} → statement M
-least-difference-spec =
+pub least_difference_spec : {M : Type 1} → statement M
+least_difference_spec =
     tie.close
     (tie.spec
     invariant-loop
     decreases-loop
-    sub-i
-    mul-last
-    shared-slice-read-last
-    mul-difference
-    shared-slice-copy-out-difference
-    mul-difference-2
-    element-copy-out-difference
+    overflow_sub-i
+    offset_bounds-targets-i
+    bounds-targets-i
+    offset_bounds-row-last
+    bounds-row-last
+    offset_bounds-first-last
+    bounds-first-last
     (λ c κs. tt)
-    loop-holds
+    loop-i-init
     (λ c. omega arith)
-    mul-t
-    shared-slice-read-t
-    mul-difference-3
-    shared-slice-copy-out-difference-2
-    mul-difference-4
-    element-copy-out-difference-2
+    offset_bounds-targets-i-in-loop-i
+    bounds-targets-i-in-loop-i
+    offset_bounds-row-t
+    bounds-row-t
+    offset_bounds-first-t
+    bounds-first-t
     (λ c κs. tt)
     (λ c κs. tt)
-    loop-less
-    loop-again
+    loop-i-smaller
+    loop-i-preserved
     returns)

@@ -5,21 +5,23 @@ use Rattle.laws.specs.Integers.{min_z}
 use Rattle.stars.proofs.star.lesser.Statement.{statement}
 use Rattle.stars.proofs.star.lesser.Tie as tie
 
+returns-then-b-a : tie.Need-returns-then-b-a
+unfolding min_z
+returns-then-b-a c =
+    let s = c in
+    let a = to_z-of_z {w = w64} s.ranges.a in
+    let b = to_z-of_z {w = w64} s.ranges.b in
+    b ∙ simp (rw (a, b) at c.if-b-a.true)
+
 returns : tie.Need-returns
 unfolding min_z
 returns c =
-    let s = c.before in
+    let s = c in
     let a = to_z-of_z {w = w64} s.ranges.a in
     let b = to_z-of_z {w = w64} s.ranges.b in
-    b ∙ simp (rw (a, b) at c.if1.true)
+    a ∙ simp (rw (a, b) at c.if-b-a.false)
 
-returns-2 : tie.Need-returns-2
-unfolding min_z
-returns-2 c =
-    let s = c.before in
-    let a = to_z-of_z {w = w64} s.ranges.a in
-    let b = to_z-of_z {w = w64} s.ranges.b in
-    a ∙ simp (rw (a, b) at c.if1.false)
-
-pub lesser-spec : {M : Type 1} → statement M
-lesser-spec = tie.close (tie.spec returns returns-2)
+pub lesser_spec : {M : Type 1} → statement M
+lesser_spec = tie.close (tie.spec
+    returns-then-b-a
+    returns)

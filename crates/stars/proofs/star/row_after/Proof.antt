@@ -10,43 +10,43 @@ use Rattle.laws.proofs.Booleans.{is_true, eq→eqb, eqb_other}
 use Rattle.laws.proofs.Lists.{tabulate_same, is_tabulate}
 use Rattle.stars.proofs.RowCells.{of_centre, of_source, of_other}
 
-returns : tie.Need-returns
-returns c =
-    let i = c.before.before.before in
-    let s = i.before.before in
+returns-then-u-k : tie.Need-returns-then-u-k
+returns-then-u-k c =
+    let i = c in
+    let s = i in
     let row = s.args.row.now in
-    let same : eqb s.args.u s.args.k ≡ true = is_true _ (eq→eqb s.args.u s.args.k i.if1.true) in
-    c.before.centre-row.ensures
+    let same : eqb s.args.u s.args.k ≡ true = is_true _ (eq→eqb s.args.u s.args.k i.if-u-k.true) in
+    c.centre_row.ensures
     ∙ tabulate_same (length row) _ _ (λ v _. sym (of_centre row s.args.first.now s.args.targets.now s.args.k s.args.u s.args.source v same))
 
-source-row-requires : tie.Need-source-row-requires
-source-row-requires c κs =
-    let i = c.before in
-    let s = i.before.before.before in
-    (s.requires.0, (s.requires.1.0, (s.requires.1.1.0, s.requires.1.1.1 i.if2.true)))
+source_row-requires : tie.Need-source_row-requires
+source_row-requires c κs =
+    let i = c in
+    let s = i in
+    (s.requires.0, (s.requires.1.0, (s.requires.1.1.0, s.requires.1.1.1 i.if-source.true)))
 
-returns-2 : tie.Need-returns-2
-returns-2 c =
-    let i = c.before.before.before in
-    let s = i.before.before.before in
+returns-then-source : tie.Need-returns-then-source
+returns-then-source c =
+    let i = c in
+    let s = i in
     let row = s.args.row.now in
-    c.before.source_row.ensures
-    ∙ tabulate_same (length row) _ _ (λ v _. sym (of_source row s.args.first.now s.args.targets.now s.args.k s.args.u s.args.source v (eqb_other _ _ i.before.if1.false) i.if2.true))
+    c.source_row.ensures
+    ∙ tabulate_same (length row) _ _ (λ v _. sym (of_source row s.args.first.now s.args.targets.now s.args.k s.args.u s.args.source v (eqb_other _ _ i.if-u-k.false) i.if-source.true))
 
-returns-3 : tie.Need-returns-3
-returns-3 c =
-    let s = c.before.before.before in
+returns-else-source : tie.Need-returns-else-source
+returns-else-source c =
+    let s = c in
     let row = s.args.row.now in
-    is_tabulate (pos 0) row (length row) _ refl (λ v _. sym (of_other row s.args.first.now s.args.targets.now s.args.k s.args.u s.args.source v (eqb_other _ _ c.before.if1.false) c.if2.false))
+    is_tabulate (pos 0) row (length row) _ refl (λ v _. sym (of_other row s.args.first.now s.args.targets.now s.args.k s.args.u s.args.source v (eqb_other _ _ c.if-u-k.false) c.if-source.false))
 
-pub row-after-spec : {M : Type 1} → statement M
-row-after-spec =
+pub row_after_spec : {M : Type 1} → statement M
+row_after_spec =
     tie.close
     (tie.spec
     (λ c κs. search rules)
     (λ c. search rules)
-    returns
-    source-row-requires
+    returns-then-u-k
+    source_row-requires
     (λ c. search rules)
-    returns-2
-    returns-3)
+    returns-then-source
+    returns-else-source)

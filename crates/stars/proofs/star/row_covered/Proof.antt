@@ -20,36 +20,36 @@ use Rattle.stars.proofs.Members.{sum_over_turn, sum_over_end, below_at}
 abbrev counted : List ℤ → List ℤ → ℤ → ℕ → ℕ
 counted row first e t = cond (meets row first e t) 1 0
 
-abbrev invariant-loop : tie.invariant-loop
+abbrev invariant-loop : tie.invariant-loop-i
 invariant-loop row first targets e total₀ i₀ total i = (i ≤ length targets) × (total ≤ i) × (total + sum_over (drop i targets) (counted row first (to_z w64 e)) ≡ sum_over targets (counted row first (to_z w64 e)))
 
-abbrev decreases-loop : tie.decreases-loop
+abbrev decreases-loop : tie.decreases-loop-i
 decreases-loop row first targets e total₀ i₀ total i = length targets - i
 
-loop-holds : tie.Need-loop-init invariant-loop decreases-loop
-loop-holds c = (omega arith, omega arith, omega arith)
+loop-i-init : tie.Need-loop-i-init invariant-loop decreases-loop
+loop-i-init c = (omega arith, omega arith, omega arith)
 
-inside : (c : tie.In-loop invariant-loop decreases-loop) → let l = c.before in let s = l.before.before in
+inside : (c : tie.In-loop-i invariant-loop decreases-loop) → let l = c in let s = l in
     (get_or s.args.targets.now l.loop.i 0 < length s.args.row.now) × (get_or s.args.targets.now l.loop.i 0 < 90)
-inside c = let l = c.before in let s = l.before.before in (below_at _ _ s.requires.0 l.loop.i c.loop-test.true, below_at _ _ s.requires.1 l.loop.i c.loop-test.true)
+inside c = let l = c in let s = l in (below_at _ _ s.requires.0 l.loop-i.i c.loop-i-test.true, below_at _ _ s.requires.1 l.loop-i.i c.loop-i-test.true)
 
-mul-is-covered : tie.Need-overflow-mul-is-covered invariant-loop decreases-loop
-mul-is-covered c = omega (arith, (inside c.before).1)
+offset_bounds-row-t : tie.Need-offset_bounds-row-t invariant-loop decreases-loop
+offset_bounds-row-t c = omega (arith, (inside c.before).1)
 
-shared-slice-copy-out-is-covered : tie.Need-shared-slice-copy-out-is-covered invariant-loop decreases-loop
-shared-slice-copy-out-is-covered c = (inside c.before).0
+bounds-row-t : tie.Need-bounds-row-t invariant-loop decreases-loop
+bounds-row-t c = (inside c.before).0
 
-mul-is-covered-2 : tie.Need-overflow-mul-is-covered-2 invariant-loop decreases-loop
-mul-is-covered-2 c = omega (arith, (inside c.before.before).1)
+offset_bounds-first-t : tie.Need-offset_bounds-first-t invariant-loop decreases-loop
+offset_bounds-first-t c = omega (arith, (inside c.before.before).1)
 
-element-copy-out-is-covered : tie.Need-element-copy-out-is-covered invariant-loop decreases-loop
-element-copy-out-is-covered c = (inside c.before.before).1
+bounds-first-t : tie.Need-bounds-first-t invariant-loop decreases-loop
+bounds-first-t c = (inside c.before.before).1
 
-add_total : tie.Need-overflow-add-total invariant-loop decreases-loop
-add_total c = omega (arith, c.before.before.before.before.before.loop-test.true)
+overflow_add-total : tie.Need-overflow_add-total invariant-loop decreases-loop
+overflow_add-total c = omega (arith, c.loop-i-test.true)
 
-module _ (c : tie.After-is-covered invariant-loop decreases-loop) where
-  abbrev head : tie.At-loop invariant-loop decreases-loop
+module _ (c : tie.After-is_covered invariant-loop decreases-loop) where
+  abbrev head : tie.At-loop-i invariant-loop decreases-loop
   head = c.before.before.before.before.before
 
   abbrev start : tie.Start invariant-loop decreases-loop
@@ -59,51 +59,51 @@ module _ (c : tie.After-is-covered invariant-loop decreases-loop) where
   number = counted start.args.row.now start.args.first.now (to_z w64 (of_z w64 start.args.e))
 
   abbrev t : ℕ
-  t = get_or start.args.targets.now head.loop.i 0
+  t = get_or start.args.targets.now head.loop-i.i 0
 
   -- what the call says of the target
-  said : (b : Bool) → c.is-covered.result ≡ b → number t ≡ cond b 1 0
+  said : (b : Bool) → c.is_covered.result ≡ b → number t ≡ cond b 1 0
   unfolding meets
   said b e =
       ap (λ (x : Bool). cond x 1 0)
-      (sym (c.is-covered.ensures ∙ ap₂ (λ (x y : ℤ). eq_z x (to_z w64 (of_z w64 start.args.e) +ℤ y)) (back w32 (get_or start.args.row.now t (pos 0)) c.before.before.is-covered-arg.given) (back w32 (get_or start.args.first.now t (pos 0)) c.before.is-covered-arg2.given)) ∙ e)
+      (sym (c.is_covered.ensures ∙ ap₂ (λ (x y : ℤ). eq_z x (to_z w64 (of_z w64 start.args.e) +ℤ y)) (back w32 (get_or start.args.row.now t (pos 0)) c.is_covered-arg-1.given) (back w32 (get_or start.args.first.now t (pos 0)) c.is_covered-arg-in-loop-i-1.given)) ∙ e)
 
-  more : sum_over (drop head.loop.i start.args.targets.now) number ≡ number t + sum_over (drop (head.loop.i + 1) start.args.targets.now) number
-  more = sum_over_turn start.args.targets.now head.loop.i c.before.before.before.before.loop-test.true number
+  more : sum_over (drop head.loop-i.i start.args.targets.now) number ≡ number t + sum_over (drop (head.loop-i.i + 1) start.args.targets.now) number
+  more = sum_over_turn start.args.targets.now head.loop-i.i c.loop-i-test.true number
 
-loop-again : tie.Need-loop-preserved invariant-loop decreases-loop
-loop-again c =
-    let a = c.before in
-    let i = a.before.before.before.before in
-    split c.if1.branch
-    (λ w. (omega (arith, i.loop-test.true), omega (arith, w.1, (head a).loop.invariant.1), omega (arith, w.1, said a true w.0.taken, more a, (head a).loop.invariant.2)))
-    (λ w. (omega (arith, i.loop-test.true), omega (arith, w.1, (head a).loop.invariant.1), omega (arith, w.1, said a false w.0.left, more a, (head a).loop.invariant.2)))
+loop-i-preserved : tie.Need-loop-i-preserved invariant-loop decreases-loop
+loop-i-preserved c =
+    let a = c in
+    let i = a in
+    split c.if-is_covered.branch-raw
+    (λ w. (omega (arith, i.loop-i-test.true), omega (arith, w.total-is, (head a.before).loop-i.invariant.1), omega (arith, w.total-is, said a.before true w.if-is_covered.true, more a.before, (head a.before).loop-i.invariant.2)))
+    (λ w. (omega (arith, i.loop-i-test.true), omega (arith, w.total-is, (head a.before).loop-i.invariant.1), omega (arith, w.total-is, said a.before false w.if-is_covered.false, more a.before, (head a.before).loop-i.invariant.2)))
 
 returns : tie.Need-returns invariant-loop decreases-loop
 unfolding meeting
 returns c =
-    let l = c.before in
-    let s = l.before.before in
+    let l = c in
+    let s = l in
     let number = counted s.args.row.now s.args.first.now (to_z w64 (of_z w64 s.args.e)) in
-    let e : l.loop.total ≡ sum_over s.args.targets.now number = omega (arith, l.loop.invariant.2, sum_over_end s.args.targets.now l.loop.i c.loop-test.false number) in
+    let e : l.loop-i.total ≡ sum_over s.args.targets.now number = omega (arith, l.loop-i.invariant.2, sum_over_end s.args.targets.now l.loop-i.i c.loop-i-test.false number) in
     e ∙ ap (λ (z : ℤ). sum_over s.args.targets.now (counted s.args.row.now s.args.first.now z)) (to_z-of_z s.ranges.e)
 
-pub row-covered-spec : {M : Type 1} → statement M
-row-covered-spec =
+pub row_covered_spec : {M : Type 1} → statement M
+row_covered_spec =
     tie.close
     (tie.spec
     invariant-loop
     decreases-loop
-    loop-holds
+    loop-i-init
     (λ c. omega arith)
     (λ c. omega arith)
-    mul-is-covered
-    shared-slice-copy-out-is-covered
-    mul-is-covered-2
-    element-copy-out-is-covered
+    offset_bounds-row-t
+    bounds-row-t
+    offset_bounds-first-t
+    bounds-first-t
     (λ c κs. tt)
-    add_total
+    overflow_add-total
     (λ c. omega arith)
     (λ c. omega arith)
-    loop-again
+    loop-i-preserved
     returns)

@@ -15,54 +15,54 @@ use Rattle.timing.specs.Table.{read_cell}
 use Rattle.paths.specs.Cells.{cell_at}
 use Rattle.stars.proofs.Members.{each_pass, each_stop, each_end, below_at}
 
-abbrev invariant-loop : tie.invariant-loop
+abbrev invariant-loop : tie.invariant-loop-i
 invariant-loop row targets i₀ i = (i ≤ length targets) × (each targets (λ t. present (cell_at row t)) ≡ each (drop i targets) (λ t. present (cell_at row t)))
 
-abbrev decreases-loop : tie.decreases-loop
+abbrev decreases-loop : tie.decreases-loop-i
 decreases-loop row targets i₀ i = length targets - i
 
-loop-holds : tie.Need-loop-init invariant-loop decreases-loop
-loop-holds c = (omega arith, refl)
+loop-i-init : tie.Need-loop-i-init invariant-loop decreases-loop
+loop-i-init c = (omega arith, refl)
 
-inside : (c : tie.After-shared-slice-known2 invariant-loop decreases-loop) → let l = c.before.before in let s = l.before.before in get_or s.args.targets.now l.loop.i 0 < length s.args.row.now
-inside c = let l = c.before.before in below_at _ _ l.before.before.requires l.loop.i c.before.loop-test.true
+inside : (c : tie.After-shared_slice_known-in-loop-i-1 invariant-loop decreases-loop) → let l = c in let s = l in get_or s.args.targets.now l.loop-i.i 0 < length s.args.row.now
+inside c = let l = c in below_at _ _ l.requires l.loop-i.i c.loop-i-test.true
 
-mul-is-arc : tie.Need-overflow-mul-is-arc invariant-loop decreases-loop
-mul-is-arc c = omega (arith, inside c)
+offset_bounds-row-t : tie.Need-offset_bounds-row-t invariant-loop decreases-loop
+offset_bounds-row-t c = omega (arith, inside c)
 
-shared-slice-copy-out-is-arc : tie.Need-shared-slice-copy-out-is-arc invariant-loop decreases-loop
-shared-slice-copy-out-is-arc c = inside c
+bounds-row-t : tie.Need-bounds-row-t invariant-loop decreases-loop
+bounds-row-t c = inside c
 
-said : (c : tie.After-is-arc invariant-loop decreases-loop) → let l = c.before.before.before.before in let s = l.before.before in present (cell_at s.args.row.now (get_or s.args.targets.now l.loop.i 0)) ≡ c.is-arc.result
-said c = sym (c.is-arc.ensures ∙ ap (λ (z : ℤ). present (read_cell absent_cell z)) (back w32 _ c.before.is-arc-arg.given))
+said : (c : tie.After-is_arc invariant-loop decreases-loop) → let l = c in let s = l in present (cell_at s.args.row.now (get_or s.args.targets.now l.loop-i.i 0)) ≡ c.is_arc.result
+said c = sym (c.is_arc.ensures ∙ ap (λ (z : ℤ). present (read_cell absent_cell z)) (back w32 _ c.is_arc-arg-1.given))
+
+returns-then-not-is_arc : tie.Need-returns-then-not-is_arc invariant-loop decreases-loop
+returns-then-not-is_arc c =
+    let i = c in
+    sym (i.loop-i.invariant.1 ∙ each_stop _ _ i.loop-i-test.true _ (said c.before ∙ not-true _ c.if-not-is_arc.true-raw))
+
+loop-i-preserved : tie.Need-loop-i-preserved invariant-loop decreases-loop
+loop-i-preserved c =
+    let i = c in
+    (omega arith, i.loop-i.invariant.1 ∙ each_pass _ _ i.loop-i-test.true _ (said c.before ∙ not-false _ c.if-not-is_arc.false-raw))
 
 returns : tie.Need-returns invariant-loop decreases-loop
-returns c =
-    let i = c.before.before.before.before in
-    sym (i.before.loop.invariant.1 ∙ each_stop _ _ i.loop-test.true _ (said c.before ∙ not-true _ c.if1.true))
+returns c = sym (c.loop-i.invariant.1 ∙ each_end _ _ c.loop-i-test.false _)
 
-loop-again : tie.Need-loop-preserved invariant-loop decreases-loop
-loop-again c =
-    let i = c.before.before.before.before in
-    (omega arith, i.before.loop.invariant.1 ∙ each_pass _ _ i.loop-test.true _ (said c.before ∙ not-false _ c.if1.false))
-
-returns-2 : tie.Need-returns-2 invariant-loop decreases-loop
-returns-2 c = sym (c.before.loop.invariant.1 ∙ each_end _ _ c.loop-test.false _)
-
-pub row-joined-spec : {M : Type 1} → statement M
-row-joined-spec =
+pub row_joined_spec : {M : Type 1} → statement M
+row_joined_spec =
     tie.close
     (tie.spec
     invariant-loop
     decreases-loop
-    loop-holds
+    loop-i-init
     (λ c. omega arith)
     (λ c. omega arith)
-    mul-is-arc
-    shared-slice-copy-out-is-arc
+    offset_bounds-row-t
+    bounds-row-t
     (λ c κs. tt)
-    returns
+    returns-then-not-is_arc
     (λ c. omega arith)
     (λ c. omega arith)
-    loop-again
-    returns-2)
+    loop-i-preserved
+    returns)

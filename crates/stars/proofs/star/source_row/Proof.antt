@@ -15,34 +15,34 @@ use Rattle.stars.specs.StarCells.{least_gap, source_cell}
 use Rattle.stars.proofs.Members.{below_wider}
 use Rattle.stars.proofs.RowCells.{source_made}
 
-least-difference-requires : tie.Need-least-difference-requires
-least-difference-requires c κs = let s = c.before.before in (s.requires.0.under, (below_wider _ 90 s.args.targets.now s.requires.1.0 s.requires.0.under, s.requires.0.some))
+least_difference-e-requires : tie.Need-least_difference-e-requires
+least_difference-e-requires c κs = let s = c in (s.requires.0.under, (below_wider _ 90 s.args.targets.now s.requires.1.0 s.requires.0.under, s.requires.0.some))
 
 -- the difference that is handed on
-handed-on : (c : tie.After-least-difference) → let s = c.before.before.before in at (to_z w64 (of_z w64 c.least-difference.result)) ≡ least_gap s.args.row.now s.args.first.now s.args.targets.now
-handed-on c = ap at (back w64 c.least-difference.result c.least-difference.type-inv) ∙ c.least-difference.ensures
+handed_on : (c : tie.After-least_difference-e) → let s = c in at (to_z w64 (of_z w64 c.least_difference-e.result)) ≡ least_gap s.args.row.now s.args.first.now s.args.targets.now
+handed_on c = ap at (back w64 c.least_difference-e.result c.least_difference-e.type_inv) ∙ c.least_difference-e.ensures
 
 narrow-requires : tie.Need-narrow-requires
 narrow-requires c κs =
-    let d = c.before.before.before in
-    subst (λ (x : Delay). T (fits delay_limit x)) (sym (handed-on d)) d.before.before.before.requires.1.1.1
+    let d = c in
+    subst (λ (x : Delay). T (fits delay_limit x)) (sym (handed_on d.before.before.before)) d.requires.1.1.1
 
 returns : tie.Need-returns
 returns c =
-    let d = c.before.before.before.before in
-    let s = d.before.before.before in
+    let d = c in
+    let s = d in
     let row = s.args.row.now in
     let first = s.args.first.now in
     let ts = s.args.targets.now in
-    let e = to_z w64 (of_z w64 d.least-difference.result) in
-    source_made row first ts s.args.k e c.before.before.clear-covered.new.0 _ s.requires.1.1.0 c.before.before.clear-covered.ensures (back w32 c.narrow.result c.narrow.type-inv ∙ c.narrow.ensures)
-    ∙ ap (λ (z : ℤ). tabulate (length row) (source_cell row first ts s.args.k z)) (ap ticks (handed-on d))
+    let e = to_z w64 (of_z w64 d.least_difference-e.result) in
+    source_made row first ts s.args.k e c.clear_covered.new.row _ s.requires.1.1.0 c.clear_covered.ensures (back w32 c.narrow.result c.narrow.type_inv ∙ c.narrow.ensures)
+    ∙ ap (λ (z : ℤ). tabulate (length row) (source_cell row first ts s.args.k z)) (ap ticks (handed_on d.before.before.before.before))
 
-pub source-row-spec : {M : Type 1} → statement M
-source-row-spec =
+pub source_row_spec : {M : Type 1} → statement M
+source_row_spec =
     tie.close
     (tie.spec
-    least-difference-requires
+    least_difference-e-requires
     (λ c κs. search rules)
     narrow-requires
     (λ c. search rules)

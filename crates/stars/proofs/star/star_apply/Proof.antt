@@ -39,10 +39,10 @@ Asked row first Ts k source = VertexSet (length row) Ts × ((length row ≤ 90) 
 abbrev made : List ℤ → List ℤ → List ℕ → ℕ → ℕ → Bool → List ℤ
 made row first Ts k u source = tabulate (length row) (cell_after row first Ts k u source)
 
-abbrev invariant-loop : tie.invariant-loop
+abbrev invariant-loop : tie.invariant-loop-u
 invariant-loop table₀ sources targets k n first is-source u₀ table u = (u ≤ n) × (length table ≡ length table₀) × (table ≡ rows n u (newCell table₀ sources targets k n) ++ drop (n * u) table₀)
 
-abbrev decreases-loop : tie.decreases-loop
+abbrev decreases-loop : tie.decreases-loop-u
 decreases-loop table₀ sources targets k n first is-source u₀ table u = n - u
 
 module _ (s : tie.Start invariant-loop decreases-loop) where
@@ -62,13 +62,13 @@ module _ (s : tie.Start invariant-loop decreases-loop) where
   k = s.args.k
 
   room : N * N ≤ length t
-  room = s.pre.0.room
+  room = s.requires.0.room
 
   few : N ≤ 90
-  few = s.pre.0.sized.few
+  few = s.requires.0.sized.few
 
   ready : StarReady s.args.board.inputs s.args.board.outputs N S Ts k (graph_of N t)
-  ready = s.pre.1
+  ready = s.requires.1
 
   some : 0 < length S
   some = some-member S ready.bundle.sources.some
@@ -82,140 +82,140 @@ module _ (s : tie.Start invariant-loop decreases-loop) where
   centre : k < N
   centre = (inner_of s.args.board.inputs s.args.board.outputs N k ready.inner).1
 
-shared-slice-read-row-copy : tie.Need-shared-slice-read-row-copy invariant-loop decreases-loop
-shared-slice-read-row-copy c = some c.before.before.before.before
+bounds-sources-0 : tie.Need-bounds-sources-0 invariant-loop decreases-loop
+bounds-sources-0 c = some c.before.before.before
 
-mul-row-copy : tie.Need-overflow-mul-row-copy invariant-loop decreases-loop
-mul-row-copy c = let s = c.before.before.before.before in omega (arith, row₀ s, room s)
+overflow_mul-n : tie.Need-overflow_mul-n invariant-loop decreases-loop
+overflow_mul-n c = let s = c in omega (arith, row₀ s.before.before.before, room s.before.before.before)
 
-row-copy-requires : tie.Need-row-copy-requires invariant-loop decreases-loop
-row-copy-requires c κs = let s = c.before.before.before.before in (few s, omega (arith, row₀ s, room s))
+row_copy-first-requires : tie.Need-row_copy-first-requires invariant-loop decreases-loop
+row_copy-first-requires c κs = let s = c in (few s.before.before.before, omega (arith, row₀ s.before.before.before, room s.before.before.before))
 
-marks-requires : tie.Need-marks-requires invariant-loop decreases-loop
-marks-requires c κs = let s = c.before.before.before.before.before in below_wider (N s) 90 (S s) (few s) (ready s).bundle.sources.under
+marks-is_source-requires : tie.Need-marks-is_source-requires invariant-loop decreases-loop
+marks-is_source-requires c κs = let s = c in below_wider (N s.before.before.before.before) 90 (S s.before.before.before.before) (few s.before.before.before.before) (ready s.before.before.before.before).bundle.sources.under
 
-loop-holds : tie.Need-loop-init invariant-loop decreases-loop
-loop-holds c = (omega arith, refl, rows_none _ _ _)
+loop-u-init : tie.Need-loop-u-init invariant-loop decreases-loop
+loop-u-init c = (omega arith, refl, rows_none _ _ _)
 
-module _ (c : tie.In-loop invariant-loop decreases-loop) where
-  abbrev head : tie.At-loop invariant-loop decreases-loop
+module _ (c : tie.In-loop-u invariant-loop decreases-loop) where
+  abbrev head : tie.At-loop-u invariant-loop decreases-loop
   head = c.before
 
   abbrev start : tie.Start invariant-loop decreases-loop
-  start = head.before.before.before.before.before.before.before
+  start = head.before.before.before.before.before.before
 
   abbrev u : ℕ
-  u = head.loop.u
+  u = head.loop-u.u
 
   abbrev first : List ℤ
-  first = head.before.before.row-copy.result
+  first = head.row_copy-first.result
 
   abbrev source : Bool
-  source = get_or head.before.marks.result u false
+  source = get_or head.marks-is_source.result u false
 
   -- the row of u as it was
   abbrev row : List ℤ
   row = take (N start) (drop (N start * u) (t start))
 
   inside : N start * u + N start ≤ length (t start)
-  inside = omega (arith, row_in (N start) u c.loop-test.true, room start)
+  inside = omega (arith, row_in (N start) u c.loop-u-test.true, room start)
 
   wide : length row ≡ N start
   wide = simp (length-take, length-drop) (omega (arith, inside))
 
   row_is : (v : ℕ) → v < N start → cell_at row v ≡ graph_of (N start) (t start) u v
-  row_is v l = ap (read_cell absent_cell) (row_cell (t start) (N start * u) (N start) v (pos 0) l) ∙ sym (graph_of_at (N start) (t start) u v c.loop-test.true l)
+  row_is v l = ap (read_cell absent_cell) (row_cell (t start) (N start * u) (N start) v (pos 0) l) ∙ sym (graph_of_at (N start) (t start) u v c.loop-u-test.true l)
 
-  first-is : (v : ℕ) → v < N start → cell_at first v ≡ graph_of (N start) (t start) (first_of (S start)) v
-  first-is = first_row (N start) (t start) (S start) first (low start) head.before.before.row-copy.ensures
+  first_is : (v : ℕ) → v < N start → cell_at first v ≡ graph_of (N start) (t start) (first_of (S start)) v
+  first_is = first_row (N start) (t start) (S start) first (low start) head.row_copy-first.ensures
 
   source_is : source ≡ member u (S start)
-  source_is = head.before.marks.ensures u (omega (arith, c.loop-test.true, few start))
+  source_is = head.marks-is_source.ensures u (omega (arith, c.loop-u-test.true, few start))
 
   near : source ≡ true → T (fits delay_limit (least_gap row first (Ts start)))
   near e =
       let ms : T (member u (S start)) = true_is (sym source_is ∙ e) in
-      subst (λ (d : Delay). T (fits delay_limit d)) (sym (gap_is (ready start).bundle first first-is u ms row row_is))
+      subst (λ (d : Delay). T (fits delay_limit d)) (sym (gap_is (ready start).bundle first first_is u ms row row_is))
       (each_at (S start) (λ s. fits delay_limit (to_centre (S start) (Ts start) (graph_of (N start) (t start)) s)) (ready start).near u ms)
 
   asked : Asked row first (Ts start) (k start) source
   asked = (subst (λ (n : ℕ). VertexSet n (Ts start)) (sym wide) (ready start).bundle.targets, (omega (arith, wide, few start), (omega (arith, wide, centre start), near)))
 
-  row-made-of : made row first (Ts start) (k start) u source ≡ tabulate (N start) (newCell (t start) (S start) (Ts start) (k start) (N start) u)
-  row-made-of =
+  row_made_of : made row first (Ts start) (k start) u source ≡ tabulate (N start) (newCell (t start) (S start) (Ts start) (k start) (N start) u)
+  row_made_of =
       ap (λ (n : ℕ). tabulate n (cell_after row first (Ts start) (k start) u source)) wide
-      ∙ tabulate_same (N start) _ _ (λ v l. row_made (ready start) (graph_of_within (N start) (t start)) first first-is u row row_is v l source source_is)
+      ∙ tabulate_same (N start) _ _ (λ v l. row_made (ready start) (graph_of_within (N start) (t start)) first first_is u row row_is v l source source_is)
 
-  lent : take (N start * u + N start - N start * u) (drop (N start * u) head.loop.table) ≡ row
-  lent = row_lent (N start) (newCell (t start) (S start) (Ts start) (k start) (N start)) (t start) head.loop.table u head.loop.inv.2
+  lent : take (N start * u + N start - N start * u) (drop (N start * u) head.loop-u.table) ≡ row
+  lent = row_lent (N start) (newCell (t start) (S start) (Ts start) (k start) (N start)) (t start) head.loop-u.table u head.loop-u.invariant.2
 
-mul_at : tie.Need-overflow-mul-at invariant-loop decreases-loop
-mul_at c = omega (arith, inside c)
+overflow_mul-at : tie.Need-overflow_mul-at invariant-loop decreases-loop
+overflow_mul-at c = omega (arith, inside c)
 
-add-end : tie.Need-overflow-add-end invariant-loop decreases-loop
-add-end c = omega (arith, inside c)
+overflow_add-end : tie.Need-overflow_add-end invariant-loop decreases-loop
+overflow_add-end c = omega (arith, inside c)
 
-mul-row-after : tie.Need-overflow-mul-row-after invariant-loop decreases-loop
-mul-row-after c = omega (arith, inside c)
+offset_bounds-table-at : tie.Need-offset_bounds-table-at invariant-loop decreases-loop
+offset_bounds-table-at c = omega (arith, inside c)
 
-part-row-after-end : tie.Need-slice-bounds-row-after-end invariant-loop decreases-loop
-part-row-after-end c = omega (arith, inside c, c.before.loop.invariant.1)
+slice_bounds-row_after-end : tie.Need-slice_bounds-row_after-end invariant-loop decreases-loop
+slice_bounds-row_after-end c = omega (arith, inside c, c.loop-u.invariant.1)
 
-array-read-row-after : tie.Need-array-read-row-after invariant-loop decreases-loop
-array-read-row-after c = let i = c.before.before in omega (arith, i.loop-test.true, few (start i))
+bounds-is_source-u : tie.Need-bounds-is_source-u invariant-loop decreases-loop
+bounds-is_source-u c = let i = c in omega (arith, i.loop-u-test.true, few (start i.before.before))
 
-row-after-requires : tie.Need-row-after-requires invariant-loop decreases-loop
-row-after-requires c κs = let i = c.before.before in subst (λ (x : List ℤ). Asked x (first i) (Ts (start i)) (k (start i)) (source i)) (sym (lent i)) (asked i)
+row_after-requires : tie.Need-row_after-requires invariant-loop decreases-loop
+row_after-requires c κs = let i = c in subst (λ (x : List ℤ). Asked x (first i.before.before) (Ts (start i.before.before)) (k (start i.before.before)) (source i.before.before)) (sym (lent i.before.before)) (asked i.before.before)
 
-add-u : tie.Need-overflow-add-u invariant-loop decreases-loop
-add-u c = let i = c.before.before.before.before in omega (arith, i.loop-test.true, few (start i))
+overflow_add-u : tie.Need-overflow_add-u invariant-loop decreases-loop
+overflow_add-u c = let i = c in omega (arith, i.loop-u-test.true, few (start i.before.before.before.before))
 
-loop-less : tie.Need-loop-smaller invariant-loop decreases-loop
-loop-less c = let i = c.before.before.before.before in omega (arith, i.loop-test.true)
+loop-u-smaller : tie.Need-loop-u-smaller invariant-loop decreases-loop
+loop-u-smaller c = let i = c in omega (arith, i.loop-u-test.true)
 
-loop-again : tie.Need-loop-preserved invariant-loop decreases-loop
-loop-again c =
-    let i = c.before.before.before.before in
-    let s = start i in
-    let l = (head i).loop in (
-      omega (arith, i.loop-test.true),
-      c.table.given.1 ∙ l.inv.1,
-      row_back (N s) (newCell (t s) (S s) (Ts s) (k s) (N s)) (t s) l.table l.u l.inv.2 c.before.row-after.new.0
-          (c.before.row-after.ensures ∙ ap (λ (x : List ℤ). made x (first i) (Ts s) (k s) (u i) (source i)) (lent i) ∙ row-made-of i),
+loop-u-preserved : tie.Need-loop-u-preserved invariant-loop decreases-loop
+loop-u-preserved c =
+    let i = c in
+    let s = start i.before.before.before.before in
+    let l = (head i.before.before.before.before).loop-u in (
+      omega (arith, i.loop-u-test.true),
+      c.table-1.given.1 ∙ l.invariant.1,
+      row_back (N s) (newCell (t s) (S s) (Ts s) (k s) (N s)) (t s) l.table l.u l.invariant.2 c.row_after.new.row
+          (c.row_after.ensures ∙ ap (λ (x : List ℤ). made x (first i.before.before.before.before) (Ts s) (k s) (u i.before.before.before.before) (source i.before.before.before.before)) (lent i.before.before.before.before) ∙ row_made_of i.before.before.before.before),
     )
 
-same_length : tie.Need-same-length invariant-loop decreases-loop
-same_length c = c.before.loop.invariant.1
+shape_of-table : tie.Need-shape_of-table invariant-loop decreases-loop
+shape_of-table c = c.loop-u.invariant.1
 
 returns : tie.Need-returns invariant-loop decreases-loop
 unfolding with_graph
 returns c =
-    let l = c.before.loop in
-    let s = c.before.before.before.before.before.before.before.before in
-    let m : l.u ≡ N s = omega (arith, l.invariant.0, c.loop-test.false) in
+    let l = c.loop-u in
+    let s = c in
+    let m : l.u ≡ N s.before.before.before.before.before.before.before = omega (arith, l.invariant.0, c.loop-u-test.false) in
     rw m at l.invariant.2
 
-pub star-apply-spec : {M : Type 1} → statement M
-star-apply-spec =
+pub star_apply_spec : {M : Type 1} → statement M
+star_apply_spec =
     tie.close
     (tie.spec
     invariant-loop
     decreases-loop
-    shared-slice-read-row-copy
-    mul-row-copy
-    row-copy-requires
-    marks-requires
-    loop-holds
-    mul_at
-    add-end
-    mul-row-after
+    bounds-sources-0
+    overflow_mul-n
+    row_copy-first-requires
+    marks-is_source-requires
+    loop-u-init
+    overflow_mul-at
+    overflow_add-end
+    offset_bounds-table-at
     (λ c. omega arith)
     (λ c. omega arith)
-    part-row-after-end
-    array-read-row-after
-    row-after-requires
-    add-u
-    loop-less
-    loop-again
-    same_length
+    slice_bounds-row_after-end
+    bounds-is_source-u
+    row_after-requires
+    overflow_add-u
+    loop-u-smaller
+    loop-u-preserved
+    shape_of-table
     returns)

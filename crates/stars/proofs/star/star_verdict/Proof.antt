@@ -36,149 +36,149 @@ module _ (s : tie.Start) where
   abbrev g : Graph
   g = graph_of N s.args.table.now
 
-returns : tie.Need-returns
-returns c = let s = c.before.before.before.before in Star.refused-7 (m s) (n s) (N s) (S s) (Ts s) (k s) (g s) (sym c.before.exist.ensures ∙ not-true _ c.if1.true)
+returns-then-not-exist : tie.Need-returns-then-not-exist
+returns-then-not-exist c = let s = c in Star.refused-7 (m s.before.before.before.before) (n s.before.before.before.before) (N s.before.before.before.before) (S s.before.before.before.before) (Ts s.before.before.before.before) (k s.before.before.before.before) (g s.before.before.before.before) (sym c.exist.ensures ∙ not-true _ c.if-not-exist.true-raw)
 
 -- past 7
-module _ (c : tie.Else1) where
+module _ (c : tie.Else-not-exist) where
   abbrev start : tie.Start
   start = c.before.before.before.before
 
-  past-7 : Star.exists (m start) (n start) (N start) (S start) (Ts start) (k start) (g start) ≡ true
-  past-7 = sym c.before.exist.ensures ∙ not-false _ c.if1.false
+  past_7 : Star.exists (m start) (n start) (N start) (S start) (Ts start) (k start) (g start) ≡ true
+  past_7 = sym c.exist.ensures ∙ not-false _ c.if-not-exist.false-raw
 
-  low-sources : T (below (N start) (S start))
-  low-sources = Star.sources_below (m start) (n start) (N start) (S start) (Ts start) (k start) (g start) past-7
+  low_sources : T (below (N start) (S start))
+  low_sources = Star.sources_below (m start) (n start) (N start) (S start) (Ts start) (k start) (g start) past_7
 
-  low-targets : T (below (N start) (Ts start))
-  low-targets = Star.targets_below (m start) (n start) (N start) (S start) (Ts start) (k start) (g start) past-7
+  low_targets : T (below (N start) (Ts start))
+  low_targets = Star.targets_below (m start) (n start) (N start) (S start) (Ts start) (k start) (g start) past_7
 
-is-set-requires : tie.Need-is-set-requires
-is-set-requires c κs = low-sources c
+is_set-requires : tie.Need-is_set-requires
+is_set-requires c κs = low_sources c
 
-returns-2 : tie.Need-returns-2
-returns-2 c =
-    let h = c.before.before in
-    let s = start h in
-    Star.no-sources (m s) (n s) (N s) (S s) (Ts s) (k s) (g s) (past-7 h) (sym c.before.is_set.ensures ∙ not-true _ c.if2.true)
+returns-then-not-is_set : tie.Need-returns-then-not-is_set
+returns-then-not-is_set c =
+    let h = c in
+    let s = start h.before.before in
+    Star.no-sources (m s) (n s) (N s) (S s) (Ts s) (k s) (g s) (past_7 h.before.before) (sym c.is_set.ensures ∙ not-true _ c.if-not-is_set.true-raw)
 
-is-set-requires-2 : tie.Need-is-set-requires-2
-is-set-requires-2 c κs = low-targets c.before.before
+is_set-requires-2 : tie.Need-is_set-requires-2
+is_set-requires-2 c κs = low_targets c.before.before
 
-returns-3 : tie.Need-returns-3
-returns-3 c =
-    let h = c.before.before.before.before in
-    let s = start h in
-    Star.no_targets (m s) (n s) (N s) (S s) (Ts s) (k s) (g s) (past-7 h) (sym c.before.is-set2.ensures ∙ not-true _ c.if3.true)
+returns-then-not-is_set-2 : tie.Need-returns-then-not-is_set-2
+returns-then-not-is_set-2 c =
+    let h = c in
+    let s = start h.before.before.before.before in
+    Star.no_targets (m s) (n s) (N s) (S s) (Ts s) (k s) (g s) (past_7 h.before.before.before.before) (sym c.is_set-2.ensures ∙ not-true _ c.if-not-is_set-2.true-raw)
 
 -- past 9
-module _ (c : tie.Else3) where
-  abbrev seven : tie.Else1
+module _ (c : tie.Else-not-is_set-2) where
+  abbrev seven : tie.Else-not-exist
   seven = c.before.before.before.before
 
   abbrev st : tie.Start
   st = start seven
 
-  past-9S : Star.isSet (m st) (n st) (N st) (S st) (Ts st) (k st) (g st) (S st) ≡ true
-  past-9S = sym c.before.before.before.is_set.ensures ∙ not-false _ c.before.before.if2.false
+  past_9S : Star.isSet (m st) (n st) (N st) (S st) (Ts st) (k st) (g st) (S st) ≡ true
+  past_9S = sym c.is_set.ensures ∙ not-false _ c.if-not-is_set.false-raw
 
-  past-9T : Star.isSet (m st) (n st) (N st) (S st) (Ts st) (k st) (g st) (Ts st) ≡ true
-  past-9T = sym c.before.is-set2.ensures ∙ not-false _ c.if3.false
+  past_9T : Star.isSet (m st) (n st) (N st) (S st) (Ts st) (k st) (g st) (Ts st) ≡ true
+  past_9T = sym c.is_set-2.ensures ∙ not-false _ c.if-not-is_set-2.false-raw
 
-is-free-requires : tie.Need-is-free-requires
-is-free-requires c κs = let s = st c in (s.pre.0, Star.centre-below (m s) (n s) (N s) (S s) (Ts s) (k s) (g s) (past-7 (seven c)))
+is_free-requires : tie.Need-is_free-requires
+is_free-requires c κs = let s = st c in (s.requires.0, Star.centre-below (m s) (n s) (N s) (S s) (Ts s) (k s) (g s) (past_7 (seven c)))
 
-returns-4 : tie.Need-returns-4
-returns-4 c =
-    let h = c.before.before in
-    let s = st h in
-    Star.refused-8 (m s) (n s) (N s) (S s) (Ts s) (k s) (g s) (past-7 (seven h)) (past-9S h) (past-9T h) (sym c.before.is_free.ensures ∙ not-true _ c.if4.true)
+returns-then-not-is_free : tie.Need-returns-then-not-is_free
+returns-then-not-is_free c =
+    let h = c in
+    let s = st h.before.before in
+    Star.refused-8 (m s) (n s) (N s) (S s) (Ts s) (k s) (g s) (past_7 (seven h.before.before)) (past_9S h.before.before) (past_9T h.before.before) (sym c.is_free.ensures ∙ not-true _ c.if-not-is_free.true-raw)
 
-all-joined-requires : tie.Need-all-joined-requires
-all-joined-requires c κs = let h = c.before.before in ((st h).requires.0, (low-sources (seven h), low-targets (seven h)))
+all_joined-requires : tie.Need-all_joined-requires
+all_joined-requires c κs = let h = c in ((st h.before.before).requires.0, (low_sources (seven h.before.before), low_targets (seven h.before.before)))
 
-returns-5 : tie.Need-returns-5
-returns-5 c =
-    let f = c.before.before in
-    let h = f.before.before in
-    let s = st h in
-    Star.refused-10 (m s) (n s) (N s) (S s) (Ts s) (k s) (g s) (past-7 (seven h)) (past-9S h) (past-9T h) (sym f.before.is_free.ensures ∙ not-false _ f.if4.false)
-    (sym c.before.all-joined.ensures ∙ not-true _ c.if5.true)
+returns-then-not-all_joined : tie.Need-returns-then-not-all_joined
+returns-then-not-all_joined c =
+    let f = c in
+    let h = f in
+    let s = st h.before.before.before.before in
+    Star.refused-10 (m s) (n s) (N s) (S s) (Ts s) (k s) (g s) (past_7 (seven h.before.before.before.before)) (past_9S h.before.before.before.before) (past_9T h.before.before.before.before) (sym f.is_free.ensures ∙ not-false _ f.if-not-is_free.false-raw)
+    (sym c.all_joined.ensures ∙ not-true _ c.if-not-all_joined.true-raw)
 
 -- past 8 and 10
-module _ (c : tie.Else5) where
-  abbrev nine : tie.Else3
+module _ (c : tie.Else-not-all_joined) where
+  abbrev nine : tie.Else-not-is_set-2
   nine = c.before.before.before.before
 
   abbrev s₀ : tie.Start
   s₀ = st nine
 
-  past-8 : Star.free (m s₀) (n s₀) (N s₀) (S s₀) (Ts s₀) (k s₀) (g s₀) ≡ true
-  past-8 = sym c.before.before.before.is_free.ensures ∙ not-false _ c.before.before.if4.false
+  past_8 : Star.free (m s₀) (n s₀) (N s₀) (S s₀) (Ts s₀) (k s₀) (g s₀) ≡ true
+  past_8 = sym c.is_free.ensures ∙ not-false _ c.if-not-is_free.false-raw
 
-  past-10 : Star.joined (m s₀) (n s₀) (N s₀) (S s₀) (Ts s₀) (k s₀) (g s₀) ≡ true
-  past-10 = sym c.before.all-joined.ensures ∙ not-false _ c.if5.false
+  past_10 : Star.joined (m s₀) (n s₀) (N s₀) (S s₀) (Ts s₀) (k s₀) (g s₀) ≡ true
+  past_10 = sym c.all_joined.ensures ∙ not-false _ c.if-not-all_joined.false-raw
 
   bundle : Bundle (N s₀) (S s₀) (Ts s₀) (g s₀)
-  bundle = Star.bundle-of (m s₀) (n s₀) (N s₀) (S s₀) (Ts s₀) (k s₀) (g s₀) (past-7 (seven nine)) (past-9S nine) (past-9T nine) past-8 past-10
+  bundle = Star.bundle-of (m s₀) (n s₀) (N s₀) (S s₀) (Ts s₀) (k s₀) (g s₀) (past_7 (seven nine)) (past_9S nine) (past_9T nine) past_8 past_10
 
-weigh-all-requires : tie.Need-weigh-all-requires
-weigh-all-requires c κs = ((s₀ c).requires.0, bundle c)
+weigh_all-weight-requires : tie.Need-weigh_all-weight-requires
+weigh_all-weight-requires c κs = ((s₀ c).requires.0, bundle c)
 
 -- what the weighing says
-module _ (c : tie.After-weigh-all) where
-  abbrev ten : tie.Else5
+module _ (c : tie.After-weigh_all-weight) where
+  abbrev ten : tie.Else-not-all_joined
   ten = c.before
 
   abbrev s₁ : tie.Start
   s₁ = s₀ ten
 
-  saves-by : (b : Bool) → ltb (length (S s₁) + length (Ts s₁)) c.weigh-all.result.covered ≡ b → Star.saves (m s₁) (n s₁) (N s₁) (S s₁) (Ts s₁) (k s₁) (g s₁) ≡ b
-  saves-by b e = ap (ltb (length (S s₁) + length (Ts s₁))) (sym c.weigh-all.ensures.0) ∙ e
+  saves_by : (b : Bool) → ltb (length (S s₁) + length (Ts s₁)) c.weigh_all-weight.result.covered ≡ b → Star.saves (m s₁) (n s₁) (N s₁) (S s₁) (Ts s₁) (k s₁) (g s₁) ≡ b
+  saves_by b e = ap (ltb (length (S s₁) + length (Ts s₁))) (sym c.weigh_all-weight.ensures.0) ∙ e
 
-  near-is : Star.near (m s₁) (n s₁) (N s₁) (S s₁) (Ts s₁) (k s₁) (g s₁) ≡ c.weigh-all.result.in_range
-  near-is = sym c.weigh-all.ensures.1
+  near_is : Star.near (m s₁) (n s₁) (N s₁) (S s₁) (Ts s₁) (k s₁) (g s₁) ≡ c.weigh_all-weight.result.in_range
+  near_is = sym c.weigh_all-weight.ensures.1
 
-returns-6 : tie.Need-returns-6
-returns-6 c =
-    let w = c.before.before in
-    let h = nine (ten w) in
-    let s = s₁ w in
-    Star.refused-13 (m s) (n s) (N s) (S s) (Ts s) (k s) (g s) (past-7 (seven h)) (past-9S h) (past-9T h) (past-8 (ten w)) (past-10 (ten w)) (saves-by w false (not-below _ _ c.if6.true))
+returns-then-weight-sources : tie.Need-returns-then-weight-sources
+returns-then-weight-sources c =
+    let w = c in
+    let h = nine (ten w.before.before) in
+    let s = s₁ w.before.before in
+    Star.refused-13 (m s) (n s) (N s) (S s) (Ts s) (k s) (g s) (past_7 (seven h)) (past_9S h) (past_9T h) (past_8 (ten w.before.before)) (past_10 (ten w.before.before)) (saves_by w.before.before false (not-below _ _ c.if-weight-sources.true))
 
-past-13 : (c : tie.Else6) → let s = s₁ c.before.before in Star.saves (m s) (n s) (N s) (S s) (Ts s) (k s) (g s) ≡ true
-past-13 c = saves-by c.before.before true (is_below _ _ c.if6.false)
+past_13 : (c : tie.Else-weight-sources) → let s = s₁ c.before.before in Star.saves (m s) (n s) (N s) (S s) (Ts s) (k s) (g s) ≡ true
+past_13 c = saves_by c.before.before true (is_below _ _ c.if-weight-sources.false)
 
-returns-7 : tie.Need-returns-7
-returns-7 c =
-    let w = c.before.before.before.before in
-    let h = nine (ten w) in
-    let s = s₁ w in
-    Star.refused-14 (m s) (n s) (N s) (S s) (Ts s) (k s) (g s) (past-7 (seven h)) (past-9S h) (past-9T h) (past-8 (ten w)) (past-10 (ten w)) (past-13 c.before.before) (near-is w ∙ not-true _ c.if7.true)
+returns-then-not-weight : tie.Need-returns-then-not-weight
+returns-then-not-weight c =
+    let w = c in
+    let h = nine (ten w.before.before.before.before) in
+    let s = s₁ w.before.before.before.before in
+    Star.refused-14 (m s) (n s) (N s) (S s) (Ts s) (k s) (g s) (past_7 (seven h)) (past_9S h) (past_9T h) (past_8 (ten w.before.before.before.before)) (past_10 (ten w.before.before.before.before)) (past_13 c.before.before) (near_is w.before.before.before.before ∙ not-true _ c.if-not-weight.true)
 
-returns-8 : tie.Need-returns-8
-returns-8 c =
-    let w = c.before.before.before.before in
-    let h = nine (ten w) in
-    let s = s₁ w in
-    Star.accepted-all (m s) (n s) (N s) (S s) (Ts s) (k s) (g s) (past-7 (seven h)) (past-9S h) (past-9T h) (past-8 (ten w)) (past-10 (ten w)) (past-13 c.before.before) (near-is w ∙ not-false _ c.if7.false)
+returns : tie.Need-returns
+returns c =
+    let w = c in
+    let h = nine (ten w.before.before.before.before) in
+    let s = s₁ w.before.before.before.before in
+    Star.accepted-all (m s) (n s) (N s) (S s) (Ts s) (k s) (g s) (past_7 (seven h)) (past_9S h) (past_9T h) (past_8 (ten w.before.before.before.before)) (past_10 (ten w.before.before.before.before)) (past_13 c.before.before) (near_is w.before.before.before.before ∙ not-false _ c.if-not-weight.false)
 
-pub star-verdict-spec : {M : Type 1} → statement M
-star-verdict-spec =
+pub star_verdict_spec : {M : Type 1} → statement M
+star_verdict_spec =
     tie.close
     (tie.spec
     (λ c κs. tt)
-    returns
-    is-set-requires
-    returns-2
-    is-set-requires-2
-    returns-3
-    is-free-requires
-    returns-4
-    all-joined-requires
-    returns-5
-    weigh-all-requires
+    returns-then-not-exist
+    is_set-requires
+    returns-then-not-is_set
+    is_set-requires-2
+    returns-then-not-is_set-2
+    is_free-requires
+    returns-then-not-is_free
+    all_joined-requires
+    returns-then-not-all_joined
+    weigh_all-weight-requires
     (λ c. search rules)
-    returns-6
-    returns-7
-    returns-8)
+    returns-then-weight-sources
+    returns-then-not-weight
+    returns)

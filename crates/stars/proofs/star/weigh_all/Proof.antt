@@ -32,10 +32,10 @@ saved n table sources targets s = sum n (λ t. cond (covered sources targets (gr
 abbrev near : ℕ → List ℤ → List ℕ → List ℕ → ℕ → Bool
 near n table sources targets s = fits delay_limit (to_centre sources targets (graph_of n table) s)
 
-abbrev invariant-loop : tie.invariant-loop
+abbrev invariant-loop : tie.invariant-loop-i
 invariant-loop table sources targets n first covered₀ in-range₀ i₀ covered in-range i = (i ≤ length sources) × (covered ≤ 90 * i) × (covered + sum_over (drop i sources) (saved n table sources targets) ≡ sum_over sources (saved n table sources targets)) × ((in-range && each (drop i sources) (near n table sources targets)) ≡ each sources (near n table sources targets))
 
-abbrev decreases-loop : tie.decreases-loop
+abbrev decreases-loop : tie.decreases-loop-i
 decreases-loop table sources targets n first covered₀ in-range₀ i₀ covered in-range i = length sources - i
 
 module _ (s : tie.Start invariant-loop decreases-loop) where
@@ -52,13 +52,13 @@ module _ (s : tie.Start invariant-loop decreases-loop) where
   Ts = s.args.targets.now
 
   bundle : Bundle n S Ts (graph_of n t)
-  bundle = s.pre.1
+  bundle = s.requires.1
 
   room : n * n ≤ length t
-  room = s.pre.0.room
+  room = s.requires.0.room
 
   few : n ≤ 90
-  few = s.pre.0.sized.few
+  few = s.requires.0.sized.few
 
   some : 0 < length S
   some = some-member S bundle.sources.some
@@ -69,134 +69,134 @@ module _ (s : tie.Start invariant-loop decreases-loop) where
   row : (i : ℕ) → i < length S → n * get_or S i 0 + n ≤ n * n
   row i l = row_in n (get_or S i 0) (low i l)
 
-shared-slice-read-row-copy : tie.Need-shared-slice-read-row-copy invariant-loop decreases-loop
-shared-slice-read-row-copy c = some c.before.before.before
+bounds-sources-0 : tie.Need-bounds-sources-0 invariant-loop decreases-loop
+bounds-sources-0 c = some c.before.before.before
 
-mul-row-copy : tie.Need-overflow-mul-row-copy invariant-loop decreases-loop
-mul-row-copy c = let s = c.before.before.before in omega (arith, row s 0 (some s), room s)
+overflow_mul-n : tie.Need-overflow_mul-n invariant-loop decreases-loop
+overflow_mul-n c = let s = c in omega (arith, row s.before.before.before 0 (some s.before.before.before), room s.before.before.before)
 
-row-copy-requires : tie.Need-row-copy-requires invariant-loop decreases-loop
-row-copy-requires c κs = let s = c.before.before.before in (few s, omega (arith, row s 0 (some s), room s))
+row_copy-first-requires : tie.Need-row_copy-first-requires invariant-loop decreases-loop
+row_copy-first-requires c κs = let s = c in (few s.before.before.before, omega (arith, row s.before.before.before 0 (some s.before.before.before), room s.before.before.before))
 
-loop-holds : tie.Need-loop-init invariant-loop decreases-loop
-loop-holds c = (omega arith, omega arith, omega arith, refl)
+loop-i-init : tie.Need-loop-i-init invariant-loop decreases-loop
+loop-i-init c = (omega arith, omega arith, omega arith, refl)
 
-module _ (c : tie.In-loop invariant-loop decreases-loop) where
+module _ (c : tie.In-loop-i invariant-loop decreases-loop) where
   abbrev start : tie.Start invariant-loop decreases-loop
   start = c.before.before.before.before.before.before
 
   abbrev i : ℕ
-  i = c.before.loop.i
+  i = c.loop-i.i
 
   abbrev u : ℕ
   u = get_or (S start) i 0
 
   abbrev cells : List ℤ
-  cells = lent (n start) (t start) u (room start) (low start i c.loop-test.true)
+  cells = lent (n start) (t start) u (room start) (low start i c.loop-i-test.true)
 
   abbrev first : List ℤ
-  first = c.before.before.row-copy.result
+  first = c.row_copy-first.result
 
   inside : n start * u + n start ≤ length (t start)
-  inside = omega (arith, row start i c.loop-test.true, room start)
+  inside = omega (arith, row start i c.loop-i-test.true, room start)
 
   head : (v : ℕ) → v < n start → cell_at first v ≡ graph_of (n start) (t start) (first_of (S start)) v
-  head = first_row (n start) (t start) (S start) first (low start 0 (some start)) c.before.before.row-copy.ensures
+  head = first_row (n start) (t start) (S start) first (low start 0 (some start)) c.row_copy-first.ensures
 
-mul-at-2 : tie.Need-overflow-mul-at-2 invariant-loop decreases-loop
-mul-at-2 c = omega (arith, inside c.before)
+overflow_mul-at : tie.Need-overflow_mul-at invariant-loop decreases-loop
+overflow_mul-at c = omega (arith, inside c.before)
 
-mul-weigh : tie.Need-overflow-mul-weigh invariant-loop decreases-loop
-mul-weigh c = omega (arith, inside c.before)
+offset_bounds-table-at : tie.Need-offset_bounds-table-at invariant-loop decreases-loop
+offset_bounds-table-at c = omega (arith, inside c.before)
 
-sub-weigh : tie.Need-overflow-sub-weigh invariant-loop decreases-loop
-sub-weigh c = omega (arith, inside c.before)
+slice_bounds-weigh-count : tie.Need-slice_bounds-weigh-count invariant-loop decreases-loop
+slice_bounds-weigh-count c = omega (arith, inside c.before)
 
-part-weigh-start : tie.Need-slice-bounds-weigh-start invariant-loop decreases-loop
-part-weigh-start c = omega (arith, inside c.before)
+slice_bounds-weigh-start : tie.Need-slice_bounds-weigh-start invariant-loop decreases-loop
+slice_bounds-weigh-start c = omega (arith, inside c.before)
 
-weigh-requires : tie.Need-weigh-requires invariant-loop decreases-loop
-weigh-requires c κs =
-    let i = c.before.before.before in
-    let s = start i in (below_wider (n s) _ (Ts s) (lent_long (n s) (t s) (u i) (room s) (low s _ i.loop-test.true)) (bundle s).targets.under, (below_wider (n s) 90 (Ts s) (few s) (bundle s).targets.under, (bundle s).targets.some))
+weigh-one-requires : tie.Need-weigh-one-requires invariant-loop decreases-loop
+weigh-one-requires c κs =
+    let i = c in
+    let s = start i.before.before.before in (below_wider (n s) _ (Ts s) (lent_long (n s) (t s) (u i.before.before.before) (room s) (low s _ i.loop-i-test.true)) (bundle s).targets.under, (below_wider (n s) 90 (Ts s) (few s) (bundle s).targets.under, (bundle s).targets.some))
 
-module _ (c : tie.After-weigh invariant-loop decreases-loop) where
-  abbrev turn : tie.In-loop invariant-loop decreases-loop
+module _ (c : tie.After-weigh-one invariant-loop decreases-loop) where
+  abbrev turn : tie.In-loop-i invariant-loop decreases-loop
   turn = c.before.before.before.before
 
   abbrev st : tie.Start invariant-loop decreases-loop
   st = start turn
 
   source : T (member (u turn) (S st))
-  source = member_at (S st) (i turn) turn.loop-test.taken
+  source = member_at (S st) (i turn) turn.loop-i-test.true
 
   row_is : (v : ℕ) → v < n st → cell_at (cells turn) v ≡ graph_of (n st) (t st) (u turn) v
-  row_is = lent_cell (n st) (t st) (u turn) (room st) (low st (i turn) turn.loop-test.taken)
+  row_is = lent_cell (n st) (t st) (u turn) (room st) (low st (i turn) turn.loop-i-test.true)
 
-  saved-is : saved (n st) (t st) (S st) (Ts st) (u turn) ≡ c.weigh.result.covered
-  saved-is = row_sum (bundle st) (first turn) (head turn) (u turn) source (cells turn) row_is ∙ sym c.weigh.ensures.0
+  saved_is : saved (n st) (t st) (S st) (Ts st) (u turn) ≡ c.weigh-one.result.covered
+  saved_is = row_sum (bundle st) (first turn) (head turn) (u turn) source (cells turn) row_is ∙ sym c.weigh-one.ensures.0
 
-  near-is : near (n st) (t st) (S st) (Ts st) (u turn) ≡ c.weigh.result.in_range
-  near-is = ap (fits delay_limit) (sym (gap_is (bundle st) (first turn) (head turn) (u turn) source (cells turn) row_is)) ∙ sym c.weigh.ensures.1
+  near_is : near (n st) (t st) (S st) (Ts st) (u turn) ≡ c.weigh-one.result.in_range
+  near_is = ap (fits delay_limit) (sym (gap_is (bundle st) (first turn) (head turn) (u turn) source (cells turn) row_is)) ∙ sym c.weigh-one.ensures.1
 
-  small : c.weigh.result.covered ≤ 90
-  small = omega (arith, c.weigh.ensures.0, meeting_few (cells turn) (first turn) (Ts st) (ticks (least_gap (cells turn) (first turn) (Ts st))), set-size (n st) (Ts st) (bundle st).targets.under (bundle st).targets.apart, few st)
+  small : c.weigh-one.result.covered ≤ 90
+  small = omega (arith, c.weigh-one.ensures.0, meeting_few (cells turn) (first turn) (Ts st) (ticks (least_gap (cells turn) (first turn) (Ts st))), set-size (n st) (Ts st) (bundle st).targets.under (bundle st).targets.apart, few st)
 
   short : i turn < 90
-  short = omega (arith, turn.loop-test.taken, set-size (n st) (S st) (bundle st).sources.under (bundle st).sources.apart, few st)
+  short = omega (arith, turn.loop-i-test.true, set-size (n st) (S st) (bundle st).sources.under (bundle st).sources.apart, few st)
 
-add-covered : tie.Need-overflow-add-covered invariant-loop decreases-loop
-add-covered c = omega (arith, small c.before, short c.before, (turn c.before).before.loop.inv.1)
+overflow_add-covered : tie.Need-overflow_add-covered invariant-loop decreases-loop
+overflow_add-covered c = omega (arith, small c.before, short c.before, (turn c.before).loop-i.invariant.1)
 
-add-i : tie.Need-overflow-add-i invariant-loop decreases-loop
-add-i c = omega (arith, short c.before.before.before)
+overflow_add-i : tie.Need-overflow_add-i invariant-loop decreases-loop
+overflow_add-i c = omega (arith, short c.before.before.before)
 
-loop-less : tie.Need-loop-smaller invariant-loop decreases-loop
-loop-less c = omega (arith, (turn c.before.before.before).loop-test.taken)
+loop-i-smaller : tie.Need-loop-i-smaller invariant-loop decreases-loop
+loop-i-smaller c = omega (arith, (turn c.before.before.before).loop-i-test.true)
 
-loop-again : tie.Need-loop-preserved invariant-loop decreases-loop
-loop-again c =
-    let w = c.before.before.before in
-    let l = (turn w).before.loop in
-    let s = st w in
+loop-i-preserved : tie.Need-loop-i-preserved invariant-loop decreases-loop
+loop-i-preserved c =
+    let w = c in
+    let l = (turn w.before.before.before).loop-i in
+    let s = st w.before.before.before in
     let f = near (n s) (t s) (S s) (Ts s) in (
-      omega (arith, (turn w).loop-test.true),
-      omega (arith, small w, l.inv.1),
-      omega (arith, saved-is w, l.inv.2, sum_over_turn (S s) l.i (turn w).loop-test.true (saved (n s) (t s) (S s) (Ts s))),
-      split c.if1.branch
-          (λ y. ap (λ (r : Bool). r && each (drop (l.i + 1) (S s)) f) y.1 ∙ so_far_stop (S s) l.i (turn w).loop-test.true f l.in_range (near-is w ∙ not-true _ y.0.taken) l.inv.3)
-          (λ y. ap (λ (r : Bool). r && each (drop (l.i + 1) (S s)) f) y.1 ∙ so_far_pass (S s) l.i (turn w).loop-test.true f l.in_range (near-is w ∙ not-false _ y.0.left) l.inv.3),
+      omega (arith, (turn w.before.before.before).loop-i-test.true),
+      omega (arith, small w.before.before.before, l.invariant.1),
+      omega (arith, saved_is w.before.before.before, l.invariant.2, sum_over_turn (S s) l.i (turn w.before.before.before).loop-i-test.true (saved (n s) (t s) (S s) (Ts s))),
+      split c.if-not-one.branch-raw
+          (λ y. ap (λ (r : Bool). r && each (drop (l.i + 1) (S s)) f) y.in_range-is ∙ so_far_stop (S s) l.i (turn w.before.before.before).loop-i-test.true f l.in_range (near_is w.before.before.before ∙ not-true _ y.if-not-one.true) l.invariant.3)
+          (λ y. ap (λ (r : Bool). r && each (drop (l.i + 1) (S s)) f) y.in_range-is ∙ so_far_pass (S s) l.i (turn w.before.before.before).loop-i-test.true f l.in_range (near_is w.before.before.before ∙ not-false _ y.if-not-one.false) l.invariant.3),
     )
 
 returns : tie.Need-returns invariant-loop decreases-loop
 returns c =
-    let l = c.before.loop in
-    let s = c.before.before.before.before.before.before in
-    let f = near (n s) (t s) (S s) (Ts s) in (
-      omega (arith, l.invariant.2, sum_over_end (S s) l.i c.loop-test.false (saved (n s) (t s) (S s) (Ts s)), all_sum (bundle s)),
-      sym (and_end l.in_range) ∙ ap (λ (b : Bool). l.in_range && b) (sym (each_end (S s) l.i c.loop-test.false f)) ∙ l.invariant.3,
+    let l = c.loop-i in
+    let s = c in
+    let f = near (n s.before.before.before.before.before.before) (t s.before.before.before.before.before.before) (S s.before.before.before.before.before.before) (Ts s.before.before.before.before.before.before) in (
+      omega (arith, l.invariant.2, sum_over_end (S s.before.before.before.before.before.before) l.i c.loop-i-test.false (saved (n s.before.before.before.before.before.before) (t s.before.before.before.before.before.before) (S s.before.before.before.before.before.before) (Ts s.before.before.before.before.before.before)), all_sum (bundle s.before.before.before.before.before.before)),
+      sym (and_end l.in_range) ∙ ap (λ (b : Bool). l.in_range && b) (sym (each_end (S s.before.before.before.before.before.before) l.i c.loop-i-test.false f)) ∙ l.invariant.3,
     )
 
-pub weigh-all-spec : {M : Type 1} → statement M
-weigh-all-spec =
+pub weigh_all_spec : {M : Type 1} → statement M
+weigh_all_spec =
     tie.close
     (tie.spec
     invariant-loop
     decreases-loop
-    shared-slice-read-row-copy
-    mul-row-copy
-    row-copy-requires
-    loop-holds
+    bounds-sources-0
+    overflow_mul-n
+    row_copy-first-requires
+    loop-i-init
     (λ c. omega arith)
     (λ c. omega arith)
-    mul-at-2
-    mul-weigh
-    sub-weigh
-    part-weigh-start
+    overflow_mul-at
+    offset_bounds-table-at
+    slice_bounds-weigh-count
+    slice_bounds-weigh-start
     (λ c. omega arith)
-    weigh-requires
-    add-covered
-    add-i
-    loop-less
-    loop-again
+    weigh-one-requires
+    overflow_add-covered
+    overflow_add-i
+    loop-i-smaller
+    loop-i-preserved
     returns)
