@@ -17,7 +17,7 @@ WORD = r"[^\s(){}.;,@\"«»]+"
 
 
 # names that tools/snake_names.py respelled: a row each, old, a tab, new
-SNAKE = dict(l.rstrip("\n").split("\t") for l in open(os.environ["SNAKE"])) if os.environ.get("SNAKE") else {}
+SNAKE = dict(l.rstrip("\n").split("\t") for l in open(os.path.join(os.path.dirname(os.path.abspath(__file__)), "snake_names.tsv")))
 
 
 def norm(s):
@@ -203,6 +203,10 @@ class File:
             if f.endswith("_lem"):
                 # a step whose name a lemma had too
                 return self.field(place, [f[:-4]] + rest[1:], here)
+            if f[-1:].isdigit() and not f[-2:-1].isdigit() and self.known(f[:-1]):
+                for i in start:
+                    if norm(n.places[i][2][0]) == norm(f[:-1]):
+                        return [n.places[i][2][1]] + self.inner(i, rest[1:])
             return rest
         # an arm that is one step now
         if place is not None:
@@ -438,6 +442,10 @@ class File:
             if b[i].startswith("module "):
                 self.module_signatures(b[i:])
                 continue
+            for l in b[i + 1 :]:
+                m = re.match(rf"^ +({WORD}) : (.*\btie\..*→.*)$", l)
+                if m:
+                    self.signature(m[1], m[2])
             m = decl.match(b[i])
             if m:
                 self.signature(m[2], m[3])
@@ -571,8 +579,13 @@ class File:
         for a in re.finditer(rf"\(((?:{WORD} )+): tie\.({WORD})", typ):
             for v in a[1].split():
                 senv[v] = self.pair(self.n.place(a[2]))
+        more = 0
+        while i + 1 + more < len(b) and b[i + 1 + more].startswith(indent + "  "):
+            more += 1
+        typ = "\n".join([typ] + b[i + 1 : i + 1 + more])
         new_sig = m[1] + name + " : " + self.body(typ, senv)
-        head = b[:i] + [indent + new_sig]
+        head = b[:i] + (indent + new_sig).split("\n")
+        b = b[: i + 1] + b[i + 1 + more :]
         body = "\n".join(b[i + 1 :])
         # clauses
         parts = re.split(rf"(?m)^({re.escape(indent)}{re.escape(name)}(?= ))", body)

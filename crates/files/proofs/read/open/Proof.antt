@@ -11,7 +11,7 @@ use Rattle.files.proofs.read.open.Statement.{statement}
 use Rattle.files.proofs.read.open.Tie as tie
 
 returns-then-not-fits : tie.Need-returns-then-not-fits
-returns-then-not-fits c = refusal _ (opened-not _ _ _ _ (sym c.fits2.ensures ∙ not-true _ c.if-not-fits.true-raw))
+returns-then-not-fits c = refusal _ (opened-not _ _ _ _ (sym c.fits.ensures ∙ not-true _ c.if-not-fits.true-raw))
 
 -- the library passes, and the first record is read
 module _ (c : tie.After-first_record-header) where
@@ -19,7 +19,7 @@ module _ (c : tie.After-first_record-header) where
   header_is x e = sym c.first_record-header.ensures ∙ ap header_meaning e
 
   in_force : InForce c.args.library.now
-  in_force = true_is (sym c.fits2.ensures ∙ not-false _ c.if-not-fits.false-raw)
+  in_force = true_is (sym c.fits.ensures ∙ not-false _ c.if-not-fits.false-raw)
 
 returns-in-Sizes : tie.Need-returns-in-Sizes
 returns-in-Sizes c =

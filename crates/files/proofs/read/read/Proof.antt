@@ -16,7 +16,7 @@ said c r e = sym c.open-opened.ensures.answer ∙ ap open_meaning e
 load-loaded-requires : tie.Need-load-loaded-requires
 load-loaded-requires c κs =
     let a = c in
-    ((a.open-opened.ensures.lent _ c.in-Board.is).0, (opened_long _ _ _ _ _ (said a _ c.in-Board.is), (a.open-opened.ensures.lent _ c.in-Board.is).1))
+    ((a.open-opened.ensures.lent _ c.in-Board.is).0, (opened_long _ _ _ _ _ (said a.before.before _ c.in-Board.is), (a.open-opened.ensures.lent _ c.in-Board.is).1))
 
 returns-in-Done : tie.Need-returns-in-Done
 returns-in-Done c =

@@ -15,7 +15,7 @@ entry_turn-requires : tie.Need-entry_turn-requires
 entry_turn-requires c κs =
     let i = c in
     let s = i in
-    let l = known s _ i.in-Ticks.is in
+    let l = known s.before.before.before _ i.in-Ticks.is in
     (omega (arith, l.1), (omega arith, s.requires.0.few))
 
 end_turn-requires : tie.Need-end_turn-requires
@@ -25,7 +25,7 @@ returns-in-Ticks : tie.Need-returns-in-Ticks
 returns-in-Ticks c =
     let i = c in
     let s = i in
-    record_is entry_shape s.args.bytes.now i.in-Ticks.is (known s _ i.in-Ticks.is).0 c.entry_turn.ensures
+    record_is entry_shape s.args.bytes.now i.in-Ticks.is (known s.before.before.before.before _ i.in-Ticks.is).0 c.entry_turn.ensures
 
 returns-in-End : tie.Need-returns-in-End
 returns-in-End c =

@@ -11,7 +11,7 @@ use Rattle.files.proofs.scan.known_at.Statement.{statement}
 use Rattle.files.proofs.scan.known_at.Tie as tie
 
 found : (c : tie.After-record_at-found) (x : Found) → c.record_at-found.result ≡ x → let a = c.args in known_at a.library.now a.n a.bytes.now a.at ≡ (found_meaning x then known a.library.now)
-found c x e = let a = c.before.before.args in ap (λ (v : Verdict Record). v then known a.library.now) (said found_meaning c.record_at-found.ensures e)
+found c x e = let a = c.args in ap (λ (v : Verdict Record). v then known a.library.now) (said found_meaning c.record_at-found.ensures e)
 
 returns-in-Record : tie.Need-returns-in-Record
 returns-in-Record c =

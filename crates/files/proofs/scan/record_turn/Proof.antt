@@ -30,7 +30,7 @@ cell_of-requires : tie.Need-cell_of-requires
 cell_of-requires c κs =
     let i = c in
     let s = i in
-    let l = known s _ i.in-Arc.is in
+    let l = known s.before.before _ i.in-Arc.is in
     (s.requires.0, (l.1, l.2))
 
 entry_turn-requires : tie.Need-entry_turn-requires
@@ -42,7 +42,7 @@ cell_of-requires-in-Cell : tie.Need-cell_of-requires-in-Cell
 cell_of-requires-in-Cell c κs =
     let i = c in
     let s = i in
-    let l = known s _ i.in-Cell.is in
+    let l = known s.before.before _ i.in-Cell.is in
     (s.requires.0, (l.1, l.2))
 
 entry_turn-requires-in-Cell : tie.Need-entry_turn-requires-in-Cell
@@ -57,13 +57,13 @@ returns-in-Arc : tie.Need-returns-in-Arc
 returns-in-Arc c =
     let i = c in
     let s = i in
-    record_is (board_shape s.args.n) s.args.bytes.now i.in-Arc.is (known s _ i.in-Arc.is).0 (placed_at c.cell_of.ensures.0 c.entry_turn.ensures)
+    record_is (board_shape s.args.n) s.args.bytes.now i.in-Arc.is (known s.before.before.before.before.before _ i.in-Arc.is).0 (placed_at c.cell_of.ensures.0 c.entry_turn.ensures)
 
 returns-in-Cell : tie.Need-returns-in-Cell
 returns-in-Cell c =
     let i = c in
     let s = i in
-    record_is (board_shape s.args.n) s.args.bytes.now i.in-Cell.is (known s _ i.in-Cell.is).0 (placed_at c.cell_of-in-Cell.ensures.0 c.entry_turn-in-Cell.ensures)
+    record_is (board_shape s.args.n) s.args.bytes.now i.in-Cell.is (known s.before.before.before.before.before _ i.in-Cell.is).0 (placed_at c.cell_of-in-Cell.ensures.0 c.entry_turn-in-Cell.ensures)
 
 returns-in-End : tie.Need-returns-in-End
 returns-in-End c =

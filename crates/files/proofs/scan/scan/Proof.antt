@@ -54,9 +54,9 @@ byte-u-requires : tie.Need-byte-u-requires invariant-records decreases-records
 byte-u-requires c κs = (on c).read
 
 -- its source has been read
-module _ (c : tie.After-slice_known-in-On-1 invariant-records decreases-records) where
+module _ (c : tie.After-byte-u invariant-records decreases-records) where
   abbrev k : tie.After-struct_known-1 invariant-records decreases-records
-  k = c.before.before
+  k = c.before
 
   source_is : c.byte-u.result ≡ (on k).u
   source_is = c.byte-u.ensures.0 ∙ (on k).source_is
@@ -68,32 +68,32 @@ module _ (c : tie.After-slice_known-in-On-1 invariant-records decreases-records)
   place = omega (arith, source_is, (on k).from_in, room)
 
 bounds-loads-u : tie.Need-bounds-loads-u invariant-records decreases-records
-bounds-loads-u c = place c
+bounds-loads-u c = place c.before
 
 overflow_add-loads : tie.Need-overflow_add-loads invariant-records decreases-records
 overflow_add-loads c =
-    let o = k c in
+    let o = k c.before in
     let loads = (l o).records.loads in
-    record { fits = omega (arith, ap (λ (u : ℕ). get_or loads u 0) (source_is c), counts_few _ _ loads _ (l o).records.invariant.2 (d o) (on o), (start o).requires.1.0) }
+    record { fits = omega (arith, ap (λ (u : ℕ). get_or loads u 0) (source_is c.before), counts_few _ _ loads _ (l o).records.invariant.2 (d o) (on o), (start o).requires.1.0) }
 
 bounds-loads-u-in-On : tie.Need-bounds-loads-u-in-On invariant-records decreases-records
-bounds-loads-u-in-On c = place c
+bounds-loads-u-in-On c = place c.before
 
 further : (c : tie.After-struct_known-1 invariant-records decreases-records) → ((l c).records.cursor.at < (d c).at) × InFile (length (start c).args.bytes.now) (d c)
 further c = (turned c).turn-turned.ensures.further (d c) (said c)
 
 records-smaller : tie.Need-records-smaller invariant-records decreases-records
-records-smaller c = let f = further (k c) in omega (arith, f.0, f.1.inside)
+records-smaller c = let f = further (k c.before) in omega (arith, f.0, f.1.inside)
 
 records-preserved : tie.Need-records-preserved invariant-records decreases-records
 records-preserved c =
-    let o = k c in
+    let o = k c.before in
     let i = (l o).records.invariant in
     let loads = (l o).records.loads in
     let f = further o in (
       still_left _ _ _ (known_short (start o).args.library.now (start o).args.n (start o).args.bytes.now) i.0 (turned o).turn-turned.ensures _ (said o),
       length-set loads _ _ ∙ i.1,
-      subst (λ (u : ℕ). Counting (start o).args.n (start o).args.bytes.now (set loads u (get_or loads u 0 + 1)) (d o)) (sym (source_is c)) (counting_turn _ _ loads _ i.2 (d o) (on o) (room c) f.0 f.1.inside),
+      subst (λ (u : ℕ). Counting (start o).args.n (start o).args.bytes.now (set loads u (get_or loads u 0 + 1)) (d o)) (sym (source_is c.before)) (counting_turn _ _ loads _ i.2 (d o) (on o) (room c.before) f.0 f.1.inside),
     )
 
 shape_of-loads-in-Done : tie.Need-shape_of-loads-in-Done invariant-records decreases-records

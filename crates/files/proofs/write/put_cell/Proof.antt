@@ -50,8 +50,8 @@ module _ (c : tie.Then-is_arc) where
   legal : DelayInRange (to_z w32 (of_z w32 s.args.cell))
   legal = subst (λ (d : Delay). T (fits delay_limit d)) (arc_cell s.args.cell is_arc ∙ ap (λ (z : ℤ). at z) (sym (held c.before))) s.requires.1.1.0
 
-  arc_as : (f : Form) → s.args.form ≡ f → arc_as f handed ≡ arcs_as s.args.form (arc_in s.args.u s.args.v (read_cell absent_cell s.args.cell))
-  arc_as f e =
+  arc_as_lem : (f : Form) → s.args.form ≡ f → arc_as f handed ≡ arcs_as s.args.form (arc_in s.args.u s.args.v (read_cell absent_cell s.args.cell))
+  arc_as_lem f e =
       ap (λ (z : ℤ). arc_as f (record { from = s.args.u; to = s.args.v; delay = z })) (held c.before)
       ∙ sym (cell_arc f s.args.u s.args.v s.args.cell is_arc)
       ∙ ap (λ (h : Form). arcs_as h (arc_in s.args.u s.args.v (read_cell absent_cell s.args.cell))) (sym e)
@@ -60,25 +60,25 @@ put_arc-requires : tie.Need-put_arc-requires
 put_arc-requires c κs =
     let k = c in
     let t = k in
-    ((s t.before.before).requires.0, ((s t.before.before).requires.1.0, omega (arith, (s t.before.before).requires.1.1.1, ap length (arc_as t.before.before F.Record k.in-Record.is))))
+    ((s t.before.before).requires.0, ((s t.before.before).requires.1.0, omega (arith, (s t.before.before).requires.1.1.1, ap length (arc_as_lem t.before.before F.Record k.in-Record.is))))
 
 arc_line-requires : tie.Need-arc_line-requires
 arc_line-requires c κs =
     let k = c in
     let t = k in
-    ((s t.before.before).requires.0, ((s t.before.before).requires.1.0, (legal t.before.before, omega (arith, (s t.before.before).requires.1.1.1, ap length (arc_as t.before.before F.Line k.in-Line.is)))))
+    ((s t.before.before).requires.0, ((s t.before.before).requires.1.0, (legal t.before.before, omega (arith, (s t.before.before).requires.1.1.1, ap length (arc_as_lem t.before.before F.Line k.in-Line.is)))))
 
 returns-in-Record : tie.Need-returns-in-Record
 returns-in-Record c =
     let a = c in
     let k = a in
-    appends_same (arc_as k.before.before.before.before.before F.Record k.in-Record.is) a.put_arc.ensures
+    appends_same (arc_as_lem k.before.before.before.before.before F.Record k.in-Record.is) a.put_arc.ensures
 
 returns-in-Line : tie.Need-returns-in-Line
 returns-in-Line c =
     let a = c in
     let k = a in
-    appends_same (arc_as k.before.before.before.before.before F.Line k.in-Line.is) a.arc_line.ensures
+    appends_same (arc_as_lem k.before.before.before.before.before F.Line k.in-Line.is) a.arc_line.ensures
 
 returns : tie.Need-returns
 returns c = let s = start c.before in appends_same (sym (cell_none s.args.form s.args.u s.args.v s.args.cell (said c.before ∙ c.if-is_arc.false))) appends_none

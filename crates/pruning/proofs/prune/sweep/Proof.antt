@@ -68,7 +68,7 @@ module _ (t : tie.In-loop-p invariant-loop decreases-loop) where
       subst (λ (k : ℕ). A.Going (s h).args.board j (s h).args.table.now w.passable.order.rank (s h).args.f.now h.loop-p.f (s h).args.marks.now h.loop-p.marks k) e (h.loop-p.invariant j w)
 
   vertex : x < n h
-  vertex = A.x-in (S h) h.loop-p.f h.loop-p.marks q (going (i h) (S h))
+  vertex = A.x_in (S h) h.loop-p.f h.loop-p.marks q (going (i h) (S h))
 
   row : n h * x + n h ≤ n h * n h
   row = row_in (n h) x vertex
@@ -183,7 +183,7 @@ loop-p-preserved-then-not-is_alive : tie.Need-loop-p-preserved-then-not-is_alive
 loop-p-preserved-then-not-is_alive c j w =
     let e = c in
     let t = now e.before in
-    A.turn-dead w (h t).loop-p.f (h t).loop-p.marks (q t) (going t j w) (s (h t)).requires.1.0 (ys e.before) (r e.before).mark_row-found.result e.is_alive.result (marked e.before j w) (other_bits w64 (k e.before).if-a.true) e.is_alive.ensures (r e.before).mark_row-found.auto.marks
+    A.turn_dead w (h t).loop-p.f (h t).loop-p.marks (q t) (going t j w) (s (h t)).requires.1.0 (ys e.before) (r e.before).mark_row-found.result e.is_alive.result (marked e.before j w) (other_bits w64 (k e.before).if-a.true) e.is_alive.ensures (r e.before).mark_row-found.auto.marks
     (not-true _ c.if-not-is_alive.true-raw)
 
 loop-p-smaller-else-not-is_alive : tie.Need-loop-p-smaller-else-not-is_alive invariant-loop decreases-loop
@@ -193,7 +193,7 @@ loop-p-preserved-else-not-is_alive : tie.Need-loop-p-preserved-else-not-is_alive
 loop-p-preserved-else-not-is_alive c j w =
     let e = c in
     let t = now e.before in
-    A.turn-alive w (h t).loop-p.f (h t).loop-p.marks (q t) (going t j w) (s (h t)).requires.1.0 (ys e.before) (r e.before).mark_row-found.result e.is_alive.result (marked e.before j w) (other_bits w64 (k e.before).if-a.true) e.is_alive.ensures (r e.before).mark_row-found.auto.marks
+    A.turn_alive w (h t).loop-p.f (h t).loop-p.marks (q t) (going t j w) (s (h t)).requires.1.0 (ys e.before) (r e.before).mark_row-found.result e.is_alive.result (marked e.before j w) (other_bits w64 (k e.before).if-a.true) e.is_alive.ensures (r e.before).mark_row-found.auto.marks
     (not-false _ c.if-not-is_alive.false-raw)
 
 loop-p-smaller : tie.Need-loop-p-smaller invariant-loop decreases-loop

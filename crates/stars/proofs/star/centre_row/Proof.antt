@@ -28,7 +28,7 @@ loop-i-init : tie.Need-loop-i-init invariant-loop decreases-loop
 loop-i-init c = let row = c.args.row.now in let ts = c.args.targets.now in (omega arith, refl, rewriting_start ts (old row) (centre_cell row c.args.first.now ts) row (λ v. refl) (centre_other row c.args.first.now ts))
 
 inside : (c : tie.In-loop-i invariant-loop decreases-loop) → let l = c in let s = l in
-    get_or s.args.targets.now l.loop.i 0 < length s.args.row.now
+    get_or s.args.targets.now l.loop-i.i 0 < length s.args.row.now
 inside c = let l = c in let s = l in below_at _ _ s.requires.0.under l.loop-i.i c.loop-i-test.true
 
 offset_bounds-first-t : tie.Need-offset_bounds-first-t invariant-loop decreases-loop

@@ -30,7 +30,7 @@ loop-i-init : tie.Need-loop-i-init invariant-loop decreases-loop
 loop-i-init c = (omega arith, omega arith, omega arith)
 
 inside : (c : tie.In-loop-i invariant-loop decreases-loop) → let l = c in let s = l in
-    (get_or s.args.targets.now l.loop.i 0 < length s.args.row.now) × (get_or s.args.targets.now l.loop.i 0 < 90)
+    (get_or s.args.targets.now l.loop-i.i 0 < length s.args.row.now) × (get_or s.args.targets.now l.loop-i.i 0 < 90)
 inside c = let l = c in let s = l in (below_at _ _ s.requires.0 l.loop-i.i c.loop-i-test.true, below_at _ _ s.requires.1 l.loop-i.i c.loop-i-test.true)
 
 offset_bounds-row-t : tie.Need-offset_bounds-row-t invariant-loop decreases-loop
