@@ -6,17 +6,22 @@ use Rattle.steps.specs.Reduces.{counted}
 use Rattle.steps.proofs.answer.counted.Statement.{statement}
 use Rattle.steps.proofs.answer.counted.Tie as tie
 
-returns : tie.Need-returns
-returns c =
-    let f = c.before in
-    let s = f.before.before in
-    ap A.Left c.arcs.ensures ∙ ap (λ (x : Fit). counted s.args.board.vertices x s.args.table.now) (sym f.enum_told.given.1)
+returns-in-Accepted : tie.Need-returns-in-Accepted
+returns-in-Accepted c =
+    let f = c in
+    let s = f in
+    ap A.Left c.arcs.ensures ∙ ap (λ (x : Fit). counted s.args.board.vertices x s.args.table.now) (sym f.in-Accepted.is)
 
-returns-2 : tie.Need-returns-2
-returns-2 c =
-    let f = c.before in
-    let s = f.before.before in
-    ap (λ (x : Fit). counted s.args.board.vertices x s.args.table.now) (sym f.fit.given.1)
+returns-in-Refused : tie.Need-returns-in-Refused
+returns-in-Refused c =
+    let f = c in
+    let s = f in
+    ap (λ (x : Fit). counted s.args.board.vertices x s.args.table.now) (sym f.in-Refused.is)
 
 pub counted_spec : {M : Type 1} → statement M
-counted_spec = tie.close (tie.spec (λ c. search rules) (λ c κs. search rules) (λ c. search rules) returns returns-2)
+counted_spec = tie.close (tie.spec
+    (λ c. search rules)
+    (λ c κs. search rules)
+    (λ c. search rules)
+    returns-in-Accepted
+    returns-in-Refused)

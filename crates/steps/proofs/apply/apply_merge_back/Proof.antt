@@ -12,50 +12,50 @@ use Rattle.steps.proofs.Ready.{merge_ready}
 use Rattle.steps.proofs.apply.apply_merge_back.Statement.{statement}
 use Rattle.steps.proofs.apply.apply_merge_back.Tie as tie
 
-merge-back-verdict-requires : tie.Need-merge-back-verdict-requires
-merge-back-verdict-requires c κs = (c.before.requires.lent, sound_fits c.before.requires.sound)
+merge_back_verdict-driven-requires : tie.Need-merge_back_verdict-driven-requires
+merge_back_verdict-driven-requires c κs = (c.requires.lent, sound_fits c.requires.sound)
 
 rewrite-requires : tie.Need-rewrite-requires
 rewrite-requires c κs =
-    let d = c.before.before in
-    let v = d.before.before in
-    let s = v.before.before in
-    let r = merge_ready s.args.board s.args.table.now s.args.o s.requires d.driven.given.0.0 d.driven.given.0.1.0 (said driven_meaning v.merge-back-verdict.ensures d.driven.given.1) in
+    let d = c in
+    let v = d in
+    let s = v in
+    let r = merge_ready s.args.board s.args.table.now s.args.o s.requires d.in-By.v d.in-By.d (said driven_meaning v.merge_back_verdict-driven.ensures d.in-By.is) in
     (s.requires.lent, (r.1, r.2))
 
-returns : tie.Need-returns
+returns-in-By : tie.Need-returns-in-By
 unfolding plan
-returns c =
-    let a = c.before in
-    let d = a.before.before.before in
-    let v = d.before.before in
-    let s = v.before.before in
+returns-in-By c =
+    let a = c in
+    let d = a in
+    let v = d in
+    let s = v in
     let b = s.args.board in
     let t = s.args.table.now in
-    let x = d.driven.given.0.0 in
-    let y = d.driven.given.0.1.0 in
-    let e = said driven_meaning v.merge-back-verdict.ensures d.driven.given.1 in
+    let x = d.in-By.v in
+    let y = d.in-By.d in
+    let e = said driven_meaning v.merge_back_verdict-driven.ensures d.in-By.is in
     let r = merge_ready b t s.args.o s.requires x y e in
-    step_handed b t (merge_back s.args.o) (λ z. merged_back z.0 s.args.o z.1 (graph_of b.vertices t)) e (ap (λ (z : ℤ). (x, z)) r.0) refl a.rewrite.new.1.0 a.rewrite.ensures
+    step_handed b t (merge_back s.args.o) (λ z. merged_back z.0 s.args.o z.1 (graph_of b.vertices t)) e (ap (λ (z : ℤ). (x, z)) r.0) refl a.rewrite.new.table a.rewrite.ensures
 
-returns-2 : tie.Need-returns-2
+returns-in-Refused : tie.Need-returns-in-Refused
 unfolding plan
-returns-2 c =
-    let v = c.before.before.before in
-    let s = v.before.before in
+returns-in-Refused c =
+    let v = c in
+    let s = v in
     let b = s.args.board in
     let t = s.args.table.now in
-    step_refused b t (merge_back s.args.o) (λ z. merged_back z.0 s.args.o z.1 (graph_of b.vertices t)) _ (said driven_meaning v.merge-back-verdict.ensures c.before.driven2.given.1) refl
+    step_refused b t (merge_back s.args.o) (λ z. merged_back z.0 s.args.o z.1 (graph_of b.vertices t)) _ (said driven_meaning v.merge_back_verdict-driven.ensures c.in-Refused.is) refl
 
-pub apply-merge-back-spec : {M : Type 1} → statement M
-apply-merge-back-spec =
+pub apply_merge_back_spec : {M : Type 1} → statement M
+apply_merge_back_spec =
     tie.close
     (tie.spec
-    merge-back-verdict-requires
+    merge_back_verdict-driven-requires
     (λ c. search rules)
     rewrite-requires
     (λ c. search rules)
     (λ c. search rules)
-    returns
+    returns-in-By
     (λ c. search rules)
-    returns-2)
+    returns-in-Refused)

@@ -11,45 +11,45 @@ use Rattle.steps.proofs.Ready.{shrink_ready}
 use Rattle.steps.proofs.apply.apply_shrink.Statement.{statement}
 use Rattle.steps.proofs.apply.apply_shrink.Tie as tie
 
-shrink-verdict-requires : tie.Need-shrink-verdict-requires
-shrink-verdict-requires c κs = (c.before.requires.lent, sound_fits c.before.requires.sound)
+shrink_verdict-fit-requires : tie.Need-shrink_verdict-fit-requires
+shrink_verdict-fit-requires c κs = (c.requires.lent, sound_fits c.requires.sound)
 
 rewrite-requires : tie.Need-rewrite-requires
 rewrite-requires c κs =
-    let v = c.before.before.before in
-    let s = v.before.before in
+    let v = c in
+    let s = v in
     let b = s.args.board in
-    let r = shrink_ready b.inputs b.outputs b.vertices s.args.k (graph_of b.vertices s.args.table.now) (said fit_meaning v.shrink-verdict.ensures c.before.enum_told.given.1) in
+    let r = shrink_ready b.inputs b.outputs b.vertices s.args.k (graph_of b.vertices s.args.table.now) (said fit_meaning v.shrink_verdict-fit.ensures c.in-Accepted.is) in
     (s.requires.lent, (r.0, r.1))
 
-returns : tie.Need-returns
+returns-in-Accepted : tie.Need-returns-in-Accepted
 unfolding plan
-returns c =
-    let a = c.before in
-    let v = a.before.before.before.before in
-    let s = v.before.before in
+returns-in-Accepted c =
+    let a = c in
+    let v = a in
+    let s = v in
     let b = s.args.board in
     let t = s.args.table.now in
-    step_done b t (shrink s.args.k) (λ _. shrunk s.args.k (graph_of b.vertices t)) tt (said fit_meaning v.shrink-verdict.ensures a.before.before.enum_told.given.1) refl a.rewrite.new.1.0 a.rewrite.ensures
+    step_done b t (shrink s.args.k) (λ _. shrunk s.args.k (graph_of b.vertices t)) tt (said fit_meaning v.shrink_verdict-fit.ensures a.in-Accepted.is) refl a.rewrite.new.table a.rewrite.ensures
 
-returns-2 : tie.Need-returns-2
+returns-in-Refused : tie.Need-returns-in-Refused
 unfolding plan
-returns-2 c =
-    let v = c.before.before.before in
-    let s = v.before.before in
+returns-in-Refused c =
+    let v = c in
+    let s = v in
     let b = s.args.board in
     let t = s.args.table.now in
-    step_refused b t (shrink s.args.k) (λ _. shrunk s.args.k (graph_of b.vertices t)) _ (said fit_meaning v.shrink-verdict.ensures c.before.fit.given.1) refl
+    step_refused b t (shrink s.args.k) (λ _. shrunk s.args.k (graph_of b.vertices t)) _ (said fit_meaning v.shrink_verdict-fit.ensures c.in-Refused.is) refl
 
-pub apply-shrink-spec : {M : Type 1} → statement M
-apply-shrink-spec =
+pub apply_shrink_spec : {M : Type 1} → statement M
+apply_shrink_spec =
     tie.close
     (tie.spec
-    shrink-verdict-requires
+    shrink_verdict-fit-requires
     (λ c. search rules)
     rewrite-requires
     (λ c. search rules)
     (λ c. search rules)
-    returns
+    returns-in-Accepted
     (λ c. search rules)
-    returns-2)
+    returns-in-Refused)

@@ -11,46 +11,46 @@ use Rattle.timing.proofs.Verdict.{said}
 use Rattle.steps.proofs.apply.apply_star.Statement.{statement}
 use Rattle.steps.proofs.apply.apply_star.Tie as tie
 
-star-verdict-requires : tie.Need-star-verdict-requires
-star-verdict-requires c κs = (c.before.before.before.requires.lent, sound_fits c.before.before.before.requires.sound)
+star_verdict-fit-requires : tie.Need-star_verdict-fit-requires
+star_verdict-fit-requires c κs = (c.requires.lent, sound_fits c.requires.sound)
 
-star-apply-requires : tie.Need-star-apply-requires
-star-apply-requires c κs =
-    let v = c.before.before.before in
-    let s = v.before.before.before.before in
+star_apply-requires : tie.Need-star_apply-requires
+star_apply-requires c κs =
+    let v = c in
+    let s = v in
     let b = s.args.board in
     let t = s.args.table.now in
     let g = graph_of b.vertices t in
-    (s.requires.lent, star_ready b.inputs b.outputs b.vertices s.args.sources.now s.args.targets.now s.args.k g tt (sound_fits s.requires.sound) (said fit_meaning v.star-verdict.ensures c.before.enum_told.given.1))
+    (s.requires.lent, star_ready b.inputs b.outputs b.vertices s.args.sources.now s.args.targets.now s.args.k g tt (sound_fits s.requires.sound) (said fit_meaning v.star_verdict-fit.ensures c.in-Accepted.is))
 
-returns : tie.Need-returns
+returns-in-Accepted : tie.Need-returns-in-Accepted
 unfolding plan
-returns c =
-    let a = c.before in
-    let v = a.before.before.before.before in
-    let s = v.before.before.before.before in
+returns-in-Accepted c =
+    let a = c in
+    let v = a in
+    let s = v in
     let b = s.args.board in
     let t = s.args.table.now in
-    step_done b t (star s.args.sources.now s.args.targets.now s.args.k) (λ _. starred s.args.sources.now s.args.targets.now s.args.k (graph_of b.vertices t)) tt (said fit_meaning v.star-verdict.ensures a.before.before.enum_told.given.1) refl a.star-apply.new.1.0 a.star-apply.ensures
+    step_done b t (star s.args.sources.now s.args.targets.now s.args.k) (λ _. starred s.args.sources.now s.args.targets.now s.args.k (graph_of b.vertices t)) tt (said fit_meaning v.star_verdict-fit.ensures a.in-Accepted.is) refl a.star_apply.new.table a.star_apply.ensures
 
-returns-2 : tie.Need-returns-2
+returns-in-Refused : tie.Need-returns-in-Refused
 unfolding plan
-returns-2 c =
-    let v = c.before.before.before in
-    let s = v.before.before.before.before in
+returns-in-Refused c =
+    let v = c in
+    let s = v in
     let b = s.args.board in
     let t = s.args.table.now in
-    step_refused b t (star s.args.sources.now s.args.targets.now s.args.k) (λ _. starred s.args.sources.now s.args.targets.now s.args.k (graph_of b.vertices t)) _ (said fit_meaning v.star-verdict.ensures c.before.fit.given.1) refl
+    step_refused b t (star s.args.sources.now s.args.targets.now s.args.k) (λ _. starred s.args.sources.now s.args.targets.now s.args.k (graph_of b.vertices t)) _ (said fit_meaning v.star_verdict-fit.ensures c.in-Refused.is) refl
 
-pub apply-star-spec : {M : Type 1} → statement M
-apply-star-spec =
+pub apply_star_spec : {M : Type 1} → statement M
+apply_star_spec =
     tie.close
     (tie.spec
-    star-verdict-requires
+    star_verdict-fit-requires
     (λ c. search rules)
-    star-apply-requires
+    star_apply-requires
     (λ c. search rules)
     (λ c. search rules)
-    returns
+    returns-in-Accepted
     (λ c. search rules)
-    returns-2)
+    returns-in-Refused)

@@ -6,43 +6,43 @@ use Rattle.steps.proofs.Reducing.{still_lent, call_done, call_refuses}
 use Rattle.steps.proofs.calls.reduce.Statement.{statement}
 use Rattle.steps.proofs.calls.reduce.Tie as tie
 
-apply-step-requires : tie.Need-apply-step-requires
-apply-step-requires c κs =
-    let k = c.before.before.before.before in
-    k.before.before.checked.ensures.passable _ k.lent.given.1
+apply_step-fit-requires : tie.Need-apply_step-fit-requires
+apply_step-fit-requires c κs =
+    let k = c in
+    k.checked-lent.ensures.passable _ k.in-Board.is
 
 counted-requires : tie.Need-counted-requires
 counted-requires c κs =
-    let a = c.before.before.before in
-    let k = a.before.before.before.before.before in
-    still_lent (k.before.before.checked.ensures.passable _ k.lent.given.1).0.checked.lent a.apply-step.new.1.0 a.apply-step.auto.1.0
+    let a = c in
+    let k = a in
+    still_lent (k.checked-lent.ensures.passable _ k.in-Board.is).0.checked.lent a.apply_step-fit.new.table a.apply_step-fit.auto.table
 
-returns : tie.Need-returns
-returns c =
-    let a = c.before.before.before.before in
-    let k = a.before.before.before.before.before in
-    let h = k.before.before.checked.ensures in
-    let s = k.before.before.before.before.before.before in
-    (call_done h (step_meaning s.args.step) _ k.lent.given.1 _ _ a.apply-step.ensures.0 _ c.counted.ensures, scratch_on h _ k.lent.given.1 _ _ refl a.apply-step.ensures.1)
+returns-in-Board : tie.Need-returns-in-Board
+returns-in-Board c =
+    let a = c in
+    let k = a in
+    let h = k.checked-lent.ensures in
+    let s = k in
+    (call_done h (step_meaning s.args.step) _ k.in-Board.is _ _ a.apply_step-fit.ensures.0 _ c.counted.ensures, scratch_on h _ k.in-Board.is _ _ refl a.apply_step-fit.ensures.1)
 
-returns-2 : tie.Need-returns-2
-returns-2 c =
-    let k = c.before in
-    let s = k.before.before.before.before.before.before in
-    (call_refuses k.before.before.checked.ensures (step_meaning s.args.step) _ k.lent2.given.1, scratch_same)
+returns-in-Refused : tie.Need-returns-in-Refused
+returns-in-Refused c =
+    let k = c in
+    let s = k in
+    (call_refuses k.checked-lent.ensures (step_meaning s.args.step) _ k.in-Refused.is, scratch_same)
 
-pub reduce-spec : {M : Type 1} → statement M
-reduce-spec =
+pub reduce_spec : {M : Type 1} → statement M
+reduce_spec =
     tie.close
     (tie.spec
     (λ c κs. search rules)
     (λ c κs. search rules)
     (λ c. search rules)
-    apply-step-requires
+    apply_step-fit-requires
     counted-requires
     (λ c. search rules)
     (λ c. search rules)
     (λ c. search rules)
-    returns
+    returns-in-Board
     (λ c. search rules)
-    returns-2)
+    returns-in-Refused)

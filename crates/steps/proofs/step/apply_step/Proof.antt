@@ -4,53 +4,53 @@ use Rattle.steps.proofs.Reducing.{step_is}
 use Rattle.steps.proofs.step.apply_step.Statement.{statement}
 use Rattle.steps.proofs.step.apply_step.Tie as tie
 
-apply-shrink-requires : tie.Need-apply-shrink-requires
-apply-shrink-requires c κs = c.before.before.before.before.requires.0.checked
+apply_shrink-requires : tie.Need-apply_shrink-requires
+apply_shrink-requires c κs = c.requires.0.checked
 
-apply-merge-back-requires : tie.Need-apply-merge-back-requires
-apply-merge-back-requires c κs = c.before.before.before.before.requires.0.checked
+apply_merge_back-requires : tie.Need-apply_merge_back-requires
+apply_merge_back-requires c κs = c.requires.0.checked
 
-returns : tie.Need-returns
-returns c =
-    let a = c.before in
-    let k = a.before.before.before in
-    let s = k.before.before in
-    (step_is s.args.board s.args.table.now s.args.step _ k.step.given.1 _ _ a.apply-shrink.ensures, refl)
+returns-in-Shrink : tie.Need-returns-in-Shrink
+returns-in-Shrink c =
+    let a = c in
+    let k = a in
+    let s = k in
+    (step_is s.args.board s.args.table.now s.args.step _ k.in-Shrink.is _ _ a.apply_shrink.ensures, refl)
 
-returns-2 : tie.Need-returns-2
-returns-2 c =
-    let a = c.before.before in
-    let k = a.before.before.before.before in
-    let s = k.before.before in
-    (step_is s.args.board s.args.table.now s.args.step _ k.step2.given.1 _ _ a.apply-share-inputs.ensures.0, a.apply-share-inputs.ensures.1)
+returns-in-ShareInputs : tie.Need-returns-in-ShareInputs
+returns-in-ShareInputs c =
+    let a = c in
+    let k = a in
+    let s = k in
+    (step_is s.args.board s.args.table.now s.args.step _ k.in-ShareInputs.is _ _ a.apply_share_inputs.ensures.0, a.apply_share_inputs.ensures.1)
 
-returns-3 : tie.Need-returns-3
-returns-3 c =
-    let a = c.before.before in
-    let k = a.before.before.before.before in
-    let s = k.before.before in
-    (step_is s.args.board s.args.table.now s.args.step _ k.step3.given.1 _ _ a.apply-share-outputs.ensures.0, a.apply-share-outputs.ensures.1)
+returns-in-ShareOutputs : tie.Need-returns-in-ShareOutputs
+returns-in-ShareOutputs c =
+    let a = c in
+    let k = a in
+    let s = k in
+    (step_is s.args.board s.args.table.now s.args.step _ k.in-ShareOutputs.is _ _ a.apply_share_outputs.ensures.0, a.apply_share_outputs.ensures.1)
 
-returns-4 : tie.Need-returns-4
-returns-4 c =
-    let a = c.before.before in
-    let k = a.before.before.before in
-    let s = k.before.before in
-    (step_is s.args.board s.args.table.now s.args.step _ k.enum_told.given.1 _ _ a.prune-step.ensures.0, a.prune-step.ensures.1)
+returns-in-Prune : tie.Need-returns-in-Prune
+returns-in-Prune c =
+    let a = c in
+    let k = a in
+    let s = k in
+    (step_is s.args.board s.args.table.now s.args.step _ k.in-Prune.is _ _ a.prune_step.ensures.0, a.prune_step.ensures.1)
 
-returns-5 : tie.Need-returns-5
-returns-5 c =
-    let a = c.before in
-    let k = a.before.before.before in
-    let s = k.before.before in
-    (step_is s.args.board s.args.table.now s.args.step _ k.step4.given.1 _ _ a.apply-merge-back.ensures, refl)
+returns-in-MergeBack : tie.Need-returns-in-MergeBack
+returns-in-MergeBack c =
+    let a = c in
+    let k = a in
+    let s = k in
+    (step_is s.args.board s.args.table.now s.args.step _ k.in-MergeBack.is _ _ a.apply_merge_back.ensures, refl)
 
-pub apply-step-spec : {M : Type 1} → statement M
-apply-step-spec =
+pub apply_step_spec : {M : Type 1} → statement M
+apply_step_spec =
     tie.close
     (tie.spec
     (λ c. search rules)
-    apply-shrink-requires
+    apply_shrink-requires
     (λ c. search rules)
     (λ c κs. search rules)
     (λ c. search rules)
@@ -58,17 +58,17 @@ apply-step-spec =
     (λ c. search rules)
     (λ c κs. search rules)
     (λ c. search rules)
-    apply-merge-back-requires
+    apply_merge_back-requires
     (λ c. search rules)
-    returns
-    (λ c. search rules)
-    (λ c. search rules)
-    returns-2
+    returns-in-Shrink
     (λ c. search rules)
     (λ c. search rules)
-    returns-3
+    returns-in-ShareInputs
     (λ c. search rules)
     (λ c. search rules)
-    returns-4
+    returns-in-ShareOutputs
     (λ c. search rules)
-    returns-5)
+    (λ c. search rules)
+    returns-in-Prune
+    (λ c. search rules)
+    returns-in-MergeBack)
