@@ -1,4 +1,5 @@
 // The six steps as calls: any arguments, the checks first, the count of arcs last.
+ghost use Rattle.std.specs.Prelude.{length};
 ghost use Rattle.reduction.specs.Steps.{shrink, share_inputs, share_outputs, prune, merge_back, star, step_call};
 ghost use Rattle.paths.specs.Queries.{ScratchAfter};
 ghost use Rattle.steps.specs.Reduces.{Reduces, step_meaning};
