@@ -17,7 +17,7 @@ use Rattle.run.proofs.Lines.{pairs_fit}
 use Rattle.run.proofs.calls.rounds.Statement.{statement}
 use Rattle.run.proofs.calls.rounds.Tie as tie
 
-abbrev invariant-loop : tie.invariant-loop
+abbrev invariant-loop : tie.invariant-loop-more
 invariant-loop board table₀ list₀ scratch₀ matrix steps₀ more₀ first₀ table list scratch steps more first =
     Running board (progress table steps) × Held board matrix table × (length list ≡ max_vertices) × (length table ≡ length table₀) × (length scratch ≡ length scratch₀)
     × (drop (scratch_cells board.vertices) scratch ≡ drop (scratch_cells board.vertices) scratch₀)
@@ -25,126 +25,126 @@ invariant-loop board table₀ list₀ scratch₀ matrix steps₀ more₀ first�
     × (first ≡ true → Passable board table list)
     × (first ≡ false → LeanOn board table)
 
-abbrev decreases-loop : tie.decreases-loop
+abbrev decreases-loop : tie.decreases-loop-more
 decreases-loop board table₀ list₀ scratch₀ matrix steps₀ more₀ first₀ table list scratch steps more first = rounds_left board.vertices more table
 
-fill-matrix-requires : tie.Need-fill-matrix-requires invariant-loop decreases-loop
-fill-matrix-requires c κs = let s = c.before.before.before.before in (s.requires.0, (s.requires.1.1, pairs_fit s.requires.0.checked.lent.sized))
+fill_matrix-requires : tie.Need-fill_matrix-requires invariant-loop decreases-loop
+fill_matrix-requires c κs = let s = c in (s.requires.0, (s.requires.1.1, pairs_fit s.requires.0.checked.lent.sized))
 
-loop-holds : tie.Need-loop-init invariant-loop decreases-loop
+loop-more-init : tie.Need-loop-more-init invariant-loop decreases-loop
 unfolding reduce
-loop-holds c =
-    let f = c.before.before in
-    let s = f.before.before.before.before.before in
-    (running_start s.requires.0, held_start s.requires.0 _ _ f.fill-matrix.ensures.0, s.requires.1.0, refl, refl, refl, λ q room. refl, λ _. s.requires.0, λ e. absurd (let z : ◌≡◌ {A = ℕ} 0 1 = cc in omega arith))
+loop-more-init c =
+    let f = c in
+    let s = f in
+    (running_start s.requires.0, held_start s.requires.0 _ _ f.fill_matrix.ensures.0, s.requires.1.0, refl, refl, refl, λ q room. refl, λ _. s.requires.0, λ e. absurd (let z : ◌≡◌ {A = ℕ} 0 1 = cc in omega arith))
 
-slice-aggregate-round : tie.Need-slice-aggregate-round invariant-loop decreases-loop
-slice-aggregate-round c = sym c.before.before.before.before.before.before.before.before.fill-matrix.auto.1.1.1.1.0
+slice_bounds-round-end : tie.Need-slice_bounds-round-end invariant-loop decreases-loop
+slice_bounds-round-end c = sym c.fill_matrix.auto.destination
 
-round-requires : tie.Need-round-requires invariant-loop decreases-loop
-round-requires c κs =
-    let l = c.before.before.before.before.before in
-    let f = l.before.before.before in
-    let s = f.before.before.before.before.before in
-    let h = l.loop.invariant in
-    (h.0, (h.1, (h.2, (h.7, (h.8, omega (arith, s.requires.1.1, h.4, f.fill-matrix.auto.1.1.1.0))))))
+round-after-requires : tie.Need-round-after-requires invariant-loop decreases-loop
+round-after-requires c κs =
+    let l = c in
+    let f = l in
+    let s = f in
+    let h = l.loop-more.invariant in
+    (h.0, (h.1, (h.2, (h.7, (h.8, omega (arith, s.requires.1.1, h.4, f.fill_matrix.auto.scratch))))))
 
 -- after a round
-module _ (r : tie.After-round invariant-loop decreases-loop) where
-  abbrev loop : tie.At-loop invariant-loop decreases-loop
+module _ (r : tie.After-round-after invariant-loop decreases-loop) where
+  abbrev loop : tie.At-loop-more invariant-loop decreases-loop
   loop = r.before.before.before.before.before.before
 
-  abbrev filled : tie.After-fill-matrix invariant-loop decreases-loop
+  abbrev filled : tie.After-fill_matrix invariant-loop decreases-loop
   filled = loop.before.before.before
 
   abbrev start : tie.Start invariant-loop decreases-loop
-  start = filled.before.before.before.before.before
+  start = filled.before.before.before
 
   abbrev b : Board
   b = start.args.board
 
   abbrev before : Progress
-  before = progress loop.loop.table loop.loop.steps
+  before = progress loop.loop-more.table loop.loop-more.steps
 
   abbrev after : Progress
-  after = progress r.round.last.1.0 r.round.result
+  after = progress r.round-after.new.table r.round-after.result
 
   running : Running b after
-  running = running_on b (tries b.inputs b.outputs b.vertices) before after (tries_gain b.inputs b.outputs b.vertices) r.round.ensures.0 loop.loop.inv.0
+  running = running_on b (tries b.inputs b.outputs b.vertices) before after (tries_gain b.inputs b.outputs b.vertices) r.round-after.ensures.0 loop.loop-more.invariant.0
 
-  held : Held b filled.fill-matrix.last.1.1.1.1.0 r.round.last.1.0
-  held = held_on b (tries b.inputs b.outputs b.vertices) before after (tries_gain b.inputs b.outputs b.vertices) r.round.ensures.0 filled.fill-matrix.last.1.1.1.1.0 loop.loop.inv.1
+  held : Held b filled.fill_matrix.new.destination r.round-after.new.table
+  held = held_on b (tries b.inputs b.outputs b.vertices) before after (tries_gain b.inputs b.outputs b.vertices) r.round-after.ensures.0 filled.fill_matrix.new.destination loop.loop-more.invariant.1
 
-  table-long : length r.round.last.1.0 ≡ length start.args.table.now
-  table-long = r.round.kept.1.0 ∙ loop.loop.inv.3
+  table_long : length r.round-after.new.table ≡ length start.args.table.now
+  table_long = r.round-after.auto.table ∙ loop.loop-more.invariant.3
 
   -- one more round was due
-  due : loop.loop.more ≡ true
-  due = r.before.before.before.before.before.loop-test.taken
+  due : loop.loop-more.more ≡ true
+  due = r.loop-more-test.true
 
-loop-less : tie.Need-loop-smaller invariant-loop decreases-loop
-loop-less c =
-    let r = c.before.before in
-    let d = b r in
+loop-more-smaller : tie.Need-loop-more-smaller invariant-loop decreases-loop
+loop-more-smaller c =
+    let r = c in
+    let d = b r.before.before in
     let q = scratch_cells d.vertices in
-    subst (λ (x : Bool). rounds_left d.vertices (not (eqb (after r).steps (before r).steps)) (after r).table < rounds_left d.vertices x (before r).table) (sym (due r))
-    (fewer_left d.inputs d.outputs d.vertices q (before r) (after r) (r.round.ensures.0 q (omega arith)))
+    subst (λ (x : Bool). rounds_left d.vertices (not (eqb (after r.before.before).steps (before r.before.before).steps)) (after r.before.before).table < rounds_left d.vertices x (before r.before.before).table) (sym (due r.before.before))
+    (fewer_left d.inputs d.outputs d.vertices q (before r.before.before) (after r.before.before) (r.round-after.ensures.0 q (omega arith)))
 
-loop-again : tie.Need-loop-preserved invariant-loop decreases-loop
-loop-again c =
-    let r = c.before.before in
-    let d = b r in
+loop-more-preserved : tie.Need-loop-more-preserved invariant-loop decreases-loop
+loop-more-preserved c =
+    let r = c in
+    let d = b r.before.before in
     let goal = reduce d.inputs d.outputs d.vertices in
-    let t = (start r).args.table.now in (
-      running r,
-      held r,
-      r.round.ensures.1.1.0,
-      table-long r,
-      r.round.auto.1.1.1.0 ∙ (loop r).loop.invariant.4,
-      r.round.ensures.1.1.1 ∙ (loop r).loop.invariant.5,
-      λ q room. toward_next d.inputs d.outputs d.vertices q (before r) (after r) (r.round.ensures.0 q room) (goal q t)
-          (subst (λ (x : Bool). Toward d.inputs d.outputs d.vertices q (goal q t) x (before r)) (due r) ((loop r).loop.invariant.6 q room)),
+    let t = (start r.before.before).args.table.now in (
+      running r.before.before,
+      held r.before.before,
+      r.round-after.ensures.1.1.0,
+      table_long r.before.before,
+      r.round-after.auto.scratch ∙ (loop r.before.before).loop-more.invariant.4,
+      r.round-after.ensures.1.1.1 ∙ (loop r.before.before).loop-more.invariant.5,
+      λ q room. toward_next d.inputs d.outputs d.vertices q (before r.before.before) (after r.before.before) (r.round-after.ensures.0 q room) (goal q t)
+          (subst (λ (x : Bool). Toward d.inputs d.outputs d.vertices q (goal q t) x (before r.before.before)) (due r.before.before) ((loop r.before.before).loop-more.invariant.6 q room)),
       λ e. absurd (let z : ◌≡◌ {A = ℕ} 0 1 = cc in omega arith),
-      λ _. r.round.ensures.1.0,
+      λ _. r.round-after.ensures.1.0,
     )
 
-arcs-requires : tie.Need-arcs-requires invariant-loop decreases-loop
-arcs-requires c κs = c.before.before.loop.invariant.0.checked.lent
+arcs-left-requires : tie.Need-arcs-left-requires invariant-loop decreases-loop
+arcs-left-requires c κs = c.loop-more.invariant.0.checked.lent
 
-same_length : tie.Need-same-length invariant-loop decreases-loop
-same_length c = c.before.before.before.loop.invariant.3
+shape_of-table : tie.Need-shape_of-table invariant-loop decreases-loop
+shape_of-table c = c.loop-more.invariant.3
 
-same-length-2 : tie.Need-same-length-2 invariant-loop decreases-loop
-same-length-2 c = let l = c.before.before.before in l.loop.invariant.4 ∙ l.before.before.before.fill-matrix.auto.1.1.1.0
+shape_of-scratch : tie.Need-shape_of-scratch invariant-loop decreases-loop
+shape_of-scratch c = let l = c in l.loop-more.invariant.4 ∙ l.fill_matrix.auto.scratch
 
 returns : tie.Need-returns invariant-loop decreases-loop
 returns c =
-    let e = c.before.before in
-    let l = e.before in
-    let f = l.before.before.before in
-    let a = f.before.before.before.before.before in
+    let e = c in
+    let l = e in
+    let f = l in
+    let a = f in
     let d = a.args.board in
     let s = length a.args.scratch.now in
     let goal = reduce d.inputs d.outputs d.vertices s a.args.table.now in
-    let there = subst (λ (x : Bool). Toward d.inputs d.outputs d.vertices s goal x (progress l.loop.table l.loop.steps)) e.loop-test.false (l.loop.invariant.6 s a.requires.1.1) in (
-      runs_done d.inputs d.outputs d.vertices s a.args.table.now l.loop.table l.loop.steps c.arcs.result (sym there) c.arcs.ensures,
-      l.loop.invariant.5 ∙ f.fill-matrix.ensures.1,
+    let there = subst (λ (x : Bool). Toward d.inputs d.outputs d.vertices s goal x (progress l.loop-more.table l.loop-more.steps)) e.loop-more-test.false (l.loop-more.invariant.6 s a.requires.1.1) in (
+      runs_done d.inputs d.outputs d.vertices s a.args.table.now l.loop-more.table l.loop-more.steps c.arcs-left.result (sym there) c.arcs-left.ensures,
+      l.loop-more.invariant.5 ∙ f.fill_matrix.ensures.1,
     )
 
-pub rounds-spec : {M : Type 1} → statement M
-rounds-spec =
+pub rounds_spec : {M : Type 1} → statement M
+rounds_spec =
     tie.close
     (tie.spec
     invariant-loop
     decreases-loop
     (λ c. refl)
-    fill-matrix-requires
-    loop-holds
-    slice-aggregate-round
-    round-requires
-    loop-less
-    loop-again
-    arcs-requires
-    same_length
-    same-length-2
+    fill_matrix-requires
+    loop-more-init
+    slice_bounds-round-end
+    round-after-requires
+    loop-more-smaller
+    loop-more-preserved
+    arcs-left-requires
+    shape_of-table
+    shape_of-scratch
     returns)

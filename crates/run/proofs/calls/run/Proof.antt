@@ -7,22 +7,22 @@ use Rattle.run.proofs.calls.run.Tie as tie
 
 rounds-requires : tie.Need-rounds-requires
 rounds-requires c κs =
-    let k = c.before.before.before.before in
-    let h = k.before.before.checked.ensures in
-    let p = h.passable _ k.lent.given.1 in
-    (p.0, (h.long _ k.lent.given.1, p.1))
+    let k = c in
+    let h = k.checked-lent.ensures in
+    let p = h.passable _ k.in-Board.is in
+    (p.0, (h.long _ k.in-Board.is, p.1))
 
-returns : tie.Need-returns
-returns c =
-    let a = c.before.before in
-    let k = a.before.before.before.before.before in
-    let h = k.before.before.checked.ensures in
-    (run_done h _ k.lent.given.1 _ _ a.rounds.ensures.0, scratch_on h _ k.lent.given.1 _ _ refl a.rounds.ensures.1)
+returns-in-Board : tie.Need-returns-in-Board
+returns-in-Board c =
+    let a = c in
+    let k = a in
+    let h = k.checked-lent.ensures in
+    (run_done h _ k.in-Board.is _ _ a.rounds.ensures.0, scratch_on h _ k.in-Board.is _ _ refl a.rounds.ensures.1)
 
-returns-2 : tie.Need-returns-2
-returns-2 c =
-    let k = c.before in
-    (run_refused k.before.before.checked.ensures _ k.lent2.given.1, scratch_same)
+returns-in-Refused : tie.Need-returns-in-Refused
+returns-in-Refused c =
+    let k = c in
+    (run_refused k.checked-lent.ensures _ k.in-Refused.is, scratch_same)
 
 pub run_spec : {M : Type 1} → statement M
 run_spec =
@@ -35,6 +35,6 @@ run_spec =
     (λ c. search rules)
     (λ c. search rules)
     (λ c. search rules)
-    returns
+    returns-in-Board
     (λ c. search rules)
-    returns-2)
+    returns-in-Refused)

@@ -13,12 +13,18 @@ module _ (s : tie.Start) where
   abbrev on : Side → Bool
   on x = is_rich x s.args.board.vertices (graph_of s.args.board.vertices s.args.table.now) s.args.v
 
-returns : tie.Need-returns
-returns c = c.enough-out.ensures ∙ ap (on c.before.before.before) (sym c.before.enum_told.given.1)
+returns-in-Inputs : tie.Need-returns-in-Inputs
+returns-in-Inputs c = c.enough_out.ensures ∙ ap (on c.before.before) (sym c.in-Inputs.is)
 
-returns-2 : tie.Need-returns-2
-returns-2 c = ap (leb 2) c.fan-in.ensures ∙ ap (on c.before.before.before) (sym c.before.enum-told2.given.1)
+returns-in-Outputs : tie.Need-returns-in-Outputs
+returns-in-Outputs c = ap (leb 2) c.fan_in.ensures ∙ ap (on c.before.before) (sym c.in-Outputs.is)
 
-pub is-rich-spec : {M : Type 1} → statement M
-is-rich-spec =
-    tie.close (tie.spec (λ c. search rules) (λ c κs. search rules) (λ c. search rules) (λ c κs. search rules) returns returns-2)
+pub is_rich_spec : {M : Type 1} → statement M
+is_rich_spec =
+    tie.close (tie.spec
+    (λ c. search rules)
+    (λ c κs. search rules)
+    (λ c. search rules)
+    (λ c κs. search rules)
+    returns-in-Inputs
+    returns-in-Outputs)

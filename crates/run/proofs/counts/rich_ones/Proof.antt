@@ -19,68 +19,68 @@ use Rattle.run.proofs.counts.rich_ones.Tie as tie
 abbrev Marked : Board → List ℤ → Side → ℕ → Bool → Type 0
 Marked board t side v x = OnSide board side v → x ≡ is_rich side board.vertices (graph_of board.vertices t) v
 
-abbrev invariant-loop : tie.invariant-loop
+abbrev invariant-loop : tie.invariant-loop-v
 invariant-loop board table side end rich₀ v₀ rich v =
     (first_of side board.inputs ≤ v) × (length rich₀ ≡ max_vertices) × Stored (Marked board table side) false rich₀ rich v
 
-abbrev decreases-loop : tie.decreases-loop
+abbrev decreases-loop : tie.decreases-loop-v
 decreases-loop board table side end rich₀ v₀ rich v = end - v
 
-end-requires : tie.Need-end-requires invariant-loop decreases-loop
-end-requires c κs = c.requires.sized
+end-end-requires : tie.Need-end-end-requires invariant-loop decreases-loop
+end-end-requires c κs = c.requires.sized
 
-loop-holds : tie.Need-loop-init invariant-loop decreases-loop
-loop-holds c = (omega (arith, c.first.ensures), c.before.vertex-flags.ensures.0, record { size = refl; done = λ j h on. absurd (omega (arith, h, on.from, c.first.ensures)); left = λ j h. refl })
+loop-v-init : tie.Need-loop-v-init invariant-loop decreases-loop
+loop-v-init c = (omega (arith, c.first-v.ensures), c.vertex_flags-rich.ensures.0, record { size = refl; done = λ j h on. absurd (omega (arith, h, on.from, c.first-v.ensures)); left = λ j h. refl })
 
 -- in a turn
-module _ (i : tie.In-loop invariant-loop decreases-loop) where
+module _ (i : tie.In-loop-v invariant-loop decreases-loop) where
   abbrev start : tie.Start invariant-loop decreases-loop
   start = i.before.before.before.before.before
 
   abbrev v : ℕ
-  v = i.before.loop.v
+  v = i.loop-v.v
 
   on : OnSide start.args.board start.args.side v
-  on = record { from = i.before.loop.inv.0; below = omega (arith, i.loop-test.taken, i.before.before.before.before.end.ensures) }
+  on = record { from = i.loop-v.invariant.0; below = omega (arith, i.loop-v-test.true, i.end-end.ensures) }
 
   few : v < max_vertices
-  few = omega (arith, on.below, side_fits start.args.side start.args.board start.pre.sized)
+  few = omega (arith, on.below, side_fits start.args.side start.args.board start.requires.sized)
 
-is-rich-requires : tie.Need-is-rich-requires invariant-loop decreases-loop
-is-rich-requires c κs = ((start c).requires, side_below (start c).args.board (start c).args.side (v c) (start c).requires.sized (on c))
+is_rich-requires : tie.Need-is_rich-requires invariant-loop decreases-loop
+is_rich-requires c κs = ((start c).requires, side_below (start c).args.board (start c).args.side (v c) (start c).requires.sized (on c))
 
-array-write-rich : tie.Need-array-write-rich invariant-loop decreases-loop
-array-write-rich c = let l = c.before.before.loop in omega (arith, few c.before, l.invariant.1, l.invariant.2.size)
+bounds-rich-v : tie.Need-bounds-rich-v invariant-loop decreases-loop
+bounds-rich-v c = let l = c.loop-v in omega (arith, few c.before, l.invariant.1, l.invariant.2.size)
 
-add-v : tie.Need-overflow-add-v invariant-loop decreases-loop
-add-v c = omega (arith, few c.before)
+overflow_add-v : tie.Need-overflow_add-v invariant-loop decreases-loop
+overflow_add-v c = omega (arith, few c.before)
 
-loop-less : tie.Need-loop-smaller invariant-loop decreases-loop
-loop-less c = omega (arith, c.before.loop-test.true)
+loop-v-smaller : tie.Need-loop-v-smaller invariant-loop decreases-loop
+loop-v-smaller c = omega (arith, c.loop-v-test.true)
 
-loop-again : tie.Need-loop-preserved invariant-loop decreases-loop
-loop-again c =
-    let l = c.before.before.loop in
-    (omega (arith, l.invariant.0), l.invariant.1, stored_turn l.invariant.2 (omega (arith, few c.before, l.invariant.1)) _ (λ _. c.is-rich.ensures))
+loop-v-preserved : tie.Need-loop-v-preserved invariant-loop decreases-loop
+loop-v-preserved c =
+    let l = c.loop-v in
+    (omega (arith, l.invariant.0), l.invariant.1, stored_turn l.invariant.2 (omega (arith, few c.before, l.invariant.1)) _ (λ _. c.is_rich.ensures))
 
 returns : tie.Need-returns invariant-loop decreases-loop
 returns c =
-    let l = c.before.loop in
-    record { long = l.invariant.2.size ∙ l.invariant.1; each = λ v h. l.invariant.2.done v (omega (arith, h.below, c.loop-test.false, c.before.before.before.before.end.ensures)) h }
+    let l = c.loop-v in
+    record { long = l.invariant.2.size ∙ l.invariant.1; each = λ v h. l.invariant.2.done v (omega (arith, h.below, c.loop-v-test.false, c.end-end.ensures)) h }
 
-pub rich-ones-spec : {M : Type 1} → statement M
-rich-ones-spec =
+pub rich_ones_spec : {M : Type 1} → statement M
+rich_ones_spec =
     tie.close
     (tie.spec
     invariant-loop
     decreases-loop
-    end-requires
+    end-end-requires
     (λ c κs. tt)
     (λ c κs. tt)
-    loop-holds
-    is-rich-requires
-    array-write-rich
-    add-v
-    loop-less
-    loop-again
+    loop-v-init
+    is_rich-requires
+    bounds-rich-v
+    overflow_add-v
+    loop-v-smaller
+    loop-v-preserved
     returns)

@@ -6,60 +6,60 @@ use Rattle.run.proofs.FreshNumber.{NoneBelow, fresh_found, none_more, fresh_none
 use Rattle.run.proofs.fresh.fresh_number.Statement.{statement}
 use Rattle.run.proofs.fresh.fresh_number.Tie as tie
 
-abbrev invariant-loop : tie.invariant-loop
+abbrev invariant-loop : tie.invariant-loop-k
 invariant-loop board table n k₀ k = (board.inputs + board.outputs ≤ k) × (k ≤ board.vertices) × NoneBelow board.inputs board.outputs board.vertices (graph_of board.vertices table) k
 
-abbrev decreases-loop : tie.decreases-loop
+abbrev decreases-loop : tie.decreases-loop-k
 decreases-loop board table n k₀ k = board.vertices - k
 
-add-k : tie.Need-overflow-add-k invariant-loop decreases-loop
-add-k c = let z = c.before.requires.sized in omega (arith, z.roles, z.few)
+overflow_add-k : tie.Need-overflow_add-k invariant-loop decreases-loop
+overflow_add-k c = let z = c.requires.sized in omega (arith, z.roles, z.few)
 
-loop-holds : tie.Need-loop-init invariant-loop decreases-loop
-loop-holds c = (omega arith, c.before.requires.sized.roles, λ x l. absurd (omega (arith, l)))
+loop-k-init : tie.Need-loop-k-init invariant-loop decreases-loop
+loop-k-init c = (omega arith, c.requires.sized.roles, λ x l. absurd (omega (arith, l)))
 
-is-free-requires : tie.Need-is-free-requires invariant-loop decreases-loop
-is-free-requires c κs = (c.before.before.before.requires, c.loop-test.true)
+is_free-requires : tie.Need-is_free-requires invariant-loop decreases-loop
+is_free-requires c κs = (c.requires, c.loop-k-test.true)
+
+returns-then-is_free : tie.Need-returns-then-is_free invariant-loop decreases-loop
+returns-then-is_free c =
+    let l = c in
+    let s = l in
+    let b = s.args.board in
+    fresh_found b.inputs b.outputs b.vertices (graph_of b.vertices s.args.table.now) l.loop-k.k l.loop-k.invariant.0 c.loop-k-test.true l.loop-k.invariant.2 (sym c.if-is_free.true ∙ c.is_free.ensures)
+
+overflow_add-k-in-loop-k : tie.Need-overflow_add-k-in-loop-k invariant-loop decreases-loop
+overflow_add-k-in-loop-k c = let l = c in omega (arith, c.loop-k-test.true, l.requires.sized.few)
+
+loop-k-smaller : tie.Need-loop-k-smaller invariant-loop decreases-loop
+loop-k-smaller c = let l = c in omega (arith, c.loop-k-test.true)
+
+loop-k-preserved : tie.Need-loop-k-preserved invariant-loop decreases-loop
+loop-k-preserved c =
+    let l = c in
+    let s = l in
+    let b = s.args.board in
+    let low = c.loop-k-test.true in
+    (omega (arith, l.loop-k.invariant.0), omega (arith, low), none_more b.inputs b.outputs b.vertices (graph_of b.vertices s.args.table.now) l.loop-k.k l.loop-k.invariant.0 low l.loop-k.invariant.2 (sym c.if-is_free.false ∙ c.is_free.ensures))
 
 returns : tie.Need-returns invariant-loop decreases-loop
 returns c =
-    let l = c.before.before.before in
-    let s = l.before.before in
+    let l = c in
+    let s = l in
     let b = s.args.board in
-    fresh_found b.inputs b.outputs b.vertices (graph_of b.vertices s.args.table.now) l.loop.k l.loop.invariant.0 c.before.before.loop-test.true l.loop.invariant.2 (sym c.if1.true ∙ c.before.is_free.ensures)
+    fresh_none b.inputs b.outputs b.vertices (graph_of b.vertices s.args.table.now) s.requires.sized.roles (λ x h. l.loop-k.invariant.2 x (omega (arith, h, c.loop-k-test.false)))
 
-add-k-2 : tie.Need-overflow-add-k-2 invariant-loop decreases-loop
-add-k-2 c = let l = c.before.before.before in omega (arith, c.before.before.loop-test.true, l.before.before.requires.sized.few)
-
-loop-less : tie.Need-loop-smaller invariant-loop decreases-loop
-loop-less c = let l = c.before.before.before in omega (arith, c.before.before.loop-test.true)
-
-loop-again : tie.Need-loop-preserved invariant-loop decreases-loop
-loop-again c =
-    let l = c.before.before.before in
-    let s = l.before.before in
-    let b = s.args.board in
-    let low = c.before.before.loop-test.true in
-    (omega (arith, l.loop.invariant.0), omega (arith, low), none_more b.inputs b.outputs b.vertices (graph_of b.vertices s.args.table.now) l.loop.k l.loop.invariant.0 low l.loop.invariant.2 (sym c.if1.false ∙ c.before.is_free.ensures))
-
-returns-2 : tie.Need-returns-2 invariant-loop decreases-loop
-returns-2 c =
-    let l = c.before in
-    let s = l.before.before in
-    let b = s.args.board in
-    fresh_none b.inputs b.outputs b.vertices (graph_of b.vertices s.args.table.now) s.requires.sized.roles (λ x h. l.loop.invariant.2 x (omega (arith, h, c.loop-test.false)))
-
-pub fresh-number-spec : {M : Type 1} → statement M
-fresh-number-spec =
+pub fresh_number_spec : {M : Type 1} → statement M
+fresh_number_spec =
     tie.close
     (tie.spec
     invariant-loop
     decreases-loop
-    add-k
-    loop-holds
-    is-free-requires
-    returns
-    add-k-2
-    loop-less
-    loop-again
-    returns-2)
+    overflow_add-k
+    loop-k-init
+    is_free-requires
+    returns-then-is_free
+    overflow_add-k-in-loop-k
+    loop-k-smaller
+    loop-k-preserved
+    returns)

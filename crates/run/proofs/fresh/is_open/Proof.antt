@@ -4,11 +4,14 @@ use mathlib.Core.Logic.{inl, inr}
 use Rattle.run.proofs.fresh.is_open.Statement.{statement}
 use Rattle.run.proofs.fresh.is_open.Tie as tie
 
+returns-then-not-rich : tie.Need-returns-then-not-rich
+returns-then-not-rich c q = inl (not-true _ c.if-not-rich.true-raw)
+
 returns : tie.Need-returns
-returns c q = inl (not-true _ c.if1.true)
+returns c q = inr (c.is_full.ensures (not-false _ q))
 
-returns-2 : tie.Need-returns-2
-returns-2 c q = inr (c.is-full.ensures (not-false _ q))
-
-pub is-open-spec : {M : Type 1} → statement M
-is-open-spec = tie.close (tie.spec returns (λ c κs. search rules) returns-2)
+pub is_open_spec : {M : Type 1} → statement M
+is_open_spec = tie.close (tie.spec
+    returns-then-not-rich
+    (λ c κs. search rules)
+    returns)

@@ -9,11 +9,16 @@ use Rattle.run.proofs.fresh.renew.Tie as tie
 other : Inputs ≡ Outputs → ⊥
 other q = let z : ◌≡◌ {A = ℕ} 0 1 = cc in omega arith
 
-returns : tie.Need-returns
-returns c _ = c.fresh-number.ensures
+returns-in-Inputs : tie.Need-returns-in-Inputs
+returns-in-Inputs c _ = c.fresh_number.ensures
 
-returns-2 : tie.Need-returns-2
-returns-2 c q = absurd (other (sym q ∙ c.enum-told2.given.1))
+returns-in-Outputs : tie.Need-returns-in-Outputs
+returns-in-Outputs c q = absurd (other (sym q ∙ c.in-Outputs.is))
 
-pub renew-spec : {M : Type 1} → statement M
-renew-spec = tie.close (tie.spec (λ c. search rules) (λ c κs. search rules) (λ c. search rules) returns returns-2)
+pub renew_spec : {M : Type 1} → statement M
+renew_spec = tie.close (tie.spec
+    (λ c. search rules)
+    (λ c κs. search rules)
+    (λ c. search rules)
+    returns-in-Inputs
+    returns-in-Outputs)

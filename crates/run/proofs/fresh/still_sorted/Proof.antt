@@ -6,14 +6,20 @@ use native.Mathlib.Omega.{arith}
 use Rattle.run.proofs.fresh.still_sorted.Statement.{statement}
 use Rattle.run.proofs.fresh.still_sorted.Tie as tie
 
-returns : tie.Need-returns
-returns c q = absurd (let z : ◌≡◌ {A = ℕ} 0 1 = cc in omega arith)
+returns-then-not-sorted : tie.Need-returns-then-not-sorted
+returns-then-not-sorted c q = absurd (let z : ◌≡◌ {A = ℕ} 0 1 = cc in omega arith)
 
-returns-2 : tie.Need-returns-2
-returns-2 c q = absurd (let z : ◌≡◌ {A = ℕ} 0 1 = cc in omega arith)
+returns-in-Inputs : tie.Need-returns-in-Inputs
+returns-in-Inputs c q = absurd (let z : ◌≡◌ {A = ℕ} 0 1 = cc in omega arith)
 
-returns-3 : tie.Need-returns-3
-returns-3 c q = (not-false _ c.before.before.before.if1.false, c.before.enum-told2.given.1, sym c.stands-before.ensures ∙ q)
+returns-in-Outputs : tie.Need-returns-in-Outputs
+returns-in-Outputs c q = (not-false _ c.if-not-sorted.false-raw, c.in-Outputs.is, sym c.stands_before.ensures ∙ q)
 
-pub still-sorted-spec : {M : Type 1} → statement M
-still-sorted-spec = tie.close (tie.spec returns (λ c. search rules) (λ c. search rules) (λ c κs. search rules) returns-2 returns-3)
+pub still_sorted_spec : {M : Type 1} → statement M
+still_sorted_spec = tie.close (tie.spec
+    returns-then-not-sorted
+    (λ c. search rules)
+    (λ c. search rules)
+    (λ c κs. search rules)
+    returns-in-Inputs
+    returns-in-Outputs)

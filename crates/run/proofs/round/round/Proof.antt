@@ -19,121 +19,121 @@ use Rattle.run.proofs.LeanRounds.{lean_pruned, lean_on}
 use Rattle.run.proofs.round.round.Statement.{statement}
 use Rattle.run.proofs.round.round.Tie as tie
 
-shares-requires : tie.Need-shares-requires
-shares-requires c κs = let s = c.before.before in (s.requires.0, (s.requires.1.0, s.requires.1.1.1.0))
+shares-one-requires : tie.Need-shares-one-requires
+shares-one-requires c κs = let s = c in (s.requires.0, (s.requires.1.0, s.requires.1.1.1.0))
 
 -- after each part: the progress, and that the run goes on
-module _ (c : tie.After-shares) where
+module _ (c : tie.After-shares-one) where
   abbrev start : tie.Start
-  start = c.before.before.before
+  start = c.before.before
 
   abbrev b : Board
   b = start.args.board
 
-  abbrev progress-0 : Progress
-  progress-0 = progress start.args.table.now start.args.steps
+  abbrev progress_0 : Progress
+  progress_0 = progress start.args.table.now start.args.steps
 
-  abbrev progress-1 : Progress
-  progress-1 = progress c.shares.new.1.0 c.shares.result.steps
+  abbrev progress_1 : Progress
+  progress_1 = progress c.shares-one.new.table c.shares-one.result.steps
 
-  running-1 : Running b progress-1
-  running-1 = running_on b (share_tries b.inputs b.outputs b.vertices Inputs) progress-0 progress-1 (share_tries_gain b.inputs b.outputs b.vertices Inputs) c.shares.ensures.0 start.pre.0
+  running_1 : Running b progress_1
+  running_1 = running_on b (share_tries b.inputs b.outputs b.vertices Inputs) progress_0 progress_1 (share_tries_gain b.inputs b.outputs b.vertices Inputs) c.shares-one.ensures.0 start.requires.0
 
-  held-1 : Held b start.args.matrix.now c.shares.new.1.0
-  held-1 = held_on b (share_tries b.inputs b.outputs b.vertices Inputs) progress-0 progress-1 (share_tries_gain b.inputs b.outputs b.vertices Inputs) c.shares.ensures.0 start.args.matrix.now start.pre.1.0
+  held_1 : Held b start.args.matrix.now c.shares-one.new.table
+  held_1 = held_on b (share_tries b.inputs b.outputs b.vertices Inputs) progress_0 progress_1 (share_tries_gain b.inputs b.outputs b.vertices Inputs) c.shares-one.ensures.0 start.args.matrix.now start.requires.1.0
 
-shares-requires-2 : tie.Need-shares-requires-2
-shares-requires-2 c κs = let d = c.before.before.before in (running-1 d, (held-1 d, d.shares.ensures.1))
+shares-two-requires : tie.Need-shares-two-requires
+shares-two-requires c κs = let d = c in (running_1 d.before.before, (held_1 d.before.before, d.shares-one.ensures.1))
 
-module _ (c : tie.After-shares2) where
-  abbrev part-1 : tie.After-shares
-  part-1 = c.before.before.before.before
+module _ (c : tie.After-shares-two) where
+  abbrev part_1 : tie.After-shares-one
+  part_1 = c.before.before.before
 
-  abbrev progress-2 : Progress
-  progress-2 = progress c.shares2.new.1.0 c.shares2.result.steps
+  abbrev progress_2 : Progress
+  progress_2 = progress c.shares-two.new.table c.shares-two.result.steps
 
-  running-2 : Running (b part-1) progress-2
-  running-2 = let d = b part-1 in running_on d (share_tries d.inputs d.outputs d.vertices Outputs) (progress-1 part-1) progress-2 (share_tries_gain d.inputs d.outputs d.vertices Outputs) c.shares2.ensures.0 (running-1 part-1)
+  running_2 : Running (b part_1) progress_2
+  running_2 = let d = b part_1 in running_on d (share_tries d.inputs d.outputs d.vertices Outputs) (progress_1 part_1) progress_2 (share_tries_gain d.inputs d.outputs d.vertices Outputs) c.shares-two.ensures.0 (running_1 part_1)
 
   -- where no share is accepted, the table stays
-  quiet : c.shares2.result.steps ≡ (start part-1).args.steps → c.shares2.new.1.0 ≡ (start part-1).args.table.now
+  quiet : c.shares-two.result.steps ≡ (start part_1).args.steps → c.shares-two.new.table ≡ (start part_1).args.table.now
   quiet e =
-      let d = b part-1 in
+      let d = b part_1 in
       let ins = share_tries d.inputs d.outputs d.vertices Inputs in
       let outs = share_tries d.inputs d.outputs d.vertices Outputs in
       let gain-in = share_tries_gain d.inputs d.outputs d.vertices Inputs in
       let gain-out = share_tries_gain d.inputs d.outputs d.vertices Outputs in
-      let up_in = steps_grow d ins (progress-0 part-1) (progress-1 part-1) gain-in part-1.shares.ensures.0 in
-      let up-out = steps_grow d outs (progress-1 part-1) progress-2 gain-out c.shares2.ensures.0 in
-      quiet_on d outs (progress-1 part-1) progress-2 gain-out c.shares2.ensures.0 (omega (arith, up_in, up-out, e))
-      ∙ quiet_on d ins (progress-0 part-1) (progress-1 part-1) gain-in part-1.shares.ensures.0 (omega (arith, up_in, up-out, e))
+      let up_in = steps_grow d ins (progress_0 part_1) (progress_1 part_1) gain-in part_1.shares-one.ensures.0 in
+      let up-out = steps_grow d outs (progress_1 part_1) progress_2 gain-out c.shares-two.ensures.0 in
+      quiet_on d outs (progress_1 part_1) progress_2 gain-out c.shares-two.ensures.0 (omega (arith, up_in, up-out, e))
+      ∙ quiet_on d ins (progress_0 part_1) (progress_1 part_1) gain-in part_1.shares-one.ensures.0 (omega (arith, up_in, up-out, e))
 
-try-prune-requires : tie.Need-try-prune-requires
-try-prune-requires c κs =
-    let l = c.before.before.before in
-    let d = l.before.before in
-    let s = start (part-1 d) in
-    (running-2 d, (s.pre.1.1.0, (d.shares2.ensures.1, ((λ q. let u = l.is-lean.ensures q in subst (LeanOn s.args.board) (sym (quiet d u.1)) (s.pre.1.1.1.1.0 u.0)), s.pre.1.1.1.1.1))))
+try_prune-three-requires : tie.Need-try_prune-three-requires
+try_prune-three-requires c κs =
+    let l = c in
+    let d = l in
+    let s = start (part_1 d.before.before.before.before.before) in
+    (running_2 d.before.before.before.before.before, (s.requires.1.1.0, (d.shares-two.ensures.1, ((λ q. let u = l.is_lean-lean.ensures q in subst (LeanOn s.args.board) (sym (quiet d.before.before.before.before.before u.1)) (s.requires.1.1.1.1.0 u.0)), s.requires.1.1.1.1.1))))
 
-module _ (c : tie.After-try-prune) where
-  abbrev part-2 : tie.After-shares2
-  part-2 = c.before.before.before.before.before.before
+module _ (c : tie.After-try_prune-three) where
+  abbrev part_2 : tie.After-shares-two
+  part_2 = c.before.before.before.before.before.before
 
-  abbrev progress-3 : Progress
-  progress-3 = progress c.try-prune.new.1.0 c.try-prune.result
+  abbrev progress_3 : Progress
+  progress_3 = progress c.try_prune-three.new.table c.try_prune-three.result
 
-  running-3 : Running (b (part-1 part-2)) progress-3
-  running-3 = let d = b (part-1 part-2) in running_on d (prune_try d.inputs d.outputs d.vertices) (progress-2 part-2) progress-3 (prune_gain d.inputs d.outputs d.vertices) c.try-prune.ensures.0 (running-2 part-2)
+  running_3 : Running (b (part_1 part_2)) progress_3
+  running_3 = let d = b (part_1 part_2) in running_on d (prune_try d.inputs d.outputs d.vertices) (progress_2 part_2) progress_3 (prune_gain d.inputs d.outputs d.vertices) c.try_prune-three.ensures.0 (running_2 part_2)
 
-  lean-3 : LeanOn (b (part-1 part-2)) c.try-prune.new.1.0
-  lean-3 = lean_pruned (b (part-1 part-2)) (progress-2 part-2) progress-3 (running-2 part-2) c.try-prune.ensures.0
+  lean_3 : LeanOn (b (part_1 part_2)) c.try_prune-three.new.table
+  lean_3 = lean_pruned (b (part_1 part_2)) (progress_2 part_2) progress_3 (running_2 part_2) c.try_prune-three.ensures.0
 
-vertex-tries-requires : tie.Need-vertex-tries-requires
-vertex-tries-requires c κs = let d = c.before.before.before in (running-3 d, lean-3 d)
+vertex_tries-four-requires : tie.Need-vertex_tries-four-requires
+vertex_tries-four-requires c κs = let d = c in (running_3 d.before.before.before, lean_3 d.before.before.before)
 
-module _ (c : tie.After-vertex-tries) where
-  abbrev part-3 : tie.After-try-prune
-  part-3 = c.before.before.before.before
+module _ (c : tie.After-vertex_tries-four) where
+  abbrev part_3 : tie.After-try_prune-three
+  part_3 = c.before.before.before.before
 
-  abbrev progress-4 : Progress
-  progress-4 = progress c.vertex-tries.new.1.0 c.vertex-tries.result
+  abbrev progress_4 : Progress
+  progress_4 = progress c.vertex_tries-four.new.table c.vertex_tries-four.result
 
-  running-4 : Running (b (part-1 (part-2 part-3))) progress-4
-  running-4 = let d = b (part-1 (part-2 part-3)) in running_on d (vertex_tries d.inputs d.outputs d.vertices Shrink) (progress-3 part-3) progress-4 (vertex_tries_gain d.inputs d.outputs d.vertices Shrink) c.vertex-tries.ensures (running-3 part-3)
+  running_4 : Running (b (part_1 (part_2 part_3))) progress_4
+  running_4 = let d = b (part_1 (part_2 part_3)) in running_on d (vertex_tries d.inputs d.outputs d.vertices Shrink) (progress_3 part_3) progress_4 (vertex_tries_gain d.inputs d.outputs d.vertices Shrink) c.vertex_tries-four.ensures (running_3 part_3)
 
-  lean-4 : LeanOn (b (part-1 (part-2 part-3))) c.vertex-tries.new.1.0
-  lean-4 = lean_on (b (part-1 (part-2 part-3))) Shrink (progress-3 part-3) progress-4 c.vertex-tries.ensures (lean-3 part-3)
+  lean_4 : LeanOn (b (part_1 (part_2 part_3))) c.vertex_tries-four.new.table
+  lean_4 = lean_on (b (part_1 (part_2 part_3))) Shrink (progress_3 part_3) progress_4 c.vertex_tries-four.ensures (lean_3 part_3)
 
-vertex-tries-requires-2 : tie.Need-vertex-tries-requires-2
-vertex-tries-requires-2 c κs = let d = c.before.before in (running-4 d, lean-4 d)
+vertex_tries-requires : tie.Need-vertex_tries-requires
+vertex_tries-requires c κs = let d = c in (running_4 d.before.before, lean_4 d.before.before)
 
 returns : tie.Need-returns
 returns c =
-    let e = c.before in
-    let p4 = e.before.before.before in
-    let p3 = part-3 p4 in
-    let p2 = part-2 p3 in
-    let p1 = part-1 p2 in
+    let e = c in
+    let p4 = e in
+    let p3 = part_3 p4.before.before.before.before in
+    let p2 = part_2 p3 in
+    let p1 = part_1 p2 in
     let d = b p1 in
-    let progress-5 = progress e.vertex-tries2.new.1.0 e.vertex-tries2.result in (
-      reaches_round d.inputs d.outputs d.vertices (progress-0 p1) (progress-1 p1) (progress-2 p2) (progress-3 p3) (progress-4 p4) progress-5
-          p1.shares.ensures.0 p2.shares2.ensures.0 p3.try-prune.ensures.0 p4.vertex-tries.ensures e.vertex-tries2.ensures,
+    let progress-5 = progress e.vertex_tries.new.table e.vertex_tries.result in (
+      reaches_round d.inputs d.outputs d.vertices (progress_0 p1) (progress_1 p1) (progress_2 p2) (progress_3 p3) (progress_4 p4.before.before.before.before) progress-5
+          p1.shares-one.ensures.0 p2.shares-two.ensures.0 p3.try_prune-three.ensures.0 p4.vertex_tries-four.ensures e.vertex_tries.ensures,
       (
-        lean_on d MergeBack (progress-4 p4) progress-5 e.vertex-tries2.ensures (lean-4 p4),
-        (p3.try-prune.ensures.1.0, p3.try-prune.ensures.1.1),
+        lean_on d MergeBack (progress_4 p4.before.before.before.before) progress-5 e.vertex_tries.ensures (lean_4 p4.before.before.before.before),
+        (p3.try_prune-three.ensures.1.0, p3.try_prune-three.ensures.1.1),
       ),
     )
 
-pub round-spec : {M : Type 1} → statement M
-round-spec =
+pub round_spec : {M : Type 1} → statement M
+round_spec =
     tie.close
     (tie.spec
-    shares-requires
-    shares-requires-2
+    shares-one-requires
+    shares-two-requires
     (λ c κs. tt)
-    try-prune-requires
-    vertex-tries-requires
-    vertex-tries-requires-2
+    try_prune-three-requires
+    vertex_tries-four-requires
+    vertex_tries-requires
     (λ c. search rules)
     (λ c. search rules)
     returns)

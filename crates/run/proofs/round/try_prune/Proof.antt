@@ -14,42 +14,42 @@ use Rattle.run.proofs.LeanRounds.{lean_idle}
 use Rattle.run.proofs.round.try_prune.Statement.{statement}
 use Rattle.run.proofs.round.try_prune.Tie as tie
 
-returns : tie.Need-returns
-returns c = let s = c.before in (lean_idle s.args.board (progress s.args.table.now s.args.steps) (s.requires.1.1.1.0 c.if1.true), (s.requires.1.0, refl))
+returns-then-lean : tie.Need-returns-then-lean
+returns-then-lean c = let s = c in (lean_idle s.args.board (progress s.args.table.now s.args.steps) (s.requires.1.1.1.0 c.if-lean.true), (s.requires.1.0, refl))
 
 sort-requires : tie.Need-sort-requires
-sort-requires c κs = let s = c.before.before.before in (s.requires.0.checked, (s.requires.1.0, s.requires.1.1.0))
+sort-requires c κs = let s = c in (s.requires.0.checked, (s.requires.1.0, s.requires.1.1.0))
 
-prune-step-requires : tie.Need-prune-step-requires
-prune-step-requires c κs = let o = c.before.before.before in (o.sort.ensures.0, o.before.before.before.before.requires.1.1.1.1)
+prune_step-requires : tie.Need-prune_step-requires
+prune_step-requires c κs = let o = c in (o.sort.ensures.0, o.requires.1.1.1.1)
 
 -- the try leads to the steps that the code counts
-reaches : (c : tie.After-accepted) → let a = c.before.before.before in let s = a.before.before.before.before.before.before.before.before in let b = s.args.board in
+reaches : (c : tie.After-accepted) → let a = c in let s = a in let b = s.args.board in
     (x : Bool) → c.accepted.result ≡ x → (d : ℕ) → d ≡ s.args.steps + gained x
-    → Reaches b.vertices (λ s. try_step b.inputs b.outputs b.vertices s prune ∷ []) (progress s.args.table.now s.args.steps) (progress a.prune-step.new.1.0 d)
+    → Reaches b.vertices (λ s. try_step b.inputs b.outputs b.vertices s prune ∷ []) (progress s.args.table.now s.args.steps) (progress a.prune_step.new.table d)
 reaches c x e d q =
-    let a = c.before.before.before in
-    let s = a.before.before.before.before.before.before.before.before in
-    try_reaches s.requires.0 prune a.prune-step.new.1.0 c.accepted.result (applied_tries s.args.board s.args.table.now prune a.prune-step.new.1.0 a.prune-step.result c.accepted.result a.prune-step.ensures.0 c.accepted.ensures) d (counts s.args.steps e q)
+    let a = c in
+    let s = a in
+    try_reaches s.requires.0 prune a.prune_step.new.table c.accepted.result (applied_tries s.args.board s.args.table.now prune a.prune_step.new.table a.prune_step.result c.accepted.result a.prune_step.ensures.0 c.accepted.ensures) d (counts s.args.steps e q)
 
-returns-2 : tie.Need-returns-2
-returns-2 c = let a = c.before.before.before.before in (reaches c.before true c.if2.true _ refl, (a.before.before.before.before.sort.ensures.1, a.prune-step.ensures.1))
+returns-then-accepted : tie.Need-returns-then-accepted
+returns-then-accepted c = let a = c in (reaches c.before true c.if-accepted.true _ refl, (a.sort.ensures.1, a.prune_step.ensures.1))
 
-returns-3 : tie.Need-returns-3
-returns-3 c = let a = c.before.before.before.before in (reaches c.before false c.if2.false _ (omega arith), (a.before.before.before.before.sort.ensures.1, a.prune-step.ensures.1))
+returns : tie.Need-returns
+returns c = let a = c in (reaches c.before false c.if-accepted.false _ (omega arith), (a.sort.ensures.1, a.prune_step.ensures.1))
 
-pub try-prune-spec : {M : Type 1} → statement M
-try-prune-spec =
+pub try_prune_spec : {M : Type 1} → statement M
+try_prune_spec =
     tie.close
     (tie.spec
-    returns
+    returns-then-lean
     sort-requires
-    prune-step-requires
+    prune_step-requires
     (λ c κs. search rules)
     (λ c. search rules)
     (λ c. search rules)
     (λ c. search rules)
-    returns-2
+    returns-then-accepted
     (λ c. search rules)
     (λ c. search rules)
-    returns-3)
+    returns)

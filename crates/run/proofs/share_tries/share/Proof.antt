@@ -25,55 +25,55 @@ module _ (s : tie.Start) (x : Side) (is : s.args.side ≡ x) where
   t = s.args.table.now
 
   pair : Pair x board s.args.a s.args.b
-  pair = subst (λ (y : Side). Pair y board s.args.a s.args.b) is s.pre.1.1.1.0
+  pair = subst (λ (y : Side). Pair y board s.args.a s.args.b) is s.requires.1.1.1.0
 
   compared : Compared x board t s.args.a s.args.b (to_z w64 (of_z w64 s.args.e))
-  compared = subst (λ (y : Side). Compared y board t s.args.a s.args.b s.args.e) is s.pre.1.1.1.1 ∙ ap accepted (sym (to_z-of_z s.fits.e))
+  compared = subst (λ (y : Side). Compared y board t s.args.a s.args.b s.args.e) is s.requires.1.1.1.1 ∙ ap accepted (sym (to_z-of_z s.ranges.e))
 
   trying : (after : List ℤ) (r : Bool) → Trying board t x s.args.a s.args.b s.args.k after r → Trying board t s.args.side s.args.a s.args.b s.args.k after r
   trying after r h = subst (λ (y : Side). Trying board t y s.args.a s.args.b s.args.k after r) (sym is) h
 
-share-rows-requires : tie.Need-share-rows-requires
-share-rows-requires c κs =
-    let w = c.before in
-    let s = w.before.before.before in
-    let is = w.enum_told.given.1 in
-    (s.requires.0, (pair s Inputs is, (compared s Inputs is, s.requires.1.0.fresh is)))
+share_rows-accepted-requires : tie.Need-share_rows-accepted-requires
+share_rows-accepted-requires c κs =
+    let w = c in
+    let s = w in
+    let is = w.in-Inputs.is in
+    (s.requires.0, (pair s.before.before.before Inputs is, (compared s.before.before.before Inputs is, s.requires.1.0.fresh is)))
 
-share-columns-requires : tie.Need-share-columns-requires
-share-columns-requires c κs =
-    let w = c.before.before in
-    let s = w.before.before.before in
-    let is = w.enum-told2.given.1 in
+share_columns-requires : tie.Need-share_columns-requires
+share_columns-requires c κs =
+    let w = c in
+    let s = w in
+    let is = w.in-Outputs.is in
     let rows = s.requires.1.1.0 in
-    (s.requires.0, (s.requires.1.0.order, (pair s Outputs is, (compared s Outputs is, record { long = omega (arith, rows.long, s.requires.0.lent.sized.few); sets = rows.sets }))))
+    (s.requires.0, (s.requires.1.0.order, (pair s.before.before.before.before Outputs is, (compared s.before.before.before.before Outputs is, record { long = omega (arith, rows.long, s.requires.0.lent.sized.few); sets = rows.sets }))))
 
-returns : tie.Need-returns
-returns c =
-    let f = c.before in
-    let w = f.before.before in
-    let s = w.before.before.before in
-    (trying s Inputs w.enum_told.given.1 f.share-rows.new.1.0 f.share-rows.result f.share-rows.ensures, s.requires.1.1.0)
+returns-in-Inputs : tie.Need-returns-in-Inputs
+returns-in-Inputs c =
+    let f = c in
+    let w = f in
+    let s = w in
+    (trying s.before.before.before.before.before Inputs w.in-Inputs.is f.share_rows-accepted.new.table f.share_rows-accepted.result f.share_rows-accepted.ensures, s.requires.1.1.0)
 
-returns-2 : tie.Need-returns-2
-returns-2 c =
-    let f = c.before.before.before in
-    let w = f.before.before.before in
-    let s = w.before.before.before in
-    let is = w.enum-told2.given.1 in
-    let x = f.share-columns in
-    (trying s Outputs is x.new.1.0 x.result.accepted x.ensures.0, record { long = x.auto.1.1.1.1.0 ∙ s.requires.1.1.0.long; outputs = λ _. is; sets = x.ensures.1.sets })
+returns-in-Outputs : tie.Need-returns-in-Outputs
+returns-in-Outputs c =
+    let f = c in
+    let w = f in
+    let s = w in
+    let is = w.in-Outputs.is in
+    let x = f.share_columns in
+    (trying s.before.before.before.before.before.before.before.before Outputs is x.new.table x.result.accepted x.ensures.0, record { long = x.auto.words ∙ s.requires.1.1.0.long; outputs = λ _. is; sets = x.ensures.1.sets })
 
-pub share-spec : {M : Type 1} → statement M
-share-spec =
+pub share_spec : {M : Type 1} → statement M
+share_spec =
     tie.close
     (tie.spec
     (λ c. search rules)
-    share-rows-requires
+    share_rows-accepted-requires
     (λ c. search rules)
-    share-columns-requires
+    share_columns-requires
     (λ c. search rules)
-    returns
+    returns-in-Inputs
     (λ c. search rules)
     (λ c. search rules)
-    returns-2)
+    returns-in-Outputs)

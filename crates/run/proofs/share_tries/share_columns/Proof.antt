@@ -37,87 +37,87 @@ module _ (s : tie.Start) where
   abbrev verdict : Verdict ℤ
   verdict = share_outputs_verdict board.inputs board.outputs board.vertices s.args.a s.args.b g
 
-  left-to-ask : verdict ≡ outputs_saved board.vertices g s.args.a s.args.b s.args.e
-  left-to-ask = columns_saved board t s.args.a s.args.b s.args.e s.pre.1.1.0 s.pre.1.1.1.0
+  left_to_ask : verdict ≡ outputs_saved board.vertices g s.args.a s.args.b s.args.e
+  left_to_ask = columns_saved board t s.args.a s.args.b s.args.e s.requires.1.1.0 s.requires.1.1.1.0
 
   outputs : TwoOutputs board s.args.a s.args.b
-  outputs = pair_outputs s.pre.0.lent.sized s.pre.1.1.0
+  outputs = pair_outputs s.requires.0.lent.sized s.requires.1.1.0
 
-returns : tie.Need-returns
-returns c =
-    let r = c.before in
-    let s = r.before.before in
-    let far = ap (λ (z : ℤ). fits delay_limit (at z)) (sym (to_z-of_z s.ranges.e)) ∙ sym r.in_range.ensures ∙ not-true _ c.if1.true in
-    (share_left (board s) (t s) Outputs s.args.a s.args.b 0 (columns_far (board s) (t s) s.args.a s.args.b s.args.e s.requires.1.1.0 s.requires.1.1.1.0 far), s.requires.1.1.1.1)
+returns-then-not-in_range : tie.Need-returns-then-not-in_range
+returns-then-not-in_range c =
+    let r = c in
+    let s = r in
+    let far = ap (λ (z : ℤ). fits delay_limit (at z)) (sym (to_z-of_z s.ranges.e)) ∙ sym r.in_range.ensures ∙ not-true _ c.if-not-in_range.true-raw in
+    (share_left (board s.before.before.before) (t s.before.before.before) Outputs s.args.a s.args.b 0 (columns_far (board s.before.before.before) (t s.before.before.before) s.args.a s.args.b s.args.e s.requires.1.1.0 s.requires.1.1.1.0 far), s.requires.1.1.1.1)
 
-path-back-requires : tie.Need-path-back-requires
-path-back-requires c κs = let s = c.before.before.before.before.before in (s.requires.0, (s.requires.1.0, (outputs s, s.requires.1.1.1.1)))
+path_back-looked-requires : tie.Need-path_back-looked-requires
+path_back-looked-requires c κs = let s = c in (s.requires.0, (s.requires.1.0, (outputs s.before.before.before.before, s.requires.1.1.1.1)))
 
-outputs-saved-requires : tie.Need-outputs-saved-requires
-outputs-saved-requires c κs = let s = c.before.before.before.before.before.before.before.before.before in (s.requires.0.lent, (outputs s).below_b)
+outputs_saved-saved-requires : tie.Need-outputs_saved-saved-requires
+outputs_saved-saved-requires c κs = let s = c in (s.requires.0.lent, (outputs s.before.before.before.before.before.before.before).below_b)
 
-module _ (d : tie.After-outputs-saved) where
-  abbrev looked : tie.After-path-back
-  looked = d.before.before.before.before
+module _ (d : tie.After-outputs_saved-saved) where
+  abbrev looked : tie.After-path_back-looked
+  looked = d.before.before.before
 
   abbrev start : tie.Start
-  start = looked.before.before.before.before.before.before
+  start = looked.before.before.before.before.before
 
-  answered : difference_meaning d.outputs-saved.result ≡ verdict start
+  answered : difference_meaning d.outputs_saved-saved.result ≡ verdict start
   answered =
-      d.outputs-saved.ensures start.args.a looked.path-back.ensures.0
-      ∙ ap (outputs_saved (board start).vertices (g start) start.args.a start.args.b) (to_z-of_z start.fits.e) ∙ sym (left-to-ask start)
+      d.outputs_saved-saved.ensures start.args.a looked.path_back-looked.ensures.0
+      ∙ ap (outputs_saved (board start).vertices (g start) start.args.a start.args.b) (to_z-of_z start.ranges.e) ∙ sym (left_to_ask start)
 
 -- it is accepted
-module _ (c : tie.After-saved) where
-  abbrev asked : tie.After-outputs-saved
-  asked = c.before.before
+module _ (c : tie.In-Common) where
+  abbrev asked : tie.After-outputs_saved-saved
+  asked = c.before
 
   abbrev e : ℤ
-  e = c.saved.given.0.0
+  e = c.in-Common.d
 
   found : verdict (start asked) ≡ accepted e
-  found = said difference_meaning (answered asked) c.saved.given.1
+  found = said difference_meaning (answered asked) c.in-Common.is
 
   ready : ((start asked).args.b < (board (start asked)).vertices) × T (fits delay_limit (at e))
-  ready = let s = start asked in share_outputs_ready (board s).inputs (board s).outputs (board s).vertices s.args.a s.args.b (g s) e s.pre.0.lent.sized.roles found
+  ready = let s = start asked in share_outputs_ready (board s).inputs (board s).outputs (board s).vertices s.args.a s.args.b (g s) e s.requires.0.lent.sized.roles found
 
-narrow-requires : tie.Need-narrow-requires
-narrow-requires c κs = let d = c.before in narrow_fits (e d) (ready d).1
+narrow-d-requires : tie.Need-narrow-d-requires
+narrow-d-requires c κs = let d = c in narrow_fits (e d) (ready d).1
 
 rewrite-requires : tie.Need-rewrite-requires
 rewrite-requires c κs =
-    let d = c.before.before.before in
-    ((start (asked d)).pre.0.lent, (ready d).0)
+    let d = c in
+    ((start (asked d.before.before)).requires.0.lent, (ready d.before.before).0)
 
-returns-2 : tie.Need-returns-2
-returns-2 c =
-    let w = c.before in
-    let d = w.before.before.before.before in
-    let s = start (asked d) in
-    (share_taken (board s) (t s) Outputs s.args.a s.args.b 0 (found d) (narrowed (e d) (ready d).1 _ w.before.before.narrow.type-inv w.before.before.narrow.ensures) w.rewrite.new.1.0 w.rewrite.ensures, (looked (asked d)).path-back.ensures.1)
+returns-in-Common : tie.Need-returns-in-Common
+returns-in-Common c =
+    let w = c in
+    let d = w in
+    let s = start (asked d.before.before.before.before) in
+    (share_taken (board s) (t s) Outputs s.args.a s.args.b 0 (found d.before.before.before.before) (narrowed (e d.before.before.before.before) (ready d.before.before.before.before).1 _ w.narrow-d.type_inv w.narrow-d.ensures) w.rewrite.new.table w.rewrite.ensures, (looked (asked d.before.before.before.before)).path_back-looked.ensures.1)
 
-returns-3 : tie.Need-returns-3
-returns-3 c =
-    let d = c.before.before in
-    let s = start d in
-    (share_left (board s) (t s) Outputs s.args.a s.args.b 0 (refused_low (said difference_meaning (answered d) c.enum_told.given.1)), (looked d).path-back.ensures.1)
+returns : tie.Need-returns
+returns c =
+    let d = c in
+    let s = start d.before in
+    (share_left (board s) (t s) Outputs s.args.a s.args.b 0 (refused_low (said difference_meaning (answered d.before) c.in_default.is)), (looked d.before).path_back-looked.ensures.1)
 
-pub share-columns-spec : {M : Type 1} → statement M
-share-columns-spec =
+pub share_columns_spec : {M : Type 1} → statement M
+share_columns_spec =
     tie.close
     (tie.spec
     (λ c κs. tt)
-    returns
-    path-back-requires
-    outputs-saved-requires
+    returns-then-not-in_range
+    path_back-looked-requires
+    outputs_saved-saved-requires
     (λ c. search rules)
-    narrow-requires
+    narrow-d-requires
     rewrite-requires
     (λ c. search rules)
     (λ c. search rules)
-    returns-2
+    returns-in-Common
     (λ c. search rules)
     (λ c. search rules)
     (λ c. search rules)
-    returns-3)
+    returns)

@@ -20,15 +20,15 @@ use Rattle.run.proofs.TriedShares.{share_taken, share_left}
 use Rattle.run.proofs.share_tries.share_rows.Statement.{statement}
 use Rattle.run.proofs.share_tries.share_rows.Tie as tie
 
-returns : tie.Need-returns
-returns c =
-    let s = c.before.before in
-    share_left s.args.board s.args.table.now Inputs s.args.a s.args.b s.args.k (rows_full s.args.board s.args.table.now s.args.a s.args.b s.args.e s.args.k c.if1.true)
+returns-then-k-board : tie.Need-returns-then-k-board
+returns-then-k-board c =
+    let s = c in
+    share_left s.args.board s.args.table.now Inputs s.args.a s.args.b s.args.k (rows_full s.args.board s.args.table.now s.args.a s.args.b s.args.e s.args.k c.if-k-board.true)
 
 -- what is left to ask is the verdict
-module _ (d : tie.After-inputs-saved) where
+module _ (d : tie.After-inputs_saved-saved) where
   abbrev start : tie.Start
-  start = d.before.before.before.before
+  start = d.before.before.before
 
   abbrev board : Board
   board = start.args.board
@@ -39,57 +39,57 @@ module _ (d : tie.After-inputs-saved) where
   abbrev verdict : Verdict ℤ
   verdict = share_inputs_verdict board.inputs board.outputs board.vertices start.args.a start.args.b start.args.k (graph_of board.vertices t)
 
-  answered : difference_meaning d.inputs-saved.result ≡ verdict
+  answered : difference_meaning d.inputs_saved-saved.result ≡ verdict
   answered =
-      d.inputs-saved.ensures ∙ ap (inputs_saved board.vertices (graph_of board.vertices t) start.args.b) (to_z-of_z start.fits.e)
-      ∙ sym (rows_saved board t start.args.a start.args.b start.args.e start.pre.1.0 start.pre.1.1.0 start.args.k start.pre.1.1.1 d.before.before.if1.left)
+      d.inputs_saved-saved.ensures ∙ ap (inputs_saved board.vertices (graph_of board.vertices t) start.args.b) (to_z-of_z start.ranges.e)
+      ∙ sym (rows_saved board t start.args.a start.args.b start.args.e start.requires.1.0 start.requires.1.1.0 start.args.k start.requires.1.1.1 d.if-k-board.false)
 
 -- it is accepted
-module _ (c : tie.After-saved) where
-  abbrev asked : tie.After-inputs-saved
-  asked = c.before.before
+module _ (c : tie.In-Common) where
+  abbrev asked : tie.After-inputs_saved-saved
+  asked = c.before
 
   abbrev e : ℤ
-  e = c.saved.given.0.0
+  e = c.in-Common.d
 
   found : verdict asked ≡ accepted e
-  found = said difference_meaning (answered asked) c.saved.given.1
+  found = said difference_meaning (answered asked) c.in-Common.is
 
   ready : ((start asked).args.a < (board asked).vertices) × ((start asked).args.k < (board asked).vertices) × T (fits delay_limit (at e))
-  ready = share_inputs_ready (board asked).inputs (board asked).outputs (board asked).vertices (start asked).args.a (start asked).args.b (start asked).args.k (graph_of (board asked).vertices (t asked)) e (start asked).pre.0.lent.sized.roles found
+  ready = share_inputs_ready (board asked).inputs (board asked).outputs (board asked).vertices (start asked).args.a (start asked).args.b (start asked).args.k (graph_of (board asked).vertices (t asked)) e (start asked).requires.0.lent.sized.roles found
 
-narrow-requires : tie.Need-narrow-requires
-narrow-requires c κs = let d = c.before in narrow_fits (e d) (ready d).2
+narrow-d-requires : tie.Need-narrow-d-requires
+narrow-d-requires c κs = let d = c in narrow_fits (e d) (ready d).2
 
 rewrite-requires : tie.Need-rewrite-requires
 rewrite-requires c κs =
-    let d = c.before.before.before in
-    ((start (asked d)).pre.0.lent, ((ready d).0, (ready d).1))
+    let d = c in
+    ((start (asked d.before.before)).requires.0.lent, ((ready d.before.before).0, (ready d.before.before).1))
 
-returns-2 : tie.Need-returns-2
-returns-2 c =
-    let w = c.before in
-    let d = w.before.before.before.before in
-    let s = start (asked d) in
-    share_taken s.args.board s.args.table.now Inputs s.args.a s.args.b s.args.k (found d) (narrowed (e d) (ready d).2 _ w.before.before.narrow.type-inv w.before.before.narrow.ensures) w.rewrite.new.1.0 w.rewrite.ensures
+returns-in-Common : tie.Need-returns-in-Common
+returns-in-Common c =
+    let w = c in
+    let d = w in
+    let s = start (asked d.before.before.before.before) in
+    share_taken s.args.board s.args.table.now Inputs s.args.a s.args.b s.args.k (found d.before.before.before.before) (narrowed (e d.before.before.before.before) (ready d.before.before.before.before).2 _ w.narrow-d.type_inv w.narrow-d.ensures) w.rewrite.new.table w.rewrite.ensures
 
-returns-3 : tie.Need-returns-3
-returns-3 c =
-    let d = c.before.before in
-    let s = start d in
-    share_left s.args.board s.args.table.now Inputs s.args.a s.args.b s.args.k (refused_low (said difference_meaning (answered d) c.enum_told.given.1))
+returns : tie.Need-returns
+returns c =
+    let d = c in
+    let s = start d.before in
+    share_left s.args.board s.args.table.now Inputs s.args.a s.args.b s.args.k (refused_low (said difference_meaning (answered d.before) c.in_default.is))
 
-pub share-rows-spec : {M : Type 1} → statement M
-share-rows-spec =
+pub share_rows_spec : {M : Type 1} → statement M
+share_rows_spec =
     tie.close
     (tie.spec
-    returns
+    returns-then-k-board
     (λ c κs. search rules)
     (λ c. search rules)
-    narrow-requires
+    narrow-d-requires
     rewrite-requires
     (λ c. search rules)
-    returns-2
+    returns-in-Common
     (λ c. search rules)
     (λ c. search rules)
-    returns-3)
+    returns)

@@ -25,36 +25,36 @@ use Rattle.run.proofs.share_tries.try_share.Statement.{statement}
 use Rattle.run.proofs.share_tries.try_share.Tie as tie
 
 -- the difference, as the code has it
-e-is : (c : tie.After-known-told) → to_z w64 (of_z w64 c.before.difference.given.0.0) ≡ c.before.difference.given.0.0
-e-is c = search rules
+e_is : (c : tie.In-Common) → to_z w64 (of_z w64 c.in-Common.e) ≡ c.in-Common.e
+e_is c = search rules
 
-share-requires : tie.Need-share-requires
-share-requires c κs =
-    let k = c.before.before in
-    let s = k.before.before.before.before in
-    (s.requires.0.checked, (s.requires.1.0, (s.requires.1.1.1.0, (s.requires.1.1.1.1.0, said difference_meaning s.requires.1.1.1.1.1 k.before.difference.given.1 ∙ ap accepted (sym (e-is k))))))
+share-shared-requires : tie.Need-share-shared-requires
+share-shared-requires c κs =
+    let k = c in
+    let s = k in
+    (s.requires.0.checked, (s.requires.1.0, (s.requires.1.1.1.0, (s.requires.1.1.1.1.0, said difference_meaning s.requires.1.1.1.1.1 k.in-Common.is ∙ ap accepted (sym (e_is k.before.before))))))
 
 -- the share has been tried
-module _ (f : tie.After-share) where
+module _ (f : tie.After-share-shared) where
   abbrev start : tie.Start
-  start = f.before.before.before.before.before.before.before
+  start = f.before.before.before.before.before
 
   abbrev after : List ℤ
-  after = f.share.last.1.0
+  after = f.share-shared.new.table
 
-  tried : (r : Bool) → f.share.result.accepted ≡ r → Trying start.args.board start.args.table.now start.args.side start.args.a start.args.b start.args.tally.fresh after r
-  tried r e = subst (Trying start.args.board start.args.table.now start.args.side start.args.a start.args.b start.args.tally.fresh after) e f.share.ensures.0
+  tried : (r : Bool) → f.share-shared.result.accepted ≡ r → Trying start.args.board start.args.table.now start.args.side start.args.a start.args.b start.args.tally.fresh after r
+  tried r e = subst (Trying start.args.board start.args.table.now start.args.side start.args.a start.args.b start.args.tally.fresh after) e f.share-shared.ensures.0
 
 -- it is accepted
-module _ (c : tie.Then1) where
-  abbrev made : tie.After-share
+module _ (c : tie.Then-shared) where
+  abbrev made : tie.After-share-shared
   made = c.before.before.before.before
 
   abbrev s : tie.Start
   s = start made
 
-  goes : Tried s.args.board s.args.table.now s.args.order.now s.args.side s.args.a s.args.b s.args.tally.fresh s.args.tally.steps s.pre.0 s.pre.1.0 (after made) (s.args.tally.steps + 1) × Checked s.args.board (after made)
-  goes = share_goes s.args.board s.args.table.now s.args.order.now s.args.side s.args.a s.args.b s.args.tally.fresh s.args.tally.steps s.pre.0 s.pre.1.0 (after made) (tried made true c.if1.true)
+  goes : Tried s.args.board s.args.table.now s.args.order.now s.args.side s.args.a s.args.b s.args.tally.fresh s.args.tally.steps s.requires.0 s.requires.1.0 (after made) (s.args.tally.steps + 1) × Checked s.args.board (after made)
+  goes = share_goes s.args.board s.args.table.now s.args.order.now s.args.side s.args.a s.args.b s.args.tally.fresh s.args.tally.steps s.requires.0 s.requires.1.0 (after made) (tried made true c.if-shared.true)
 
   -- a and b are vertices of the new table, and of the marks
   below : (v : ℕ) → OnSide s.args.board s.args.side v → Lent s.args.board (after made) × (v < s.args.board.vertices)
@@ -63,82 +63,82 @@ module _ (c : tie.Then1) where
   inside : (v : ℕ) → OnSide s.args.board s.args.side v → v < max_vertices
   inside v on = omega (arith, (below v on).1, goes.1.lent.sized.few)
 
-keep-up-requires : tie.Need-keep-up-requires
-keep-up-requires c κs =
-    let d = c.before in
-    let sized = (goes d).1.lent.sized in
-    let pair = (s d).requires.1.1.1.1.0 in
-    (sized, (omega (arith, (made d).share.ensures.1.long, sized.few), ((below d (s d).args.a pair.one).1, (below d (s d).args.b pair.other).1)))
+keep_up-requires : tie.Need-keep_up-requires
+keep_up-requires c κs =
+    let d = c in
+    let sized = (goes d.before).1.lent.sized in
+    let pair = (s d.before).requires.1.1.1.1.0 in
+    (sized, (omega (arith, (made d.before).share-shared.ensures.1.long, sized.few), ((below d.before (s d.before).args.a pair.one).1, (below d.before (s d.before).args.b pair.other).1)))
 
-is-rich-requires : tie.Need-is-rich-requires
-is-rich-requires c κs = let d = c.before.before.before.before.before in below d (s d).args.a (s d).requires.1.1.1.1.0.one
+is_rich-requires : tie.Need-is_rich-requires
+is_rich-requires c κs = let d = c in below d.before.before.before.before (s d.before.before.before.before).args.a (s d.before.before.before.before).requires.1.1.1.1.0.one
 
-element-write-rich : tie.Need-element-write-rich
-element-write-rich c = let d = c.before.before.before.before.before.before in inside d (s d).args.a (s d).requires.1.1.1.1.0.one
+bounds-rich-a : tie.Need-bounds-rich-a
+bounds-rich-a c = let d = c in inside d.before.before.before.before.before.before (s d.before.before.before.before.before.before).args.a (s d.before.before.before.before.before.before).requires.1.1.1.1.0.one
 
-is-rich-requires-2 : tie.Need-is-rich-requires-2
-is-rich-requires-2 c κs = let d = c.before.before.before.before.before.before.before in below d (s d).args.b (s d).requires.1.1.1.1.0.other
+is_rich-requires-then-shared : tie.Need-is_rich-requires-then-shared
+is_rich-requires-then-shared c κs = let d = c in below d.before.before.before.before.before.before (s d.before.before.before.before.before.before).args.b (s d.before.before.before.before.before.before).requires.1.1.1.1.0.other
 
-element-write-rich-2 : tie.Need-element-write-rich-2
-element-write-rich-2 c = let d = c.before.before.before.before.before.before.before.before in inside d (s d).args.b (s d).requires.1.1.1.1.0.other
+bounds-rich-b : tie.Need-bounds-rich-b
+bounds-rich-b c = let d = c in inside d.before.before.before.before.before.before.before (s d.before.before.before.before.before.before.before).args.b (s d.before.before.before.before.before.before.before).requires.1.1.1.1.0.other
 
-still-sorted-requires : tie.Need-still-sorted-requires
-still-sorted-requires c κs = (goes c.before.before.before.before.before.before.before.before).1.lent.sized.few
+still_sorted-still-requires : tie.Need-still_sorted-still-requires
+still_sorted-still-requires c κs = (goes c.before.before.before.before.before.before.before).1.lent.sized.few
 
-renew-requires : tie.Need-renew-requires
-renew-requires c κs = (goes c.before.before.before.before.before.before.before.before.before.before).1.lent
+renew-fresh-requires : tie.Need-renew-fresh-requires
+renew-fresh-requires c κs = (goes c.before.before.before.before.before.before.before.before).1.lent
 
-add-t38 : tie.Need-overflow-add-t38
-add-t38 c = omega (arith, (s c.before.before.before.before.before.before.before.before.before.before.before).pre.0.bound)
+overflow_add-result : tie.Need-overflow_add-result
+overflow_add-result c = omega (arith, (s c.before.before.before.before.before.before.before.before.before).requires.0.bound)
+
+returns-then-shared : tie.Need-returns-then-shared
+returns-then-shared c =
+    let r = c in
+    let kept = r.keep_up in
+    let d = r in
+    let counted = counted_again (s d.before.before.before.before.before.before.before.before.before).args.side (s d.before.before.before.before.before.before.before.before.before).requires.0.checked (s d.before.before.before.before.before.before.before.before.before).requires.1.0 (s d.before.before.before.before.before.before.before.before.before).requires.1.1.1.1.0 (s d.before.before.before.before.before.before.before.before.before).args.rich.now (s d.before.before.before.before.before.before.before.before.before).requires.1.1.0 (after (made d.before.before.before.before.before.before.before.before.before)) (tried (made d.before.before.before.before.before.before.before.before.before) true d.if-shared.true) r.is_rich.result r.is_rich-then-shared.result r.is_rich.ensures r.is_rich-then-shared.ensures in
+    let tries = (made d.before.before.before.before.before.before.before.before.before).share-shared in
+    let rows = rows_shared (s d.before.before.before.before.before.before.before.before.before).args.board (s d.before.before.before.before.before.before.before.before.before).args.table.now (s d.before.before.before.before.before.before.before.before.before).args.side (s d.before.before.before.before.before.before.before.before.before).args.a (s d.before.before.before.before.before.before.before.before.before).args.b (s d.before.before.before.before.before.before.before.before.before).args.tally.fresh (s d.before.before.before.before.before.before.before.before.before).requires.0.checked (after (made d.before.before.before.before.before.before.before.before.before)) (tried (made d.before.before.before.before.before.before.before.before.before) true d.if-shared.true) _ _ tries.result.made tries.ensures.1 kept.auto.1.0 kept.ensures in
+    let sorts = c.still_sorted-still.ensures in
+    let order : c.still_sorted-still.result ≡ true → Passable (s d.before.before.before.before.before.before.before.before.before).args.board (after (made d.before.before.before.before.before.before.before.before.before)) (s d.before.before.before.before.before.before.before.before.before).args.order.now =
+    λ q. still_passable (s d.before.before.before.before.before.before.before.before.before).args.board (s d.before.before.before.before.before.before.before.before.before).args.table.now (s d.before.before.before.before.before.before.before.before.before).args.order.now (s d.before.before.before.before.before.before.before.before.before).args.side (s d.before.before.before.before.before.before.before.before.before).args.a (s d.before.before.before.before.before.before.before.before.before).args.b (s d.before.before.before.before.before.before.before.before.before).args.tally.fresh ((s d.before.before.before.before.before.before.before.before.before).requires.1.0.order (sorts q).0) (s d.before.before.before.before.before.before.before.before.before).requires.1.1.1.1.0 (after (made d.before.before.before.before.before.before.before.before.before)) (tried (made d.before.before.before.before.before.before.before.before.before) true d.if-shared.true) (goes d.before.before.before.before.before.before.before.before.before).1 (sorts q).1 (sorts q).2 in
+    ((goes d.before.before.before.before.before.before.before.before.before).0, ((record { fresh = c.renew-fresh.ensures; order = order }, counted), rows))
+
+returns-in-Common : tie.Need-returns-in-Common
+returns-in-Common c =
+    let f = c in
+    let s = start f.before.before.before.before in
+    let stays = share_stays s.args.board s.args.table.now s.args.order.now s.args.side s.args.a s.args.b s.args.tally.fresh s.args.tally.steps s.requires.0 s.requires.1.0 (after f.before.before.before.before) (tried f.before.before.before.before false c.if-shared.false) in
+    let same = sym ((tried f.before.before.before.before false c.if-shared.false).refused refl).1 in
+    (stays.0, ((stays.1, subst (λ (x : List ℤ). Counted s.args.side s.args.board x s.args.rich.now) same s.requires.1.1.0), subst (λ (x : List ℤ). RowsKept s.args.side s.args.board x f.share-shared.new.words f.share-shared.result.made) same f.share-shared.ensures.1))
 
 returns : tie.Need-returns
 returns c =
-    let r = c.before.before.before in
-    let kept = r.before.before.before.before.before.before.keep-up in
-    let d = r.before.before.before.before.before.before.before.before in
-    let counted = counted_again (s d).args.side (s d).requires.0.checked (s d).requires.1.0 (s d).requires.1.1.1.1.0 (s d).args.rich.now (s d).requires.1.1.0 (after (made d)) (tried (made d) true d.if1.true) r.before.before.is-rich.result r.is-rich2.result r.before.before.is-rich.ensures r.is-rich2.ensures in
-    let tries = (made d).share in
-    let rows = rows_shared (s d).args.board (s d).args.table.now (s d).args.side (s d).args.a (s d).args.b (s d).args.tally.fresh (s d).requires.0.checked (after (made d)) (tried (made d) true d.if1.true) _ _ tries.result.made tries.ensures.1 kept.auto.1.0 kept.ensures in
-    let sorts = c.before.before.still-sorted.ensures in
-    let order : c.before.before.still-sorted.result ≡ true → Passable (s d).args.board (after (made d)) (s d).args.order.now =
-    λ q. still_passable (s d).args.board (s d).args.table.now (s d).args.order.now (s d).args.side (s d).args.a (s d).args.b (s d).args.tally.fresh ((s d).requires.1.0.order (sorts q).0) (s d).requires.1.1.1.1.0 (after (made d)) (tried (made d) true d.if1.true) (goes d).1 (sorts q).1 (sorts q).2 in
-    ((goes d).0, ((record { fresh = c.renew.ensures; order = order }, counted), rows))
-
-returns-2 : tie.Need-returns-2
-returns-2 c =
-    let f = c.before.before.before.before in
-    let s = start f in
-    let stays = share_stays s.args.board s.args.table.now s.args.order.now s.args.side s.args.a s.args.b s.args.tally.fresh s.args.tally.steps s.pre.0 s.pre.1.0 (after f) (tried f false c.if1.false) in
-    let same = sym ((tried f false c.if1.false).refused refl).1 in
-    (stays.0, ((stays.1, subst (λ (x : List ℤ). Counted s.args.side s.args.board x s.args.rich.now) same s.pre.1.1.0), subst (λ (x : List ℤ). RowsKept s.args.side s.args.board x f.share.new.1.1.1.1.0 f.share.result.made) same f.share.ensures.1))
-
-returns-3 : tie.Need-returns-3
-returns-3 c =
-    let s = c.before.before.before in
-    let low = share_apart s.args.board s.args.table.now s.args.side s.args.a s.args.b s.args.tally.fresh _ (said difference_meaning s.requires.1.1.1.1.1 c.enum_told.given.1) in
+    let s = c in
+    let low = share_apart s.args.board s.args.table.now s.args.side s.args.a s.args.b s.args.tally.fresh _ (said difference_meaning s.requires.1.1.1.1.1 c.in_default.is) in
     let left = share_left s.args.board s.args.table.now s.args.side s.args.a s.args.b s.args.tally.fresh low in
     let stays = share_stays s.args.board s.args.table.now s.args.order.now s.args.side s.args.a s.args.b s.args.tally.fresh s.args.tally.steps s.requires.0 s.requires.1.0 s.args.table.now left in
     (stays.0, ((stays.1, s.requires.1.1.0), s.requires.1.1.1.0))
 
-pub try-share-spec : {M : Type 1} → statement M
-try-share-spec =
+pub try_share_spec : {M : Type 1} → statement M
+try_share_spec =
     tie.close
     (tie.spec
     (λ c. search rules)
-    share-requires
-    keep-up-requires
-    is-rich-requires
-    element-write-rich
-    is-rich-requires-2
-    element-write-rich-2
-    still-sorted-requires
-    renew-requires
-    add-t38
+    share-shared-requires
+    keep_up-requires
+    is_rich-requires
+    bounds-rich-a
+    is_rich-requires-then-shared
+    bounds-rich-b
+    still_sorted-still-requires
+    renew-fresh-requires
+    overflow_add-result
     (λ c. search rules)
     (λ c. search rules)
-    returns
+    returns-then-shared
     (λ c. search rules)
     (λ c. search rules)
-    returns-2
+    returns-in-Common
     (λ c. search rules)
-    returns-3)
+    returns)

@@ -73,35 +73,35 @@ invariant-firsts board table₀ order matrix side sorted steps from end across s
 abbrev decreases-firsts : tie.decreases-firsts
 decreases-firsts board table₀ order matrix side sorted steps from end across stride tally₀ rich₀ words₀ a₀ table tally rich words a = last board side - a
 
-end-requires : tie.Need-end-requires invariant-compare decreases-compare invariant-seconds decreases-seconds invariant-firsts decreases-firsts
-end-requires c κs = c.before.requires.0.checked.lent.sized
+end-end-requires : tie.Need-end-end-requires invariant-compare decreases-compare invariant-seconds decreases-seconds invariant-firsts decreases-firsts
+end-end-requires c κs = c.requires.0.checked.lent.sized
 
 renew-requires : tie.Need-renew-requires invariant-compare decreases-compare invariant-seconds decreases-seconds invariant-firsts decreases-firsts
-renew-requires c κs = c.before.before.before.before.before.requires.0.checked.lent
+renew-requires c κs = c.requires.0.checked.lent
 
 -- the number is there
 module _ (r : tie.After-renew invariant-compare decreases-compare invariant-seconds decreases-seconds invariant-firsts decreases-firsts) where
   abbrev begin : tie.Start invariant-compare decreases-compare invariant-seconds decreases-seconds invariant-firsts decreases-firsts
-  begin = r.before.before.before.before.before.before
+  begin = r.before.before.before.before.before
 
   ready : Ready begin.args.side begin.args.board begin.args.table.now begin.args.order.now r.renew.result begin.args.sorted
-  ready = record { fresh = r.renew.ensures; order = begin.pre.1.1 }
+  ready = record { fresh = r.renew.ensures; order = begin.requires.1.1 }
 
-returns : tie.Need-returns invariant-compare decreases-compare invariant-seconds decreases-seconds invariant-firsts decreases-firsts
-returns c =
-    let i = c.before in
-    let w = i.before in
-    let s = begin w in
-    let full = i.is-full.ensures c.if1.true in
-    (full_stays s.args.board s.args.table.now s.args.order.now s.args.side w.renew.result s.args.steps s.pre.0 (ready w) full.0 full.1, s.pre.1.1)
+returns-then-is_full : tie.Need-returns-then-is_full invariant-compare decreases-compare invariant-seconds decreases-seconds invariant-firsts decreases-firsts
+returns-then-is_full c =
+    let i = c in
+    let w = i in
+    let s = begin w.before.before in
+    let full = i.is_full.ensures c.if-is_full.true in
+    (full_stays s.args.board s.args.table.now s.args.order.now s.args.side w.renew.result s.args.steps s.requires.0 (ready w.before.before) full.0 full.1, s.requires.1.1)
 
-rich-ones-requires : tie.Need-rich-ones-requires invariant-compare decreases-compare invariant-seconds decreases-seconds invariant-firsts decreases-firsts
-rich-ones-requires c κs = (begin c.before.before.before).pre.0.checked.lent
+rich_ones-rich-requires : tie.Need-rich_ones-rich-requires invariant-compare decreases-compare invariant-seconds decreases-seconds invariant-firsts decreases-firsts
+rich_ones-rich-requires c κs = (begin c.before.before).requires.0.checked.lent
 
 -- before the loops
-module _ (r : tie.After-rich-ones invariant-compare decreases-compare invariant-seconds decreases-seconds invariant-firsts decreases-firsts) where
+module _ (r : tie.After-rich_ones-rich invariant-compare decreases-compare invariant-seconds decreases-seconds invariant-firsts decreases-firsts) where
   abbrev renewed : tie.After-renew invariant-compare decreases-compare invariant-seconds decreases-seconds invariant-firsts decreases-firsts
-  renewed = r.before.before.before.before
+  renewed = r.before.before.before
 
   abbrev start : tie.Start invariant-compare decreases-compare invariant-seconds decreases-seconds invariant-firsts decreases-firsts
   start = begin renewed
@@ -118,30 +118,30 @@ module _ (r : tie.After-rich-ones invariant-compare decreases-compare invariant-
   abbrev n : ℕ
   n = board.outputs
 
-  from_is : renewed.before.before.before.before.before.first.result ≡ first_of side m
-  from_is = renewed.before.before.before.before.before.first.ensures
+  from_is : renewed.first-from.result ≡ first_of side m
+  from_is = renewed.first-from.ensures
 
-  end_is : renewed.before.before.before.before.end.result ≡ first_of side m + count_of side m n
-  end_is = renewed.before.before.before.before.end.ensures
+  end_is : renewed.end-end.result ≡ first_of side m + count_of side m n
+  end_is = renewed.end-end.ensures
 
-  across-is : renewed.before.before.before.across.result ≡ across_of side m n
-  across-is = renewed.before.before.before.across.ensures
+  across_is : renewed.across-across.result ≡ across_of side m n
+  across_is = renewed.across-across.ensures
 
-  stride-is : renewed.before.before.stride.result ≡ stride_of side n
-  stride-is = renewed.before.before.stride.ensures
+  stride_is : renewed.stride-stride.result ≡ stride_of side n
+  stride_is = renewed.stride-stride.ensures
 
   -- the side's vertices are few
-  end-few : first_of side m + count_of side m n ≤ max_vertices
-  end-few = omega (arith, side_fits side board start.pre.0.checked.lent.sized)
+  end_few : first_of side m + count_of side m n ≤ max_vertices
+  end_few = omega (arith, side_fits side board start.requires.0.checked.lent.sized)
 
-firsts-holds : tie.Need-firsts-init invariant-compare decreases-compare invariant-seconds decreases-seconds invariant-firsts decreases-firsts
-firsts-holds c =
-    let r = c.before in
-    let s = start r in
-    let unmade : RowsKept (side r) (board r) s.args.table.now c.words.result false = record { long = c.words.ensures; outputs = λ q. absurd (never q); sets = λ q. absurd (never q) } in (
-      omega (arith, from_is r),
-      omega (arith, from_is r),
-      sharing_none (record { steps = s.args.steps; fresh = (renewed r).renew.result; sorted = s.args.sorted; made = false }) (share_tries (m r) (n r) s.args.board.vertices (side r)) (atFirst (board r) (side r) (renewed r).before.before.before.before.before.first.result) (λ q. firsts_all (try_share (m r) (n r) s.args.board.vertices (side r) q) (first_of (side r) (m r)) (count_of (side r) (m r) (n r)) ∙ ap (λ (x : ℕ). atFirst (board r) (side r) x q) (sym (from_is r))) s.pre.0 s.pre.1.0 (ready (renewed r)) r.rich-ones.ensures unmade,
+firsts-init : tie.Need-firsts-init invariant-compare decreases-compare invariant-seconds decreases-seconds invariant-firsts decreases-firsts
+firsts-init c =
+    let r = c in
+    let s = start r.before in
+    let unmade : RowsKept (side r.before) (board r.before) s.args.table.now c.words-words.result false = record { long = c.words-words.ensures; outputs = λ q. absurd (never q); sets = λ q. absurd (never q) } in (
+      omega (arith, from_is r.before),
+      omega (arith, from_is r.before),
+      sharing_none (record { steps = s.args.steps; fresh = (renewed r.before).renew.result; sorted = s.args.sorted; made = false }) (share_tries (m r.before) (n r.before) s.args.board.vertices (side r.before)) (atFirst (board r.before) (side r.before) (renewed r.before).first-from.result) (λ q. firsts_all (try_share (m r.before) (n r.before) s.args.board.vertices (side r.before) q) (first_of (side r.before) (m r.before)) (count_of (side r.before) (m r.before) (n r.before)) ∙ ap (λ (x : ℕ). atFirst (board r.before) (side r.before) x q) (sym (from_is r.before))) s.requires.0 s.requires.1.0 (ready (renewed r.before)) r.rich_ones-rich.ensures unmade,
     )
   where
     never : false ≡ true → ⊥
@@ -152,22 +152,22 @@ module _ (f : tie.In-firsts invariant-compare decreases-compare invariant-second
   abbrev firsts : tie.At-firsts invariant-compare decreases-compare invariant-seconds decreases-seconds invariant-firsts decreases-firsts
   firsts = f.before
 
-  abbrev counted : tie.After-rich-ones invariant-compare decreases-compare invariant-seconds decreases-seconds invariant-firsts decreases-firsts
+  abbrev counted : tie.After-rich_ones-rich invariant-compare decreases-compare invariant-seconds decreases-seconds invariant-firsts decreases-firsts
   counted = firsts.before.before
 
   abbrev a : ℕ
   a = firsts.firsts.a
 
-  on-a : OnSide (board counted) (side counted) a
-  on-a = record { from = firsts.firsts.inv.0; below = omega (arith, f.firsts-test.taken, end_is counted) }
+  on_a : OnSide (board counted) (side counted) a
+  on_a = record { from = firsts.firsts.invariant.0; below = omega (arith, f.firsts-test.true, end_is counted) }
 
-seconds-holds : tie.Need-seconds-init invariant-compare decreases-compare invariant-seconds decreases-seconds invariant-firsts decreases-firsts
-seconds-holds c =
+seconds-init : tie.Need-seconds-init invariant-compare decreases-compare invariant-seconds decreases-seconds invariant-firsts decreases-firsts
+seconds-init c =
     let r = counted c in
     let h = (firsts c).firsts.invariant.2 in (
       omega (arith, from_is r),
       omega (arith, from_is r),
-      sharing_none (firsts c).firsts.tally (atSecond (board r) (side r) (a c) (first_of (side r) (m r))) (atSecond (board r) (side r) (a c) (renewed r).before.before.before.before.before.first.result) (λ q. ap (λ (x : ℕ). atSecond (board r) (side r) (a c) x q) (sym (from_is r))) h.running h.held h.ready h.counted h.rows,
+      sharing_none (firsts c).firsts.tally (atSecond (board r) (side r) (a c) (first_of (side r) (m r))) (atSecond (board r) (side r) (a c) (renewed r).first-from.result) (λ q. ap (λ (x : ℕ). atSecond (board r) (side r) (a c) x q) (sym (from_is r))) h.running h.held h.ready h.counted h.rows,
     )
 
 -- in a turn over b
@@ -184,47 +184,47 @@ module _ (k : tie.In-seconds invariant-compare decreases-compare invariant-secon
   abbrev table : List ℤ
   table = seconds.seconds.table
 
-  abbrev the-board : Board
-  the-board = board (counted turn)
+  abbrev the_board : Board
+  the_board = board (counted turn)
 
-  abbrev the-side : Side
-  the-side = side (counted turn)
+  abbrev the_side : Side
+  the_side = side (counted turn)
 
-  on-b : OnSide the-board the-side b
-  on-b = record { from = seconds.seconds.inv.0; below = omega (arith, k.seconds-test.taken, end_is (counted turn)) }
+  on_b : OnSide the_board the_side b
+  on_b = record { from = seconds.seconds.invariant.0; below = omega (arith, k.seconds-test.true, end_is (counted turn)) }
 
-  another : a turn ≢ b → (q : ℕ) → atSecond the-board the-side (a turn) b q ≡ try_share the-board.inputs the-board.outputs the-board.vertices the-side q (a turn) b ∷ atSecond the-board the-side (a turn) (b + 1) q
-  another ne q = seconds_other (try_share the-board.inputs the-board.outputs the-board.vertices the-side q) (first_of the-side the-board.inputs) (count_of the-side the-board.inputs the-board.outputs) (a turn) b on-b.below ne
+  another : a turn ≢ b → (q : ℕ) → atSecond the_board the_side (a turn) b q ≡ try_share the_board.inputs the_board.outputs the_board.vertices the_side q (a turn) b ∷ atSecond the_board the_side (a turn) (b + 1) q
+  another ne q = seconds_other (try_share the_board.inputs the_board.outputs the_board.vertices the_side q) (first_of the_side the_board.inputs) (count_of the_side the_board.inputs the_board.outputs) (a turn) b on_b.below ne
 
   -- the rows or columns that are compared
-  abbrev line-a : ℕ → Delay
-  line-a = line the-board the-side table (a turn)
+  abbrev line_a : ℕ → Delay
+  line_a = line the_board the_side table (a turn)
 
-  abbrev line-b : ℕ → Delay
-  line-b = line the-board the-side table b
+  abbrev line_b : ℕ → Delay
+  line_b = line the_board the_side table b
 
-array-read-is-open : tie.Need-array-read-is-open invariant-compare decreases-compare invariant-seconds decreases-seconds invariant-firsts decreases-firsts
-array-read-is-open c = let k = c.before in omega (arith, (on-b k).below, end-few (counted (turn k)))
+bounds-rich-b : tie.Need-bounds-rich-b invariant-compare decreases-compare invariant-seconds decreases-seconds invariant-firsts decreases-firsts
+bounds-rich-b c = let k = c in omega (arith, (on_b k.before).below, end_few (counted (turn k.before)))
 
 -- both lines have entries
 module _ (k : tie.In-seconds invariant-compare decreases-compare invariant-seconds decreases-seconds invariant-firsts decreases-firsts) where
-  sized : Sized (the-board k)
-  sized = (start (counted (turn k))).pre.0.checked.lent.sized
+  sized : Sized (the_board k)
+  sized = (start (counted (turn k))).requires.0.checked.lent.sized
 
-  entries : 0 < across_of (the-side k) (the-board k).inputs (the-board k).outputs
-  entries = across_some (the-side k) (the-board k) sized
+  entries : 0 < across_of (the_side k) (the_board k).inputs (the_board k).outputs
+  entries = across_some (the_side k) (the_board k) sized
 
-place-requires : tie.Need-place-requires invariant-compare decreases-compare invariant-seconds decreases-seconds invariant-firsts decreases-firsts
-place-requires c κs = let k = c.before.before.before in (sized k, (on-a (turn k), entries k))
+place-p-requires : tie.Need-place-p-requires invariant-compare decreases-compare invariant-seconds decreases-seconds invariant-firsts decreases-firsts
+place-p-requires c κs = let k = c in (sized k.before.before.before, (on_a (turn k.before.before.before), entries k.before.before.before))
 
-place-requires-2 : tie.Need-place-requires-2 invariant-compare decreases-compare invariant-seconds decreases-seconds invariant-firsts decreases-firsts
-place-requires-2 c κs = let k = c.before.before.before.before in (sized k, (on-b k, entries k))
+place-q-requires : tie.Need-place-q-requires invariant-compare decreases-compare invariant-seconds decreases-seconds invariant-firsts decreases-firsts
+place-q-requires c κs = let k = c in (sized k.before.before.before.before, (on_b k.before.before.before.before, entries k.before.before.before.before))
 
-compare-holds : tie.Need-compare-init invariant-compare decreases-compare invariant-seconds decreases-seconds invariant-firsts decreases-firsts
-compare-holds c = (omega arith, seen_none _ _, c.before.place.ensures, c.place2.ensures)
+compare-init : tie.Need-compare-init invariant-compare decreases-compare invariant-seconds decreases-seconds invariant-firsts decreases-firsts
+compare-init c = (omega arith, seen_none _ _, c.place-p.ensures, c.place-q.ensures)
 
 -- in a turn of the comparison
-module _ (e : tie.Else4 invariant-compare decreases-compare invariant-seconds decreases-seconds invariant-firsts decreases-firsts) where
+module _ (e : tie.Else-j-across invariant-compare decreases-compare invariant-seconds decreases-seconds invariant-firsts decreases-firsts) where
   abbrev compare : tie.At-compare invariant-compare decreases-compare invariant-seconds decreases-seconds invariant-firsts decreases-firsts
   compare = e.before
 
@@ -237,43 +237,43 @@ module _ (e : tie.Else4 invariant-compare decreases-compare invariant-seconds de
   abbrev M : List ℤ
   M = (start (counted (turn pair))).args.matrix.now
 
-  inside : j < across_of (the-side pair) (the-board pair).inputs (the-board pair).outputs
-  inside = omega (arith, e.if4.left, across-is (counted (turn pair)))
+  inside : j < across_of (the_side pair) (the_board pair).inputs (the_board pair).outputs
+  inside = omega (arith, e.if-j-across.false, across_is (counted (turn pair)))
 
-  held : Held (the-board pair) M (table pair)
-  held = (seconds pair).seconds.inv.2.held
+  held : Held (the_board pair) M (table pair)
+  held = (seconds pair).seconds.invariant.2.held
 
-  p-is : compare.compare.p ≡ entry (the-board pair) (the-side pair) (a (turn pair)) j
-  p-is = compare.compare.inv.2
+  p_is : compare.compare.p ≡ entry (the_board pair) (the_side pair) (a (turn pair)) j
+  p_is = compare.compare.invariant.2
 
-  q-is : compare.compare.q ≡ entry (the-board pair) (the-side pair) (b pair) j
-  q-is = compare.compare.inv.3
+  q_is : compare.compare.q ≡ entry (the_board pair) (the_side pair) (b pair) j
+  q_is = compare.compare.invariant.3
 
-  in_p : compare.compare.p < (the-board pair).outputs * (the-board pair).inputs
-  in_p = subst (λ (x : ℕ). x < (the-board pair).outputs * (the-board pair).inputs) (sym p-is) (place_in (the-board pair) (the-side pair) (a (turn pair)) j (on-a (turn pair)) inside)
+  in_p : compare.compare.p < (the_board pair).outputs * (the_board pair).inputs
+  in_p = subst (λ (x : ℕ). x < (the_board pair).outputs * (the_board pair).inputs) (sym p_is) (place_in (the_board pair) (the_side pair) (a (turn pair)) j (on_a (turn pair)) inside)
 
-  in-q : compare.compare.q < (the-board pair).outputs * (the-board pair).inputs
-  in-q = subst (λ (x : ℕ). x < (the-board pair).outputs * (the-board pair).inputs) (sym q-is) (place_in (the-board pair) (the-side pair) (b pair) j (on-b pair) inside)
+  in_q : compare.compare.q < (the_board pair).outputs * (the_board pair).inputs
+  in_q = subst (λ (x : ℕ). x < (the_board pair).outputs * (the_board pair).inputs) (sym q_is) (place_in (the_board pair) (the_side pair) (b pair) j (on_b pair) inside)
 
   -- the next entries
-  next : (v x : ℕ) → x ≡ entry (the-board pair) (the-side pair) v j → x + (renewed (counted (turn pair))).before.before.stride.result ≡ entry (the-board pair) (the-side pair) v (j + 1)
-  next v x e = ap₂ ◌+◌ e (stride-is (counted (turn pair))) ∙ sym (place_next (the-side pair) (the-board pair).inputs (the-board pair).outputs v j)
+  next : (v x : ℕ) → x ≡ entry (the_board pair) (the_side pair) v j → x + (renewed (counted (turn pair))).stride-stride.result ≡ entry (the_board pair) (the_side pair) v (j + 1)
+  next v x e = ap₂ ◌+◌ e (stride_is (counted (turn pair))) ∙ sym (place_next (the_side pair) (the_board pair).inputs (the_board pair).outputs v j)
 
-mul-seen-next : tie.Need-overflow-mul-seen-next invariant-compare decreases-compare invariant-seconds decreases-seconds invariant-firsts decreases-firsts
-mul-seen-next c = omega (arith, in_p c, pairs_fit (sized (pair c)))
+offset_bounds-matrix-p : tie.Need-offset_bounds-matrix-p invariant-compare decreases-compare invariant-seconds decreases-seconds invariant-firsts decreases-firsts
+offset_bounds-matrix-p c = omega (arith, in_p c, pairs_fit (sized (pair c)))
 
-shared-slice-copy-out-seen-next : tie.Need-shared-slice-copy-out-seen-next invariant-compare decreases-compare invariant-seconds decreases-seconds invariant-firsts decreases-firsts
-shared-slice-copy-out-seen-next c = omega (arith, in_p c, (held c).room)
+bounds-matrix-p : tie.Need-bounds-matrix-p invariant-compare decreases-compare invariant-seconds decreases-seconds invariant-firsts decreases-firsts
+bounds-matrix-p c = omega (arith, in_p c, (held c).room)
 
-mul-seen-next-2 : tie.Need-overflow-mul-seen-next-2 invariant-compare decreases-compare invariant-seconds decreases-seconds invariant-firsts decreases-firsts
-mul-seen-next-2 c = let e = c.before in omega (arith, in-q e, pairs_fit (sized (pair e)))
+offset_bounds-matrix-q : tie.Need-offset_bounds-matrix-q invariant-compare decreases-compare invariant-seconds decreases-seconds invariant-firsts decreases-firsts
+offset_bounds-matrix-q c = let e = c in omega (arith, in_q e.before, pairs_fit (sized (pair e.before)))
 
-shared-slice-copy-out-seen-next-2 : tie.Need-shared-slice-copy-out-seen-next-2 invariant-compare decreases-compare invariant-seconds decreases-seconds invariant-firsts decreases-firsts
-shared-slice-copy-out-seen-next-2 c = let e = c.before in omega (arith, in-q e, (held e).room)
+bounds-matrix-q : tie.Need-bounds-matrix-q invariant-compare decreases-compare invariant-seconds decreases-seconds invariant-firsts decreases-firsts
+bounds-matrix-q c = let e = c in omega (arith, in_q e.before, (held e.before).room)
 
 -- the two cells, as the code has them
-module _ (c : tie.After-seen-next-arg2 invariant-compare decreases-compare invariant-seconds decreases-seconds invariant-firsts decreases-firsts) where
-  abbrev here : tie.Else4 invariant-compare decreases-compare invariant-seconds decreases-seconds invariant-firsts decreases-firsts
+module _ (c : tie.After-seen_next-arg-in-compare-1 invariant-compare decreases-compare invariant-seconds decreases-seconds invariant-firsts decreases-firsts) where
+  abbrev here : tie.Else-j-across invariant-compare decreases-compare invariant-seconds decreases-seconds invariant-firsts decreases-firsts
   here = c.before.before
 
   abbrev k : tie.In-seconds invariant-compare decreases-compare invariant-seconds decreases-seconds invariant-firsts decreases-firsts
@@ -285,141 +285,141 @@ module _ (c : tie.After-seen-next-arg2 invariant-compare decreases-compare invar
   abbrev Q : ℕ
   Q = (compare here).compare.q
 
-  a-is : read_cell absent_wide (to_z w64 (of_z w64 (get_or (M here) P (pos 0)))) ≡ arrival_in (M here) (entry (the-board k) (the-side k) (a (turn k)) (j here))
-  a-is = ap (read_cell absent_wide) (back w64 (get_or (M here) P (pos 0)) c.before.seen-next-arg.given) ∙ ap (arrival_in (M here)) (p-is here)
+  a_is : read_cell absent_wide (to_z w64 (of_z w64 (get_or (M here) P (pos 0)))) ≡ arrival_in (M here) (entry (the_board k) (the_side k) (a (turn k)) (j here))
+  a_is = ap (read_cell absent_wide) (back w64 (get_or (M here) P (pos 0)) c.seen_next-arg-1.given) ∙ ap (arrival_in (M here)) (p_is here)
 
-  b-is : read_cell absent_wide (to_z w64 (of_z w64 (get_or (M here) Q (pos 0)))) ≡ arrival_in (M here) (entry (the-board k) (the-side k) (b k) (j here))
-  b-is = ap (read_cell absent_wide) (back w64 (get_or (M here) Q (pos 0)) c.seen-next-arg2.given) ∙ ap (arrival_in (M here)) (q-is here)
+  b_is : read_cell absent_wide (to_z w64 (of_z w64 (get_or (M here) Q (pos 0)))) ≡ arrival_in (M here) (entry (the_board k) (the_side k) (b k) (j here))
+  b_is = ap (read_cell absent_wide) (back w64 (get_or (M here) Q (pos 0)) c.seen_next-arg-in-compare-1.given) ∙ ap (arrival_in (M here)) (q_is here)
 
-seen-next-requires : tie.Need-seen-next-requires invariant-compare decreases-compare invariant-seconds decreases-seconds invariant-firsts decreases-firsts
-seen-next-requires c κs =
+seen_next-seen-requires : tie.Need-seen_next-seen-requires invariant-compare decreases-compare invariant-seconds decreases-seconds invariant-firsts decreases-firsts
+seen_next-seen-requires c κs =
     let e = here c in
     let k = pair e in (
-      subst (λ (d : Delay). T (fits arrival_limit d)) (sym (a-is c)) (near_line (held e) (the-side k) (a (turn k)) (j e) (on-a (turn k)) (inside e)),
-      subst (λ (d : Delay). T (fits arrival_limit d)) (sym (b-is c)) (near_line (held e) (the-side k) (b k) (j e) (on-b k) (inside e)),
+      subst (λ (d : Delay). T (fits arrival_limit d)) (sym (a_is c)) (near_line (held e) (the_side k) (a (turn k)) (j e) (on_a (turn k)) (inside e)),
+      subst (λ (d : Delay). T (fits arrival_limit d)) (sym (b_is c)) (near_line (held e) (the_side k) (b k) (j e) (on_b k) (inside e)),
     )
 
 -- the place after a line's last entry is still small
-module _ (c : tie.At-match-keys2 invariant-compare decreases-compare invariant-seconds decreases-seconds invariant-firsts decreases-firsts) where
-  abbrev there : tie.Else4 invariant-compare decreases-compare invariant-seconds decreases-seconds invariant-firsts decreases-firsts
+module _ (c : tie.In_default invariant-compare decreases-compare invariant-seconds decreases-seconds invariant-firsts decreases-firsts) where
+  abbrev there : tie.Else-j-across invariant-compare decreases-compare invariant-seconds decreases-seconds invariant-firsts decreases-firsts
   there = here c.before.before
 
-  short : stride_of (the-side (pair there)) (the-board (pair there)).outputs ≤ max_vertices
-  short = stride_few (the-side (pair there)) (the-board (pair there)) (sized (pair there))
+  short : stride_of (the_side (pair there)) (the_board (pair there)).outputs ≤ max_vertices
+  short = stride_few (the_side (pair there)) (the_board (pair there)) (sized (pair there))
 
-add-p : tie.Need-overflow-add-p invariant-compare decreases-compare invariant-seconds decreases-seconds invariant-firsts decreases-firsts
-add-p c = let e = there c in omega (arith, in_p e, pairs_fit (sized (pair e)), short c, stride-is (counted (turn (pair e))))
+overflow_add-p : tie.Need-overflow_add-p invariant-compare decreases-compare invariant-seconds decreases-seconds invariant-firsts decreases-firsts
+overflow_add-p c = let e = there c in omega (arith, in_p e, pairs_fit (sized (pair e)), short c, stride_is (counted (turn (pair e))))
 
-add-q : tie.Need-overflow-add-q invariant-compare decreases-compare invariant-seconds decreases-seconds invariant-firsts decreases-firsts
-add-q c = let e = there c in omega (arith, in-q e, pairs_fit (sized (pair e)), short c, stride-is (counted (turn (pair e))))
+overflow_add-q : tie.Need-overflow_add-q invariant-compare decreases-compare invariant-seconds decreases-seconds invariant-firsts decreases-firsts
+overflow_add-q c = let e = there c in omega (arith, in_q e, pairs_fit (sized (pair e)), short c, stride_is (counted (turn (pair e))))
 
-add-j : tie.Need-overflow-add-j invariant-compare decreases-compare invariant-seconds decreases-seconds invariant-firsts decreases-firsts
-add-j c = let e = there c in omega (arith, inside e, across_few (the-side (pair e)) (the-board (pair e)) (sized (pair e)))
+overflow_add-j : tie.Need-overflow_add-j invariant-compare decreases-compare invariant-seconds decreases-seconds invariant-firsts decreases-firsts
+overflow_add-j c = let e = there c in omega (arith, inside e, across_few (the_side (pair e)) (the_board (pair e)) (sized (pair e)))
 
-compare-less : tie.Need-compare-smaller invariant-compare decreases-compare invariant-seconds decreases-seconds invariant-firsts decreases-firsts
-compare-less c = let e = there c in omega (arith, inside e)
+compare-smaller : tie.Need-compare-smaller invariant-compare decreases-compare invariant-seconds decreases-seconds invariant-firsts decreases-firsts
+compare-smaller c = let e = there c in omega (arith, inside e)
 
 -- what is seen after the turn
-turned : (c : tie.After-seen-next invariant-compare decreases-compare invariant-seconds decreases-seconds invariant-firsts decreases-firsts) → let k = pair (here c.before) in c.Seen-next.result ≡ seen (j (here c.before) + 1) (line-a k) (line-b k)
+turned : (c : tie.After-seen_next-seen invariant-compare decreases-compare invariant-seconds decreases-seconds invariant-firsts decreases-firsts) → let k = pair (here c.before) in c.seen_next-seen.result ≡ seen (j (here c.before) + 1) (line_a k) (line_b k)
 turned c =
     let e = here c.before in
     let k = pair e in
-    c.Seen-next.ensures
-    ∙ (λ i. compared ((compare e).compare.inv.1 i)
-    ((a-is c.before ∙ held_line (held e) (the-side k) (a (turn k)) (j e) (on-a (turn k)) (inside e)) i)
-    ((b-is c.before ∙ held_line (held e) (the-side k) (b k) (j e) (on-b k) (inside e)) i))
-    ∙ seen_more (line-a k) (line-b k) (j e)
+    c.seen_next-seen.ensures
+    ∙ (λ i. compared ((compare e).compare.invariant.1 i)
+    ((a_is c.before ∙ held_line (held e) (the_side k) (a (turn k)) (j e) (on_a (turn k)) (inside e)) i)
+    ((b_is c.before ∙ held_line (held e) (the_side k) (b k) (j e) (on_b k) (inside e)) i))
+    ∙ seen_more (line_a k) (line_b k) (j e)
 
-compare-again : tie.Need-compare-preserved invariant-compare decreases-compare invariant-seconds decreases-seconds invariant-firsts decreases-firsts
-compare-again c = let e = there c in (omega (arith, inside e), turned c.before, next e (a (turn (pair e))) (compare e).compare.p (p-is e), next e (b (pair e)) (compare e).compare.q (q-is e))
+compare-preserved : tie.Need-compare-preserved invariant-compare decreases-compare invariant-seconds decreases-seconds invariant-firsts decreases-firsts
+compare-preserved c = let e = there c in (omega (arith, inside e), turned c.before, next e (a (turn (pair e))) (compare e).compare.p (p_is e), next e (b (pair e)) (compare e).compare.q (q_is e))
 
 -- where the ways out of the comparison meet, its answer
-answered : (c : tie.Joined4 invariant-compare decreases-compare invariant-seconds decreases-seconds invariant-firsts decreases-firsts) → let k = c.before.before.before.before.before.before.before in difference_meaning c.if4.difference ≡ compared_by (the-side k) (the-board k) (table k) (a (turn k)) (b k)
+answered : (c : tie.Joined-j-across invariant-compare decreases-compare invariant-seconds decreases-seconds invariant-firsts decreases-firsts) → let k = c in difference_meaning c.if-j-across.difference ≡ compared_by (the_side k.before.before.before.before.before.before.before) (the_board k.before.before.before.before.before.before.before) (table k.before.before.before.before.before.before.before) (a (turn k.before.before.before.before.before.before.before)) (b k.before.before.before.before.before.before.before)
 answered c =
-    let l = c.before in
-    let k = l.before.before.before.before.before.before in
-    let total = across_of (the-side k) (the-board k).inputs (the-board k).outputs in
-    split c.if4.branch
+    let l = c in
+    let k = l in
+    let total = across_of (the_side k.before.before.before.before.before.before.before) (the_board k.before.before.before.before.before.before.before).inputs (the_board k.before.before.before.before.before.before.before).outputs in
+    split c.if-j-across.branch-raw
     (λ w.
-    let e : l.compare.j ≡ total = omega (arith, w.0.taken, l.compare.invariant.0, across-is (counted (turn k))) in
-    ap difference_meaning (w.2 ∙ w.1.ensures ∙ ap settled (l.compare.invariant.1 ∙ ap (λ (x : ℕ). seen x (line-a k) (line-b k)) e)) ∙ seen_common (line-a k) (line-b k) total)
+    let e : l.compare.j ≡ total = omega (arith, w.if-j-across.true, l.compare.invariant.0, across_is (counted (turn k.before.before.before.before.before.before.before))) in
+    ap difference_meaning (w.difference-is ∙ w.settle-difference.ensures ∙ ap settled (l.compare.invariant.1 ∙ ap (λ (x : ℕ). seen x (line_a k.before.before.before.before.before.before.before) (line_b k.before.before.before.before.before.before.before)) e)) ∙ seen_common (line_a k.before.before.before.before.before.before.before) (line_b k.before.before.before.before.before.before.before) total)
     (λ w.
-    let p : tie.After-seen-next invariant-compare decreases-compare invariant-seconds decreases-seconds invariant-firsts decreases-firsts = record { before = record { before = record { before = record { before = l; if4 = w.0 }; seen-next-arg = w.1 }; seen-next-arg2 = w.2 }; Seen-next = w.3 } in
-    ap difference_meaning w.6 ∙ sym (ap (λ (s : Seen). difference_meaning (settled s)) (seen_clash (line-a k) (line-b k) (l.compare.j + 1) total (omega (arith, inside (here p.before))) (sym (turned p) ∙ w.5.given.1)))
-    ∙ seen_common (line-a k) (line-b k) total)
+    let p : tie.After-seen_next-seen invariant-compare decreases-compare invariant-seconds decreases-seconds invariant-firsts decreases-firsts = record { before = record { before = record { before = record { before = l; if4 = w.if-j-across }; seen-next-arg = w.seen_next-arg-1 }; seen-next-arg2 = w.seen_next-arg-in-compare-1 }; Seen-next = w.seen_next-seen } in
+    ap difference_meaning w.6 ∙ sym (ap (λ (s : Seen). difference_meaning (settled s)) (seen_clash (line_a k.before.before.before.before.before.before.before) (line_b k.before.before.before.before.before.before.before) (l.compare.j + 1) total (omega (arith, inside (here p.before))) (sym (turned p) ∙ w.difference-is.given.1)))
+    ∙ seen_common (line_a k.before.before.before.before.before.before.before) (line_b k.before.before.before.before.before.before.before) total)
 
-slice-aggregate-try-share : tie.Need-slice-aggregate-try-share invariant-compare decreases-compare invariant-seconds decreases-seconds invariant-firsts decreases-firsts
-slice-aggregate-try-share c = let k = c.before.before.before.before.before.before.before.before.before.before in sym (seconds k).seconds.invariant.2.rows.long
+slice_bounds-try_share-end : tie.Need-slice_bounds-try_share-end invariant-compare decreases-compare invariant-seconds decreases-seconds invariant-firsts decreases-firsts
+slice_bounds-try_share-end c = let k = c in sym (seconds k.before.before.before.before.before.before.before.before.before.before).seconds.invariant.2.rows.long
 
-try-share-requires : tie.Need-try-share-requires invariant-compare decreases-compare invariant-seconds decreases-seconds invariant-firsts decreases-firsts
-try-share-requires c κs =
-    let l = c.before.before.before.before in
-    let k = l.before.before.before.before.before.before in
-    let h = (seconds k).seconds.invariant.2 in
-    (h.running, (h.ready, (h.counted, (h.rows, (record { one = on-a (turn k); other = on-b k; two = l.before.before.before.before.before.if2.true }, answered c.before.before.before)))))
+try_share-tally-requires : tie.Need-try_share-tally-requires invariant-compare decreases-compare invariant-seconds decreases-seconds invariant-firsts decreases-firsts
+try_share-tally-requires c κs =
+    let l = c in
+    let k = l in
+    let h = (seconds k.before.before.before.before.before.before.before.before.before.before).seconds.invariant.2 in
+    (h.running, (h.ready, (h.counted, (h.rows, (record { one = on_a (turn k.before.before.before.before.before.before.before.before.before.before); other = on_b k.before.before.before.before.before.before.before.before.before.before; two = l.if-a-b.true }, answered c.before.before.before)))))
 
-add-b : tie.Need-overflow-add-b invariant-compare decreases-compare invariant-seconds decreases-seconds invariant-firsts decreases-firsts
-add-b c = let k = c.before in omega (arith, (on-b k).below, end-few (counted (turn k)))
+overflow_add-b : tie.Need-overflow_add-b invariant-compare decreases-compare invariant-seconds decreases-seconds invariant-firsts decreases-firsts
+overflow_add-b c = let k = c in omega (arith, (on_b k.before).below, end_few (counted (turn k.before)))
 
-seconds-less : tie.Need-seconds-smaller invariant-compare decreases-compare invariant-seconds decreases-seconds invariant-firsts decreases-firsts
-seconds-less c = omega (arith, (on-b c.before).below)
+seconds-smaller : tie.Need-seconds-smaller invariant-compare decreases-compare invariant-seconds decreases-seconds invariant-firsts decreases-firsts
+seconds-smaller c = omega (arith, (on_b c.before).below)
 
-seconds-again : tie.Need-seconds-preserved invariant-compare decreases-compare invariant-seconds decreases-seconds invariant-firsts decreases-firsts
-seconds-again c =
-    let k = c.before in
-    let r = counted (turn k) in
-    let x = (seconds k).seconds in
-    let h = x.inv.2 in
-    let old = atSecond (board r) (side r) (a (turn k)) (b k) in
-    let new = atSecond (board r) (side r) (a (turn k)) (b k + 1) in (
-      omega (arith, (on-b k).from),
-      omega (arith, (on-b k).below),
-      split c.if2.branch
-          (λ w. sharing_is w.13 w.16 w.15 w.14 (sharing_on h
-          (sharing_one x.tally (a (turn k)) (b k) old new (another k w.0.taken) h.running h.held _ _ _ _
-          w.10.ensures.0 w.10.ensures.1.0.0 w.10.ensures.1.0.1 w.10.ensures.1.1)))
+seconds-preserved : tie.Need-seconds-preserved invariant-compare decreases-compare invariant-seconds decreases-seconds invariant-firsts decreases-firsts
+seconds-preserved c =
+    let k = c in
+    let r = counted (turn k.before) in
+    let x = (seconds k.before).seconds in
+    let h = x.invariant.2 in
+    let old = atSecond (board r) (side r) (a (turn k.before)) (b k.before) in
+    let new = atSecond (board r) (side r) (a (turn k.before)) (b k.before + 1) in (
+      omega (arith, (on_b k.before).from),
+      omega (arith, (on_b k.before).below),
+      split c.if-a-b.branch-raw
+          (λ w. sharing_is w.table-is w.words-is w.rich-is w.tally-is (sharing_on h
+          (sharing_one x.tally (a (turn k.before)) (b k.before) old new (another k.before w.if-a-b.true) h.running h.held _ _ _ _
+          w.try_share-tally.ensures.0 w.try_share-tally.ensures.1.0.0 w.try_share-tally.ensures.1.0.1 w.try_share-tally.ensures.1.1)))
           (λ w. split w
           (λ w.
-          let idle = split (w.1.ensures w.2.left)
-          (λ poor. share_passed (board r) (table k) (start r).args.order.now (side r) (a (turn k)) (b k) x.tally.fresh x.tally.steps h.running h.ready (sym (h.counted.each (b k) (on-b k)) ∙ poor))
-          (λ full. full_passed (board r) (table k) (start r).args.order.now (side r) (a (turn k)) (b k) x.tally.fresh x.tally.steps h.running h.ready full.0 full.1) in
-          sharing_is w.3 w.6 w.5 w.4 (sharing_on h
-          (sharing_one x.tally (a (turn k)) (b k) old new (another k w.0.taken) h.running h.held _ _ _ _ idle h.ready h.counted h.rows)))
-          (λ w. sharing_is w.1 w.4 w.3 w.2 (sharing_on h
-          (sharing_none x.tally old new (λ q. seconds_same (try_share (m r) (n r) (board r).vertices (side r) q) (first_of (side r) (m r)) (count_of (side r) (m r) (n r)) (a (turn k)) (b k) (on-b k).below w.0.left) h.running h.held h.ready h.counted h.rows)))),
+          let idle = split (w.is_open.ensures w.if-is_open.left)
+          (λ poor. share_passed (board r) (table k.before) (start r).args.order.now (side r) (a (turn k.before)) (b k.before) x.tally.fresh x.tally.steps h.running h.ready (sym (h.counted.each (b k.before) (on_b k.before)) ∙ poor))
+          (λ full. full_passed (board r) (table k.before) (start r).args.order.now (side r) (a (turn k.before)) (b k.before) x.tally.fresh x.tally.steps h.running h.ready full.0 full.1) in
+          sharing_is w.table-is w.words-is w.rich-is w.tally-is (sharing_on h
+          (sharing_one x.tally (a (turn k.before)) (b k.before) old new (another k.before w.if-a-b.true) h.running h.held _ _ _ _ idle h.ready h.counted h.rows)))
+          (λ w. sharing_is w.is_open w.tally-is w.table-is w.if-is_open (sharing_on h
+          (sharing_none x.tally old new (λ q. seconds_same (try_share (m r) (n r) (board r).vertices (side r) q) (first_of (side r) (m r)) (count_of (side r) (m r) (n r)) (a (turn k.before)) (b k.before) (on_b k.before).below w.if-a-b.false) h.running h.held h.ready h.counted h.rows)))),
     )
 
-add_a : tie.Need-overflow-add-a invariant-compare decreases-compare invariant-seconds decreases-seconds invariant-firsts decreases-firsts
-add_a c = let f = c.before.before in omega (arith, (on-a f).below, end-few (counted f))
+overflow_add-a : tie.Need-overflow_add-a invariant-compare decreases-compare invariant-seconds decreases-seconds invariant-firsts decreases-firsts
+overflow_add-a c = let f = c in omega (arith, (on_a f.before.before).below, end_few (counted f.before.before))
 
-firsts-less : tie.Need-firsts-smaller invariant-compare decreases-compare invariant-seconds decreases-seconds invariant-firsts decreases-firsts
-firsts-less c = omega (arith, (on-a c.before.before).below)
+firsts-smaller : tie.Need-firsts-smaller invariant-compare decreases-compare invariant-seconds decreases-seconds invariant-firsts decreases-firsts
+firsts-smaller c = omega (arith, (on_a c.before.before).below)
 
-firsts-again : tie.Need-firsts-preserved invariant-compare decreases-compare invariant-seconds decreases-seconds invariant-firsts decreases-firsts
-firsts-again c =
-    let l = c.before in
-    let f = l.before in
-    let r = counted f in
-    let h = (firsts f).firsts.invariant.2 in
+firsts-preserved : tie.Need-firsts-preserved invariant-compare decreases-compare invariant-seconds decreases-seconds invariant-firsts decreases-firsts
+firsts-preserved c =
+    let l = c in
+    let f = l in
+    let r = counted f.before.before in
+    let h = (firsts f.before.before).firsts.invariant.2 in
     let k = l.seconds.invariant.2 in
-    let begun = sharing_none (firsts f).firsts.tally (atFirst (board r) (side r) (a f)) (atSecond (board r) (side r) (a f) (first_of (side r) (m r))) (λ q. seconds_all (try_share (m r) (n r) (board r).vertices (side r) q) (first_of (side r) (m r)) (count_of (side r) (m r) (n r)) (a f) (on-a f).below) h.running h.held h.ready h.counted h.rows in
-    let ended = sharing_none l.seconds.tally (atSecond (board r) (side r) (a f) l.seconds.b) (atFirst (board r) (side r) (a f + 1)) (λ q. seconds_done (try_share (m r) (n r) (board r).vertices (side r) q) (first_of (side r) (m r)) (count_of (side r) (m r) (n r)) (a f) l.seconds.b (omega (arith, c.seconds-test.false, end_is r))) k.running k.held k.ready k.counted k.rows in
-    (omega (arith, (on-a f).from), omega (arith, (on-a f).below), sharing_on (sharing_on (sharing_on h begun) k) ended)
+    let begun = sharing_none (firsts f.before.before).firsts.tally (atFirst (board r) (side r) (a f.before.before)) (atSecond (board r) (side r) (a f.before.before) (first_of (side r) (m r))) (λ q. seconds_all (try_share (m r) (n r) (board r).vertices (side r) q) (first_of (side r) (m r)) (count_of (side r) (m r) (n r)) (a f.before.before) (on_a f.before.before).below) h.running h.held h.ready h.counted h.rows in
+    let ended = sharing_none l.seconds.tally (atSecond (board r) (side r) (a f.before.before) l.seconds.b) (atFirst (board r) (side r) (a f.before.before + 1)) (λ q. seconds_done (try_share (m r) (n r) (board r).vertices (side r) q) (first_of (side r) (m r)) (count_of (side r) (m r) (n r)) (a f.before.before) l.seconds.b (omega (arith, c.seconds-test.false, end_is r))) k.running k.held k.ready k.counted k.rows in
+    (omega (arith, (on_a f.before.before).from), omega (arith, (on_a f.before.before).below), sharing_on (sharing_on (sharing_on h begun) k) ended)
 
-same-length-2 : tie.Need-same-length-2 invariant-compare decreases-compare invariant-seconds decreases-seconds invariant-firsts decreases-firsts
-same-length-2 c = c.before.firsts.invariant.2.long
+shape_of-table : tie.Need-shape_of-table invariant-compare decreases-compare invariant-seconds decreases-seconds invariant-firsts decreases-firsts
+shape_of-table c = c.firsts.invariant.2.long
 
-returns-2 : tie.Need-returns-2 invariant-compare decreases-compare invariant-seconds decreases-seconds invariant-firsts decreases-firsts
+returns : tie.Need-returns invariant-compare decreases-compare invariant-seconds decreases-seconds invariant-firsts decreases-firsts
 unfolding round
-returns-2 c =
-    let h = c.before.firsts.invariant.2 in
-    let r = c.before.before.before in
-    let l = c.before.firsts in
-    let none : (q : ℕ) → atFirst (board r) (side r) l.a q ≡ [] = λ q. firsts_done (try_share (m r) (n r) (board r).vertices (side r) q) (first_of (side r) (m r)) (count_of (side r) (m r) (n r)) l.a (omega (arith, c.firsts-test.false, end_is r)) in
+returns c =
+    let h = c.firsts.invariant.2 in
+    let r = c in
+    let l = c.firsts in
+    let none : (q : ℕ) → atFirst (board r.before.before.before) (side r.before.before.before) l.a q ≡ [] = λ q. firsts_done (try_share (m r.before.before.before) (n r.before.before.before) (board r.before.before.before).vertices (side r.before.before.before) q) (first_of (side r.before.before.before) (m r.before.before.before)) (count_of (side r.before.before.before) (m r.before.before.before) (n r.before.before.before)) l.a (omega (arith, c.firsts-test.false, end_is r.before.before.before)) in
     (λ q room. sym (h.way q room) ∙ ap (λ (qs : List Try). round qs (progress l.table l.tally.steps)) (none q), h.ready.order)
 
-pub shares-spec : {M : Type 1} → statement M
-shares-spec =
+pub shares_spec : {M : Type 1} → statement M
+shares_spec =
     tie.close
     (tie.spec
     invariant-compare
@@ -429,41 +429,41 @@ shares-spec =
     invariant-firsts
     decreases-firsts
     (λ c κs. tt)
-    end-requires
+    end-end-requires
     (λ c κs. tt)
     (λ c κs. tt)
     renew-requires
     (λ c κs. tt)
     (λ c. search rules)
-    returns
-    rich-ones-requires
+    returns-then-is_full
+    rich_ones-rich-requires
     (λ c κs. tt)
-    firsts-holds
-    seconds-holds
-    array-read-is-open
+    firsts-init
+    seconds-init
+    bounds-rich-b
     (λ c κs. tt)
-    place-requires
-    place-requires-2
-    compare-holds
+    place-p-requires
+    place-q-requires
+    compare-init
     (λ c κs. tt)
-    mul-seen-next
-    shared-slice-copy-out-seen-next
-    mul-seen-next-2
-    shared-slice-copy-out-seen-next-2
-    seen-next-requires
+    offset_bounds-matrix-p
+    bounds-matrix-p
+    offset_bounds-matrix-q
+    bounds-matrix-q
+    seen_next-seen-requires
     (λ c. search rules)
-    add-p
-    add-q
-    add-j
-    compare-less
-    compare-again
-    slice-aggregate-try-share
-    try-share-requires
-    add-b
-    seconds-less
-    seconds-again
-    add_a
-    firsts-less
-    firsts-again
-    same-length-2
-    returns-2)
+    overflow_add-p
+    overflow_add-q
+    overflow_add-j
+    compare-smaller
+    compare-preserved
+    slice_bounds-try_share-end
+    try_share-tally-requires
+    overflow_add-b
+    seconds-smaller
+    seconds-preserved
+    overflow_add-a
+    firsts-smaller
+    firsts-preserved
+    shape_of-table
+    returns)

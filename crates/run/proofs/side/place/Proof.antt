@@ -14,37 +14,37 @@ module _ (s : tie.Start) where
   on : (side : Side) → s.args.side ≡ side → place_of side s.args.board.inputs s.args.board.outputs s.args.v s.args.j < 2026
   on side e = subst (λ (x : Side). place_of x s.args.board.inputs s.args.board.outputs s.args.v s.args.j < 2026) e (omega (arith, place_in s.args.board s.args.side s.args.v s.args.j s.requires.1.0 s.requires.1.1, pairs_fit s.requires.0))
 
-mul-result : tie.Need-overflow-mul-result
-mul-result c = omega (arith, on c.before.before Inputs c.enum_told.given.1)
+overflow_mul-result : tie.Need-overflow_mul-result
+overflow_mul-result c = omega (arith, on c.before Inputs c.in-Inputs.is)
 
-add-result : tie.Need-overflow-add-result
-add-result c = omega (arith, on c.before.before Inputs c.enum_told.given.1)
+overflow_add-result : tie.Need-overflow_add-result
+overflow_add-result c = omega (arith, on c.before Inputs c.in-Inputs.is)
 
-mul-result-2 : tie.Need-overflow-mul-result-2
-mul-result-2 c = omega (arith, on c.before.before Outputs c.enum-told2.given.1)
+overflow_mul-result-in-Outputs : tie.Need-overflow_mul-result-in-Outputs
+overflow_mul-result-in-Outputs c = omega (arith, on c.before Outputs c.in-Outputs.is)
 
-sub-result : tie.Need-overflow-sub-result
-sub-result c = let s = c.before.before in subst (λ (x : Side). first_of x s.args.board.inputs ≤ s.args.v) c.enum-told2.given.1 s.requires.1.0.from
+overflow_sub-result : tie.Need-overflow_sub-result
+overflow_sub-result c = let s = c in subst (λ (x : Side). first_of x s.args.board.inputs ≤ s.args.v) c.in-Outputs.is s.requires.1.0.from
 
-add-result-2 : tie.Need-overflow-add-result-2
-add-result-2 c = omega (arith, on c.before.before Outputs c.enum-told2.given.1)
+overflow_add-result-in-Outputs : tie.Need-overflow_add-result-in-Outputs
+overflow_add-result-in-Outputs c = omega (arith, on c.before Outputs c.in-Outputs.is)
 
-returns : tie.Need-returns
-returns c = let a = c.before.before.args in ap (λ (x : Side). place_of x a.board.inputs a.board.outputs a.v a.j) (sym c.enum_told.given.1)
+returns-in-Inputs : tie.Need-returns-in-Inputs
+returns-in-Inputs c = let a = c.args in ap (λ (x : Side). place_of x a.board.inputs a.board.outputs a.v a.j) (sym c.in-Inputs.is)
 
-returns-2 : tie.Need-returns-2
-returns-2 c = let a = c.before.before.args in ap (λ (x : Side). place_of x a.board.inputs a.board.outputs a.v a.j) (sym c.enum-told2.given.1)
+returns-in-Outputs : tie.Need-returns-in-Outputs
+returns-in-Outputs c = let a = c.args in ap (λ (x : Side). place_of x a.board.inputs a.board.outputs a.v a.j) (sym c.in-Outputs.is)
 
-pub place-spec : {M : Type 1} → statement M
-place-spec =
+pub place_spec : {M : Type 1} → statement M
+place_spec =
     tie.close
     (tie.spec
     (λ c. search rules)
-    mul-result
-    add-result
+    overflow_mul-result
+    overflow_add-result
     (λ c. search rules)
-    mul-result-2
-    sub-result
-    add-result-2
-    returns
-    returns-2)
+    overflow_mul-result-in-Outputs
+    overflow_sub-result
+    overflow_add-result-in-Outputs
+    returns-in-Inputs
+    returns-in-Outputs)

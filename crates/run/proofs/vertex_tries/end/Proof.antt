@@ -11,15 +11,20 @@ use Rattle.run.proofs.vertex_tries.end.Tie as tie
 abbrev end_of : Board → VertexStep → ℕ
 end_of b k = first_vertex k b.inputs b.outputs + vertex_count k b.inputs b.outputs b.vertices
 
-returns : tie.Need-returns
-returns c =
-    let s = c.before.before in
+returns-in-Shrink : tie.Need-returns-in-Shrink
+returns-in-Shrink c =
+    let s = c in
     let b = s.args.board in
     let e : b.vertices ≡ b.inputs + b.outputs + (b.vertices - (b.inputs + b.outputs)) = omega (arith, s.requires.roles) in
-    e ∙ ap (end_of b) (sym c.enum_told.given.1)
+    e ∙ ap (end_of b) (sym c.in-Shrink.is)
 
-returns-2 : tie.Need-returns-2
-returns-2 c = ap (end_of c.before.before.before.args.board) (sym c.before.enum-told2.given.1)
+returns-in-MergeBack : tie.Need-returns-in-MergeBack
+returns-in-MergeBack c = ap (end_of c.args.board) (sym c.in-MergeBack.is)
 
-pub end-spec : {M : Type 1} → statement M
-end-spec = tie.close (tie.spec (λ c. search rules) (λ c. search rules) (λ c. search rules) returns returns-2)
+pub end_spec : {M : Type 1} → statement M
+end_spec = tie.close (tie.spec
+    (λ c. search rules)
+    (λ c. search rules)
+    (λ c. search rules)
+    returns-in-Shrink
+    returns-in-MergeBack)

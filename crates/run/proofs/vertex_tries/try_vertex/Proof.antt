@@ -23,22 +23,22 @@ named : (b : Board) (t : List ℤ) (v : ℕ) (kind k : VertexStep) → kind ≡ 
 named b t v kind k e after fit r h q =
     subst (λ (x : VertexStep). Tries (table_by b (vertex_step x v) t) t after r) (sym e) (applied_tries b t (vertex_step k v) after fit r h q)
 
-returns : tie.Need-returns
-returns c =
-    let a = c.before in
-    let k = a.before.before in
-    let s = k.before.before in
-    subst (λ (x : VertexStep). Tries (table_by s.args.board (vertex_step x s.args.v) s.args.table.now) s.args.table.now a.try-shrink.new.1.0 a.try-shrink.result) (sym k.enum_told.given.1) a.try-shrink.ensures
+returns-in-Shrink : tie.Need-returns-in-Shrink
+returns-in-Shrink c =
+    let a = c in
+    let k = a in
+    let s = k in
+    subst (λ (x : VertexStep). Tries (table_by s.args.board (vertex_step x s.args.v) s.args.table.now) s.args.table.now a.try_shrink.new.table a.try_shrink.result) (sym k.in-Shrink.is) a.try_shrink.ensures
 
-returns-2 : tie.Need-returns-2
-returns-2 c =
-    let a = c.before.before in
-    let k = a.before.before in
-    let s = k.before.before in
-    named s.args.board s.args.table.now s.args.v _ _ k.enum-told2.given.1 a.apply-merge-back.new.1.0 a.apply-merge-back.result _ a.apply-merge-back.ensures c.accepted.ensures
+returns-in-MergeBack : tie.Need-returns-in-MergeBack
+returns-in-MergeBack c =
+    let a = c in
+    let k = a in
+    let s = k in
+    named s.args.board s.args.table.now s.args.v _ _ k.in-MergeBack.is a.apply_merge_back.new.table a.apply_merge_back.result _ a.apply_merge_back.ensures c.accepted.ensures
 
-pub try-vertex-spec : {M : Type 1} → statement M
-try-vertex-spec =
+pub try_vertex_spec : {M : Type 1} → statement M
+try_vertex_spec =
     tie.close
     (tie.spec
     (λ c. search rules)
@@ -47,6 +47,6 @@ try-vertex-spec =
     (λ c κs. search rules)
     (λ c κs. search rules)
     (λ c. search rules)
-    returns
+    returns-in-Shrink
     (λ c. search rules)
-    returns-2)
+    returns-in-MergeBack)

@@ -32,82 +32,82 @@ end_below : (b : Board) (kind : VertexStep) → Sized b → from b kind + times 
 end_below b Shrink z = omega (arith, z.roles)
 end_below b MergeBack z = omega (arith, z.roles)
 
-abbrev invariant-loop : tie.invariant-loop
+abbrev invariant-loop : tie.invariant-loop-v
 invariant-loop board table₀ kind steps end done₀ v₀ table done v =
     (length table ≡ length table₀) × Running board (progress table done) × LeanOn board table × Swept board.vertices (tryOf board kind) (from board kind) (times board kind) (progress table₀ steps) v (progress table done)
 
-abbrev decreases-loop : tie.decreases-loop
+abbrev decreases-loop : tie.decreases-loop-v
 decreases-loop board table₀ kind steps end done₀ v₀ table done v = end - v
 
-end-requires : tie.Need-end-requires invariant-loop decreases-loop
-end-requires c κs = c.requires.0.checked.lent.sized
+end-end-requires : tie.Need-end-end-requires invariant-loop decreases-loop
+end-end-requires c κs = c.requires.0.checked.lent.sized
 
-first-requires : tie.Need-first-requires invariant-loop decreases-loop
-first-requires c κs = c.before.requires.0.checked.lent.sized
+first-v-requires : tie.Need-first-v-requires invariant-loop decreases-loop
+first-v-requires c κs = c.requires.0.checked.lent.sized
 
-loop-holds : tie.Need-loop-init invariant-loop decreases-loop
-loop-holds c =
-    let s = c.before.before in
+loop-v-init : tie.Need-loop-v-init invariant-loop decreases-loop
+loop-v-init c =
+    let s = c in
     let b = s.args.board in
     let k = s.args.kind in
     let p = progress s.args.table.now s.args.steps in
-    (refl, s.requires.0, s.requires.1, subst (λ (v : ℕ). Swept b.vertices (tryOf b k) (from b k) (times b k) p v p) (sym c.first.ensures) (swept_none b.vertices (tryOf b k) (from b k) (times b k) p))
+    (refl, s.requires.0, s.requires.1, subst (λ (v : ℕ). Swept b.vertices (tryOf b k) (from b k) (times b k) p v p) (sym c.first-v.ensures) (swept_none b.vertices (tryOf b k) (from b k) (times b k) p))
 
-try-vertex-requires : tie.Need-try-vertex-requires invariant-loop decreases-loop
-try-vertex-requires c κs =
-    let i = c.before in
-    let l = i.before in
-    let s = l.before.before.before in
-    (l.loop.invariant.1.checked, (l.loop.invariant.2, omega (arith, i.loop-test.true, l.before.before.end.ensures, end_below s.args.board s.args.kind s.requires.0.checked.lent.sized)))
+try_vertex-requires : tie.Need-try_vertex-requires invariant-loop decreases-loop
+try_vertex-requires c κs =
+    let i = c in
+    let l = i in
+    let s = l in
+    (l.loop-v.invariant.1.checked, (l.loop-v.invariant.2, omega (arith, i.loop-v-test.true, l.end-end.ensures, end_below s.args.board s.args.kind s.requires.0.checked.lent.sized)))
 
-add_done : tie.Need-overflow-add-done invariant-loop decreases-loop
-add_done c = omega (arith, c.before.before.before.before.before.loop.invariant.1.bound)
+overflow_add-done : tie.Need-overflow_add-done invariant-loop decreases-loop
+overflow_add-done c = omega (arith, c.loop-v.invariant.1.bound)
 
-loop-again : tie.Need-loop-preserved invariant-loop decreases-loop
-loop-again c =
-    let w = c.before.before in
-    let i = w.before.before in
-    let l = i.before in
-    let s = l.before.before.before in
+loop-v-preserved : tie.Need-loop-v-preserved invariant-loop decreases-loop
+loop-v-preserved c =
+    let w = c in
+    let i = w in
+    let l = i in
+    let s = l in
     let b = s.args.board in
     let k = s.args.kind in
-    let q = vertex_step k l.loop.v in
-    let after = w.try-vertex.new.1.0 in
-    let e : c.if1.done ≡ l.loop.done + gained w.try-vertex.result =
-    split c.if1.branch (λ y. counts l.loop.done y.0.taken y.1) (λ y. counts l.loop.done y.0.left (omega (arith, y.1))) in (
-      w.try-vertex.auto.1.0 ∙ l.loop.invariant.0,
-      try_runs l.loop.invariant.1 q after w.try-vertex.result w.try-vertex.ensures c.if1.done e,
-      lean_tried b k l.loop.v (progress l.loop.table l.loop.done) (progress after c.if1.done) (try_reaches l.loop.invariant.1 q after w.try-vertex.result w.try-vertex.ensures c.if1.done e) l.loop.invariant.2,
-      swept_next b.vertices (tryOf b k) (from b k) (times b k) (progress s.args.table.now s.args.steps) l.loop.v (progress l.loop.table l.loop.done) (progress after c.if1.done)
-          (omega (arith, l.before.before.end.ensures, i.loop-test.true))
-          (try_reaches l.loop.invariant.1 q after w.try-vertex.result w.try-vertex.ensures c.if1.done e)
-          l.loop.invariant.3,
+    let q = vertex_step k l.loop-v.v in
+    let after = w.try_vertex.new.table in
+    let e : c.if-try_vertex.done ≡ l.loop-v.done + gained w.try_vertex.result =
+    split c.if-try_vertex.branch-raw (λ y. counts l.loop-v.done y.if-try_vertex.true y.done-is) (λ y. counts l.loop-v.done y.if-try_vertex.false (omega (arith, y.done-is))) in (
+      w.try_vertex.auto.table ∙ l.loop-v.invariant.0,
+      try_runs l.loop-v.invariant.1 q after w.try_vertex.result w.try_vertex.ensures c.if-try_vertex.done e,
+      lean_tried b k l.loop-v.v (progress l.loop-v.table l.loop-v.done) (progress after c.if-try_vertex.done) (try_reaches l.loop-v.invariant.1 q after w.try_vertex.result w.try_vertex.ensures c.if-try_vertex.done e) l.loop-v.invariant.2,
+      swept_next b.vertices (tryOf b k) (from b k) (times b k) (progress s.args.table.now s.args.steps) l.loop-v.v (progress l.loop-v.table l.loop-v.done) (progress after c.if-try_vertex.done)
+          (omega (arith, l.end-end.ensures, i.loop-v-test.true))
+          (try_reaches l.loop-v.invariant.1 q after w.try_vertex.result w.try_vertex.ensures c.if-try_vertex.done e)
+          l.loop-v.invariant.3,
     )
 
-same_length : tie.Need-same-length invariant-loop decreases-loop
-same_length c = c.before.loop.invariant.0
+shape_of-table : tie.Need-shape_of-table invariant-loop decreases-loop
+shape_of-table c = c.loop-v.invariant.0
 
 returns : tie.Need-returns invariant-loop decreases-loop
 returns c =
-    let l = c.before in
-    let s = l.before.before.before in
+    let l = c in
+    let s = l in
     let b = s.args.board in
     let k = s.args.kind in
-    swept_all b.vertices (tryOf b k) (from b k) (times b k) (progress s.args.table.now s.args.steps) l.loop.v (progress l.loop.table l.loop.done) (omega (arith, l.before.before.end.ensures, c.loop-test.false)) l.loop.invariant.3
+    swept_all b.vertices (tryOf b k) (from b k) (times b k) (progress s.args.table.now s.args.steps) l.loop-v.v (progress l.loop-v.table l.loop-v.done) (omega (arith, l.end-end.ensures, c.loop-v-test.false)) l.loop-v.invariant.3
 
-pub vertex-tries-spec : {M : Type 1} → statement M
-vertex-tries-spec =
+pub vertex_tries_spec : {M : Type 1} → statement M
+vertex_tries_spec =
     tie.close
     (tie.spec
     invariant-loop
     decreases-loop
-    end-requires
-    first-requires
-    loop-holds
-    try-vertex-requires
-    add_done
+    end-end-requires
+    first-v-requires
+    loop-v-init
+    try_vertex-requires
+    overflow_add-done
     (λ c. omega arith)
     (λ c. omega arith)
-    loop-again
-    same_length
+    loop-v-preserved
+    shape_of-table
     returns)
