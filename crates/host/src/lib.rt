@@ -1,5 +1,6 @@
 // The exports for a host in C, over numbers and byte runs. include/board.h is their header.
 #![tactic(auto)]
+
 mod answers;
 mod matrix;
 mod reduce;

@@ -21,11 +21,15 @@ small n h = omega (zneeds, neg (pos n))
 minus : (c : tie.After-number) → pos 0 -ℤ to_z w64 c.number.result ≡ neg_ℤ (pos c.number.result)
 minus c = ap (λ (z : ℤ). pos 0 -ℤ z) (to_z_pos w64 {n = c.number.result} (omega (arith, c.number.ensures.1))) ∙ less c.number.result
 
-sub-result : tie.Need-overflow-sub-result
-sub-result c = subst (SFits w64) (sym (minus c)) (small _ c.number.ensures.1)
+overflow_sub-result : tie.Need-overflow_sub-result
+overflow_sub-result c = subst (SFits w64) (sym (minus c)) (small _ c.number.ensures.1)
 
 returns : tie.Need-returns
 returns c = handed w64 (minus c) (small _ c.number.ensures.1) ∙ ap (λ (n : ℕ). neg_ℤ (pos n)) c.number.ensures.0
 
-pub refused-spec : {M : Type 1} → statement M
-refused-spec = tie.close (tie.spec (λ c κs. search rules) (λ c. search rules) sub-result returns)
+pub refused_spec : {M : Type 1} → statement M
+refused_spec = tie.close (tie.spec
+    (λ c κs. search rules)
+    (λ c. search rules)
+    overflow_sub-result
+    returns)

@@ -16,34 +16,34 @@ use Rattle.host.proofs.Matrices.{matrix-room}
 use Rattle.host.proofs.matrix.matrix.Statement.{statement}
 use Rattle.host.proofs.matrix.matrix.Tie as tie
 
-module _ (c : tie.After-pair-cells) where
-  abbrev pairs : tie.After-pairs-shown
+module _ (c : tie.After-pair_cells-delays) where
+  abbrev pairs : tie.After-pairs_shown-pairs
   pairs = c.before.before.before
 
-  abbrev room : tie.After-shown2
+  abbrev room : tie.After-shown-room
   room = pairs.before
 
-  abbrev count : tie.After-shown
+  abbrev count : tie.After-shown-count
   count = room.before
 
   abbrev s : tie.Start
   s = count.before.before.before.before
 
-  cells-shown : length (take count.shown.result c.before.before.cells.result) ≡ shown s.args.vertices s.args.vertices (whole_cells 4 s.args.table.now)
-  cells-shown = part_shown _ _ c.before.before.cells.ensures _ count.shown.ensures
+  cells_shown : length (take count.shown-count.result c.cells-cells.result) ≡ shown s.args.vertices s.args.vertices (whole_cells 4 s.args.table.now)
+  cells_shown = part_shown _ _ c.cells-cells.ensures _ count.shown-count.ensures
 
-  delays-shown : length (take pairs.pairs-shown.result c.pair-cells.result) ≡ pairs_shown s.args.inputs s.args.outputs (whole_cells 8 s.args.matrix.now)
-  delays-shown = part_shown _ _ c.pair-cells.ensures _ pairs.pairs-shown.ensures
+  delays_shown : length (take pairs.pairs_shown-pairs.result c.pair_cells-delays.result) ≡ pairs_shown s.args.inputs s.args.outputs (whole_cells 8 s.args.matrix.now)
+  delays_shown = part_shown _ _ c.pair_cells-delays.ensures _ pairs.pairs_shown-pairs.ensures
 
   abbrev lent : List ℤ
-  lent = take room.shown2.result c.before.wide-cells.result
+  lent = take room.shown-room.result c.wide_cells-wide.result
 
   abbrev verdict : ℕ → Verdict (List ℤ)
   verdict k = matrix_call s.args.inputs s.args.outputs s.args.vertices k (cells_of 4 s.args.table.now) (cells_of 8 s.args.matrix.now)
 
   same : verdict (length lent) ≡ verdict (whole_cells 8 s.args.scratch.now)
   same =
-      ap verdict (part_shown _ _ c.before.wide-cells.ensures _ room.shown2.ensures)
+      ap verdict (part_shown _ _ c.wide_cells-wide.ensures _ room.shown-room.ensures)
       ∙ matrix-room s.args.inputs s.args.outputs s.args.vertices (whole_cells 8 s.args.scratch.now) (cells_of 4 s.args.table.now) (cells_of 8 s.args.matrix.now)
 
   -- what the local scratch was lent for, said of the lent one
@@ -51,25 +51,25 @@ module _ (c : tie.After-pair-cells) where
       → (x ≡ matrix_answer (verdict (whole_cells 8 s.args.scratch.now))) × (after ≡ matrix_bytes (verdict (whole_cells 8 s.args.scratch.now)) s.args.matrix.now)
   seen x r after b p q = (b ∙ p ∙ ap matrix_answer same, q ∙ ap (λ (v : Verdict (List ℤ)). matrix_bytes v s.args.matrix.now) same)
 
-slice-aggregate-matrix-in : tie.Need-slice-aggregate-matrix-in
-slice-aggregate-matrix-in c = let w = c.before in sym (part_long _ _ w.before.before.cells.ensures (count w).shown.ensures.1)
+slice_bounds-matrix_in-end : tie.Need-slice_bounds-matrix_in-end
+slice_bounds-matrix_in-end c = let w = c in sym (part_long _ _ w.cells-cells.ensures (count w.before).shown-count.ensures.1)
 
-slice-aggregate-matrix-in-2 : tie.Need-slice-aggregate-matrix-in-2
-slice-aggregate-matrix-in-2 c = let w = c.before.before in sym (part_long _ _ w.before.wide-cells.ensures (room w).shown2.ensures.1)
+slice_bounds-matrix_in-end-2 : tie.Need-slice_bounds-matrix_in-end-2
+slice_bounds-matrix_in-end-2 c = let w = c in sym (part_long _ _ w.wide_cells-wide.ensures (room w.before.before).shown-room.ensures.1)
 
-slice-aggregate-matrix-in-3 : tie.Need-slice-aggregate-matrix-in-3
-slice-aggregate-matrix-in-3 c = let w = c.before.before.before.before in sym (part_long _ _ w.pair-cells.ensures (pairs w).pairs-shown.ensures.1)
+slice_bounds-matrix_in-end-3 : tie.Need-slice_bounds-matrix_in-end-3
+slice_bounds-matrix_in-end-3 c = let w = c in sym (part_long _ _ w.pair_cells-delays.ensures (pairs w.before.before.before.before).pairs_shown-pairs.ensures.1)
 
-matrix-in-requires : tie.Need-matrix-in-requires
-matrix-in-requires c κs = let w = c.before.before.before.before in (cells-shown w, delays-shown w)
+matrix_in-requires : tie.Need-matrix_in-requires
+matrix_in-requires c κs = let w = c in (cells_shown w.before.before.before.before, delays_shown w.before.before.before.before)
 
 returns : tie.Need-returns
 returns c =
-    let r = c.before.before.before.before.before in
-    seen r.before.before.before.before.before _ _ _ (back w64 _ r.matrix-in.type-inv) r.matrix-in.ensures.0 r.matrix-in.ensures.1
+    let r = c in
+    seen r.before.before.before.before.before.before.before.before.before.before _ _ _ (back w64 _ r.matrix_in.type_inv) r.matrix_in.ensures.0 r.matrix_in.ensures.1
 
-pub matrix-spec : {M : Type 1} → statement M
-matrix-spec =
+pub matrix_spec : {M : Type 1} → statement M
+matrix_spec =
     tie.close
     (tie.spec
     (λ c κs. search rules)
@@ -79,11 +79,11 @@ matrix-spec =
     (λ c κs. search rules)
     (λ c κs. search rules)
     (λ c. search rules)
-    slice-aggregate-matrix-in
+    slice_bounds-matrix_in-end
     (λ c. search rules)
-    slice-aggregate-matrix-in-2
+    slice_bounds-matrix_in-end-2
     (λ c. search rules)
-    slice-aggregate-matrix-in-3
-    matrix-in-requires
+    slice_bounds-matrix_in-end-3
+    matrix_in-requires
     (λ c. search rules)
     returns)

@@ -18,28 +18,28 @@ use Rattle.host.proofs.Stepping.{step_room}
 use Rattle.host.proofs.reduce.reduce.Statement.{statement}
 use Rattle.host.proofs.reduce.reduce.Tie as tie
 
-module _ (c : tie.After-wide-cells) where
-  abbrev room : tie.After-shown2
+module _ (c : tie.After-wide_cells-wide) where
+  abbrev room : tie.After-shown-room
   room = c.before.before
 
-  abbrev count : tie.After-shown
+  abbrev count : tie.After-shown-count
   count = room.before
 
   abbrev s : tie.Start
   s = count.before.before.before
 
-  cells-shown : length (take count.shown.result c.before.cells.result) ≡ shown s.args.vertices s.args.vertices (whole_cells 4 s.args.table.now)
-  cells-shown = part_shown _ _ c.before.cells.ensures _ count.shown.ensures
+  cells_shown : length (take count.shown-count.result c.cells-cells.result) ≡ shown s.args.vertices s.args.vertices (whole_cells 4 s.args.table.now)
+  cells_shown = part_shown _ _ c.cells-cells.ensures _ count.shown-count.ensures
 
   abbrev lent : List ℤ
-  lent = take room.shown2.result c.wide-cells.result
+  lent = take room.shown-room.result c.wide_cells-wide.result
 
   abbrev verdict : ℕ → Verdict Reduced
   verdict k = step_call s.args.inputs s.args.outputs s.args.vertices k (step_meaning s.args.step) (cells_of 4 s.args.table.now)
 
   same : verdict (length lent) ≡ verdict (whole_cells 8 s.args.scratch.now)
   same =
-      ap verdict (part_shown _ _ c.wide-cells.ensures _ room.shown2.ensures)
+      ap verdict (part_shown _ _ c.wide_cells-wide.ensures _ room.shown-room.ensures)
       ∙ step_room s.args.inputs s.args.outputs s.args.vertices (whole_cells 8 s.args.scratch.now) (step_meaning s.args.step) (cells_of 4 s.args.table.now)
 
   -- what the local scratch was lent for, said of the lent one
@@ -47,22 +47,22 @@ module _ (c : tie.After-wide-cells) where
       → (x ≡ step_answer (verdict (whole_cells 8 s.args.scratch.now))) × (after ≡ table_bytes (verdict (whole_cells 8 s.args.scratch.now)) s.args.table.now)
   seen x r after b p q = (b ∙ p ∙ ap step_answer same, q ∙ ap (λ (v : Verdict Reduced). table_bytes v s.args.table.now) same)
 
-slice-aggregate-reduce-in : tie.Need-slice-aggregate-reduce-in
-slice-aggregate-reduce-in c = let w = c.before.before in sym (part_long _ _ w.before.cells.ensures (count w).shown.ensures.1)
+slice_bounds-reduce_in-end : tie.Need-slice_bounds-reduce_in-end
+slice_bounds-reduce_in-end c = let w = c in sym (part_long _ _ w.cells-cells.ensures (count w.before.before).shown-count.ensures.1)
 
-slice-aggregate-reduce-in-2 : tie.Need-slice-aggregate-reduce-in-2
-slice-aggregate-reduce-in-2 c = let w = c.before.before.before in sym (part_long _ _ w.wide-cells.ensures (room w).shown2.ensures.1)
+slice_bounds-reduce_in-end-2 : tie.Need-slice_bounds-reduce_in-end-2
+slice_bounds-reduce_in-end-2 c = let w = c in sym (part_long _ _ w.wide_cells-wide.ensures (room w.before.before.before).shown-room.ensures.1)
 
-reduce-in-requires : tie.Need-reduce-in-requires
-reduce-in-requires c κs = cells-shown c.before.before.before
+reduce_in-requires : tie.Need-reduce_in-requires
+reduce_in-requires c κs = cells_shown c.before.before.before
 
 returns : tie.Need-returns
 returns c =
-    let r = c.before.before.before.before in
-    seen r.before.before.before.before _ _ _ (back w64 _ r.reduce-in.type-inv) r.reduce-in.ensures.0 r.reduce-in.ensures.1
+    let r = c in
+    seen r.before.before.before.before.before.before.before.before _ _ _ (back w64 _ r.reduce_in.type_inv) r.reduce_in.ensures.0 r.reduce_in.ensures.1
 
-pub reduce-spec : {M : Type 1} → statement M
-reduce-spec =
+pub reduce_spec : {M : Type 1} → statement M
+reduce_spec =
     tie.close
     (tie.spec
     (λ c κs. search rules)
@@ -70,9 +70,9 @@ reduce-spec =
     (λ c κs. search rules)
     (λ c κs. search rules)
     (λ c. search rules)
-    slice-aggregate-reduce-in
+    slice_bounds-reduce_in-end
     (λ c. search rules)
-    slice-aggregate-reduce-in-2
-    reduce-in-requires
+    slice_bounds-reduce_in-end-2
+    reduce_in-requires
     (λ c. search rules)
     returns)

@@ -14,19 +14,23 @@ use Rattle.host.proofs.runs.cell_at.Tie as tie
 
 module _ (c : tie.After-decode) where
   abbrev cell : ℤ
-  cell = run_cell 4 c.before.before.args.bytes.now c.before.before.args.x
+  cell = run_cell 4 c.args.bytes.now c.args.x
 
   small : SFits w32 cell
-  small = in_width_fits w32 4 (omega arith) (read_in_width c.before.before.args.bytes.now (4 * c.before.before.args.x) 4 c.before.shared-slice-known.given)
+  small = in_width_fits w32 4 (omega arith) (read_in_width c.args.bytes.now (4 * c.args.x) 4 c.shared_slice_known-1.given)
 
   read : to_z w64 (of_z w64 c.decode.result) ≡ cell
   read = handed w64 c.decode.ensures (widens small)
 
-cast-result : tie.Need-overflow-cast-result
-cast-result c = rw (read c) (small c)
+overflow_cast-result : tie.Need-overflow_cast-result
+overflow_cast-result c = rw (read c) (small c)
 
 returns : tie.Need-returns
 returns c = handed w32 (read c) (small c)
 
-pub cell-at-spec : {M : Type 1} → statement M
-cell-at-spec = tie.close (tie.spec (λ c. search rules) (λ c κs. search rules) cast-result returns)
+pub cell_at_spec : {M : Type 1} → statement M
+cell_at_spec = tie.close (tie.spec
+    (λ c. search rules)
+    (λ c κs. search rules)
+    overflow_cast-result
+    returns)

@@ -9,49 +9,49 @@ use Rattle.host.proofs.Filling.{filled, fill_start, fill_more, fill_end}
 use Rattle.host.proofs.runs.put_matrix.Statement.{statement}
 use Rattle.host.proofs.runs.put_matrix.Tie as tie
 
-abbrev invariant-loop : tie.invariant-loop
+abbrev invariant-loop : tie.invariant-loop-x
 invariant-loop bytes₀ cells x₀ bytes x = (x ≤ length cells) × (length bytes ≡ length bytes₀) × (bytes ≡ filled 8 cells bytes₀ x)
 
-abbrev decreases-loop : tie.decreases-loop
+abbrev decreases-loop : tie.decreases-loop-x
 decreases-loop bytes₀ cells x₀ bytes x = length cells - x
 
-loop-holds : tie.Need-loop-init invariant-loop decreases-loop
-loop-holds c = (omega arith, refl, fill_start 8 c.before.args.cells.now c.before.args.bytes.now)
+loop-x-init : tie.Need-loop-x-init invariant-loop decreases-loop
+loop-x-init c = (omega arith, refl, fill_start 8 c.args.cells.now c.args.bytes.now)
 
 encode-requires : tie.Need-encode-requires invariant-loop decreases-loop
 encode-requires c κs =
-    let g = c.encode-arg2.given in
+    let g = c.encode-arg-in-loop-x-1.given in
     (record { some = omega arith; few = omega arith; inside = omega arith }, rw (back w64 _ g) (fits_in_width w64 8 (omega arith) (record { sfits = g })))
 
-loop-again : tie.Need-loop-preserved invariant-loop decreases-loop
-loop-again c =
-    let e = c.before.before in
-    let l = e.before.before.before.before in
-    let s = l.before.before in (
+loop-x-preserved : tie.Need-loop-x-preserved invariant-loop decreases-loop
+loop-x-preserved c =
+    let e = c in
+    let l = e in
+    let s = l in (
       omega arith,
-      e.encode.auto.0 ∙ l.loop.invariant.1,
-      fill_more 8 s.args.cells.now s.args.bytes.now l.loop.x l.loop.bytes e.encode.new.0 _ (omega arith) l.loop.invariant.2 (back w64 _ e.before.encode-arg2.given) e.encode.ensures,
+      e.encode.auto.bytes ∙ l.loop-x.invariant.1,
+      fill_more 8 s.args.cells.now s.args.bytes.now l.loop-x.x l.loop-x.bytes e.encode.new.bytes _ (omega arith) l.loop-x.invariant.2 (back w64 _ e.encode-arg-in-loop-x-1.given) e.encode.ensures,
     )
 
-same_length : tie.Need-same-length invariant-loop decreases-loop
-same_length c = c.before.loop.invariant.1
+shape_of-bytes : tie.Need-shape_of-bytes invariant-loop decreases-loop
+shape_of-bytes c = c.loop-x.invariant.1
 
 returns : tie.Need-returns invariant-loop decreases-loop
-returns c = c.before.loop.invariant.2 ∙ fill_end 8 c.before.before.before.args.cells.now c.before.before.before.args.bytes.now c.before.loop.x (omega arith)
+returns c = c.loop-x.invariant.2 ∙ fill_end 8 c.args.cells.now c.args.bytes.now c.loop-x.x (omega arith)
 
-pub put-matrix-spec : {M : Type 1} → statement M
-put-matrix-spec =
+pub put_matrix_spec : {M : Type 1} → statement M
+put_matrix_spec =
     tie.close
     (tie.spec
     invariant-loop
     decreases-loop
-    loop-holds
+    loop-x-init
     (λ c. omega arith)
     (λ c. omega arith)
     (λ c. omega arith)
     encode-requires
     (λ c. omega arith)
     (λ c. omega arith)
-    loop-again
-    same_length
+    loop-x-preserved
+    shape_of-bytes
     returns)

@@ -12,52 +12,52 @@ use Rattle.host.proofs.Filling.{filled, fill_start, fill_more, fill_end}
 use Rattle.host.proofs.runs.put_table.Statement.{statement}
 use Rattle.host.proofs.runs.put_table.Tie as tie
 
-abbrev invariant-loop : tie.invariant-loop
+abbrev invariant-loop : tie.invariant-loop-x
 invariant-loop bytes₀ cells x₀ bytes x = (x ≤ length cells) × (length bytes ≡ length bytes₀) × (bytes ≡ filled 4 cells bytes₀ x)
 
-abbrev decreases-loop : tie.decreases-loop
+abbrev decreases-loop : tie.decreases-loop-x
 decreases-loop bytes₀ cells x₀ bytes x = length cells - x
 
 module _ (c : tie.After-wide invariant-loop decreases-loop) where
   abbrev cell : ℤ
-  cell = get_or c.before.before.before.before.before.before.args.cells.now c.before.before.before.before.loop.x (pos 0)
+  cell = get_or c.args.cells.now c.loop-x.x (pos 0)
 
   narrow : SFits w32 cell
-  narrow = record { sfits = c.before.wide-arg.given }
+  narrow = record { sfits = c.wide-arg-1.given }
 
   widened : to_z w64 (of_z w64 c.wide.result) ≡ cell
-  widened = handed w64 (c.wide.ensures ∙ back w32 cell c.before.wide-arg.given) (widens narrow)
+  widened = handed w64 (c.wide.ensures ∙ back w32 cell c.wide-arg-1.given) (widens narrow)
 
-loop-holds : tie.Need-loop-init invariant-loop decreases-loop
-loop-holds c = (omega arith, refl, fill_start 4 c.before.args.cells.now c.before.args.bytes.now)
+loop-x-init : tie.Need-loop-x-init invariant-loop decreases-loop
+loop-x-init c = (omega arith, refl, fill_start 4 c.args.cells.now c.args.bytes.now)
 
 encode-requires : tie.Need-encode-requires invariant-loop decreases-loop
 encode-requires c κs =
     (record { some = omega arith; few = omega arith; inside = omega arith }, rw (widened c) (fits_in_width w32 4 (omega arith) (narrow c)))
 
-loop-again : tie.Need-loop-preserved invariant-loop decreases-loop
-loop-again c =
-    let e = c.before.before in
-    let l = e.before.before.before.before.before in
-    let s = l.before.before in (
+loop-x-preserved : tie.Need-loop-x-preserved invariant-loop decreases-loop
+loop-x-preserved c =
+    let e = c in
+    let l = e in
+    let s = l in (
       omega arith,
-      e.encode.auto.0 ∙ l.loop.invariant.1,
-      fill_more 4 s.args.cells.now s.args.bytes.now l.loop.x l.loop.bytes e.encode.new.0 _ (omega arith) l.loop.invariant.2 (widened e.before) e.encode.ensures,
+      e.encode.auto.bytes ∙ l.loop-x.invariant.1,
+      fill_more 4 s.args.cells.now s.args.bytes.now l.loop-x.x l.loop-x.bytes e.encode.new.bytes _ (omega arith) l.loop-x.invariant.2 (widened e.before.before.before) e.encode.ensures,
     )
 
-same_length : tie.Need-same-length invariant-loop decreases-loop
-same_length c = c.before.loop.invariant.1
+shape_of-bytes : tie.Need-shape_of-bytes invariant-loop decreases-loop
+shape_of-bytes c = c.loop-x.invariant.1
 
 returns : tie.Need-returns invariant-loop decreases-loop
-returns c = c.before.loop.invariant.2 ∙ fill_end 4 c.before.before.before.args.cells.now c.before.before.before.args.bytes.now c.before.loop.x (omega arith)
+returns c = c.loop-x.invariant.2 ∙ fill_end 4 c.args.cells.now c.args.bytes.now c.loop-x.x (omega arith)
 
-pub put-table-spec : {M : Type 1} → statement M
-put-table-spec =
+pub put_table_spec : {M : Type 1} → statement M
+put_table_spec =
     tie.close
     (tie.spec
     invariant-loop
     decreases-loop
-    loop-holds
+    loop-x-init
     (λ c. omega arith)
     (λ c. omega arith)
     (λ c. omega arith)
@@ -65,6 +65,6 @@ put-table-spec =
     encode-requires
     (λ c. omega arith)
     (λ c. omega arith)
-    loop-again
-    same_length
+    loop-x-preserved
+    shape_of-bytes
     returns)

@@ -11,42 +11,42 @@ use Rattle.host.specs.Runs.{run_cell}
 use Rattle.host.proofs.runs.take_table.Statement.{statement}
 use Rattle.host.proofs.runs.take_table.Tie as tie
 
-abbrev invariant-loop : tie.invariant-loop
+abbrev invariant-loop : tie.invariant-loop-x
 invariant-loop bytes cells₀ x₀ cells x = (x ≤ length cells₀) × (length cells ≡ length cells₀) × (cells ≡ tabulate x (run_cell 4 bytes) ++ drop x cells₀)
 
-abbrev decreases-loop : tie.decreases-loop
+abbrev decreases-loop : tie.decreases-loop-x
 decreases-loop bytes cells₀ x₀ cells x = length cells₀ - x
 
-loop-holds : tie.Need-loop-init invariant-loop decreases-loop
-loop-holds c = (omega arith, refl, fill_none _ _)
+loop-x-init : tie.Need-loop-x-init invariant-loop decreases-loop
+loop-x-init c = (omega arith, refl, fill_none _ _)
 
-loop-again : tie.Need-loop-preserved invariant-loop decreases-loop
-loop-again c =
-    let l = c.before.before in
-    let s = l.before.before in (
+loop-x-preserved : tie.Need-loop-x-preserved invariant-loop decreases-loop
+loop-x-preserved c =
+    let l = c in
+    let s = l in (
       omega arith,
-      simp length-set l.loop.invariant.1,
-      fill_turn (run_cell 4 s.args.bytes.now) s.args.cells.now l.loop.cells l.loop.x _ (omega arith) l.loop.invariant.2 (back w32 _ c.cell_at.type-inv ∙ c.cell_at.ensures),
+      simp length-set l.loop-x.invariant.1,
+      fill_turn (run_cell 4 s.args.bytes.now) s.args.cells.now l.loop-x.cells l.loop-x.x _ (omega arith) l.loop-x.invariant.2 (back w32 _ c.cell_at.type_inv ∙ c.cell_at.ensures),
     )
 
-same_length : tie.Need-same-length invariant-loop decreases-loop
-same_length c = c.before.loop.invariant.1
+shape_of-cells : tie.Need-shape_of-cells invariant-loop decreases-loop
+shape_of-cells c = c.loop-x.invariant.1
 
 returns : tie.Need-returns invariant-loop decreases-loop
-returns c = c.before.loop.invariant.2 ∙ fill_all _ _ c.before.loop.x (omega arith)
+returns c = c.loop-x.invariant.2 ∙ fill_all _ _ c.loop-x.x (omega arith)
 
-pub take-table-spec : {M : Type 1} → statement M
-take-table-spec =
+pub take_table_spec : {M : Type 1} → statement M
+take_table_spec =
     tie.close
     (tie.spec
     invariant-loop
     decreases-loop
-    loop-holds
+    loop-x-init
     (λ c κs. omega arith)
     (λ c. omega arith)
     (λ c. omega arith)
     (λ c. omega arith)
     (λ c. omega arith)
-    loop-again
-    same_length
+    loop-x-preserved
+    shape_of-cells
     returns)

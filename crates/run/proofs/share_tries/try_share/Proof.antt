@@ -98,7 +98,7 @@ returns-then-shared c =
     let d = r in
     let counted = counted_again (s d.before.before.before.before.before.before.before.before.before).args.side (s d.before.before.before.before.before.before.before.before.before).requires.0.checked (s d.before.before.before.before.before.before.before.before.before).requires.1.0 (s d.before.before.before.before.before.before.before.before.before).requires.1.1.1.1.0 (s d.before.before.before.before.before.before.before.before.before).args.rich.now (s d.before.before.before.before.before.before.before.before.before).requires.1.1.0 (after (made d.before.before.before.before.before.before.before.before.before)) (tried (made d.before.before.before.before.before.before.before.before.before) true d.if-shared.true) r.is_rich.result r.is_rich-then-shared.result r.is_rich.ensures r.is_rich-then-shared.ensures in
     let tries = (made d.before.before.before.before.before.before.before.before.before).share-shared in
-    let rows = rows_shared (s d.before.before.before.before.before.before.before.before.before).args.board (s d.before.before.before.before.before.before.before.before.before).args.table.now (s d.before.before.before.before.before.before.before.before.before).args.side (s d.before.before.before.before.before.before.before.before.before).args.a (s d.before.before.before.before.before.before.before.before.before).args.b (s d.before.before.before.before.before.before.before.before.before).args.tally.fresh (s d.before.before.before.before.before.before.before.before.before).requires.0.checked (after (made d.before.before.before.before.before.before.before.before.before)) (tried (made d.before.before.before.before.before.before.before.before.before) true d.if-shared.true) _ _ tries.result.made tries.ensures.1 kept.auto.1.0 kept.ensures in
+    let rows = rows_shared (s d.before.before.before.before.before.before.before.before.before).args.board (s d.before.before.before.before.before.before.before.before.before).args.table.now (s d.before.before.before.before.before.before.before.before.before).args.side (s d.before.before.before.before.before.before.before.before.before).args.a (s d.before.before.before.before.before.before.before.before.before).args.b (s d.before.before.before.before.before.before.before.before.before).args.tally.fresh (s d.before.before.before.before.before.before.before.before.before).requires.0.checked (after (made d.before.before.before.before.before.before.before.before.before)) (tried (made d.before.before.before.before.before.before.before.before.before) true d.if-shared.true) _ _ tries.result.made tries.ensures.1 kept.auto.words kept.ensures in
     let sorts = c.still_sorted-still.ensures in
     let order : c.still_sorted-still.result ≡ true → Passable (s d.before.before.before.before.before.before.before.before.before).args.board (after (made d.before.before.before.before.before.before.before.before.before)) (s d.before.before.before.before.before.before.before.before.before).args.order.now =
     λ q. still_passable (s d.before.before.before.before.before.before.before.before.before).args.board (s d.before.before.before.before.before.before.before.before.before).args.table.now (s d.before.before.before.before.before.before.before.before.before).args.order.now (s d.before.before.before.before.before.before.before.before.before).args.side (s d.before.before.before.before.before.before.before.before.before).args.a (s d.before.before.before.before.before.before.before.before.before).args.b (s d.before.before.before.before.before.before.before.before.before).args.tally.fresh ((s d.before.before.before.before.before.before.before.before.before).requires.1.0.order (sorts q).0) (s d.before.before.before.before.before.before.before.before.before).requires.1.1.1.1.0 (after (made d.before.before.before.before.before.before.before.before.before)) (tried (made d.before.before.before.before.before.before.before.before.before) true d.if-shared.true) (goes d.before.before.before.before.before.before.before.before.before).1 (sorts q).1 (sorts q).2 in

@@ -344,8 +344,8 @@ answered c =
     let e : l.compare.j ≡ total = omega (arith, w.if-j-across.true, l.compare.invariant.0, across_is (counted (turn k.before.before.before.before.before.before.before))) in
     ap difference_meaning (w.difference-is ∙ w.settle-difference.ensures ∙ ap settled (l.compare.invariant.1 ∙ ap (λ (x : ℕ). seen x (line_a k.before.before.before.before.before.before.before) (line_b k.before.before.before.before.before.before.before)) e)) ∙ seen_common (line_a k.before.before.before.before.before.before.before) (line_b k.before.before.before.before.before.before.before) total)
     (λ w.
-    let p : tie.After-seen_next-seen invariant-compare decreases-compare invariant-seconds decreases-seconds invariant-firsts decreases-firsts = record { before = record { before = record { before = record { before = l; if4 = w.if-j-across }; seen-next-arg = w.seen_next-arg-1 }; seen-next-arg2 = w.seen_next-arg-in-compare-1 }; Seen-next = w.seen_next-seen } in
-    ap difference_meaning w.6 ∙ sym (ap (λ (s : Seen). difference_meaning (settled s)) (seen_clash (line_a k.before.before.before.before.before.before.before) (line_b k.before.before.before.before.before.before.before) (l.compare.j + 1) total (omega (arith, inside (here p.before))) (sym (turned p) ∙ w.difference-is.given.1)))
+    let p : tie.After-seen_next-seen invariant-compare decreases-compare invariant-seconds decreases-seconds invariant-firsts decreases-firsts = record { before = record { before = record { before = record { before = l.before; if-j-across = w.if-j-across }; seen_next-arg-1 = w.seen_next-arg-1 }; seen_next-arg-in-compare-1 = w.seen_next-arg-in-compare-1 }; seen_next-seen = w.seen_next-seen } in
+    ap difference_meaning w.difference-is ∙ sym (ap (λ (s : Seen). difference_meaning (settled s)) (seen_clash (line_a k.before.before.before.before.before.before.before) (line_b k.before.before.before.before.before.before.before) (l.compare.j + 1) total (omega (arith, inside (here p.before))) (sym (turned p) ∙ w.in-Clash.is)))
     ∙ seen_common (line_a k.before.before.before.before.before.before.before) (line_b k.before.before.before.before.before.before.before) total)
 
 slice_bounds-try_share-end : tie.Need-slice_bounds-try_share-end invariant-compare decreases-compare invariant-seconds decreases-seconds invariant-firsts decreases-firsts
@@ -380,12 +380,12 @@ seconds-preserved c =
           w.try_share-tally.ensures.0 w.try_share-tally.ensures.1.0.0 w.try_share-tally.ensures.1.0.1 w.try_share-tally.ensures.1.1)))
           (λ w. split w
           (λ w.
-          let idle = split (w.is_open.ensures w.if-is_open.left)
+          let idle = split (w.is_open.ensures w.if-is_open.false)
           (λ poor. share_passed (board r) (table k.before) (start r).args.order.now (side r) (a (turn k.before)) (b k.before) x.tally.fresh x.tally.steps h.running h.ready (sym (h.counted.each (b k.before) (on_b k.before)) ∙ poor))
           (λ full. full_passed (board r) (table k.before) (start r).args.order.now (side r) (a (turn k.before)) (b k.before) x.tally.fresh x.tally.steps h.running h.ready full.0 full.1) in
           sharing_is w.table-is w.words-is w.rich-is w.tally-is (sharing_on h
           (sharing_one x.tally (a (turn k.before)) (b k.before) old new (another k.before w.if-a-b.true) h.running h.held _ _ _ _ idle h.ready h.counted h.rows)))
-          (λ w. sharing_is w.is_open w.tally-is w.table-is w.if-is_open (sharing_on h
+          (λ w. sharing_is w.table-is w.words-is w.rich-is w.tally-is (sharing_on h
           (sharing_none x.tally old new (λ q. seconds_same (try_share (m r) (n r) (board r).vertices (side r) q) (first_of (side r) (m r)) (count_of (side r) (m r) (n r)) (a (turn k.before)) (b k.before) (on_b k.before).below w.if-a-b.false) h.running h.held h.ready h.counted h.rows)))),
     )
 
