@@ -1,5 +1,6 @@
 // The calls that the benchmark (bench/) measures, as exports over cells. Each answers 0, or the refusal's number.
 #![tactic(auto)]
+
 ghost use Rattle.std.specs.Prelude.{◌≡◌, length};
 ghost use Rattle.timing.specs.Queries.{matrix_call};
 ghost use Rattle.reduction.specs.Steps.{prune, step_call};

@@ -31,7 +31,7 @@ module _ (m n N k : ℕ) (t : List ℤ) {after : List ℤ} {r : Ran} (runs : Run
       let e : run_call m n N k t ≡ accepted (record { table = after; steps = c; arcs_left = a }) = sym runs.answer ∙ ap (λ (x : Ran). ran_meaning x after) q in
       let g = run_gain m n N k t _ e in
       let ok = passed-checked g.kept.passed in
-      let few = Paths.board-area (Paths.sizes m n N) ok.lent.sized in
+      let few = Paths.board_area (Paths.sizes m n N) ok.lent.sized in
       (ok, omega (arith, g.kept.fewer, arcs_few N (graph_of N t), few), omega (arith, g.counted, arcs_few N (graph_of N after), few))
 
   pub ran_text : (x : Ran) → r ≡ x → k ≡ most_cells → run_text (sizes m n N) (ran_meaning x after) ≡ run_text (sizes m n N) (run_call m n N most_cells t)

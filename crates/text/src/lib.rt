@@ -1,5 +1,6 @@
 // The whole text of `thin`: the size, the arcs and the counts of a board file that was read and reduced, or its refusal.
 #![tactic(auto)]
+
 ghost use Rattle.std.specs.Prelude.{◌≡◌, ◌≤◌, ◌<◌, ◌^◌, length};
 ghost use Rattle.timing.specs.Refusal.{number};
 ghost use Rattle.format.specs.Library.{built_in};

@@ -4,17 +4,17 @@ use Rattle.meter.proofs.Measuring.{measured}
 use Rattle.meter.proofs.meter_margins.Statement.{statement}
 use Rattle.meter.proofs.meter_margins.Tie as tie
 
-returns : tie.Need-returns
-returns c = let d = c.before.before.before.before.before in measured d.margins.ensures c.enum_told.given.1 refl
+returns-in-Done : tie.Need-returns-in-Done
+returns-in-Done c = let d = c in measured d.margins-answer.ensures c.in-Done.is refl
 
-returns-2 : tie.Need-returns-2
-returns-2 c =
-    let k = c.before.before in
-    let d = k.before.before.before.before.before in
-    measured d.margins.ensures k.answer.given.1 c.number.ensures.0
+returns-in-Refused : tie.Need-returns-in-Refused
+returns-in-Refused c =
+    let k = c in
+    let d = k in
+    measured d.margins-answer.ensures k.in-Refused.is c.number.ensures.0
 
-pub meter-margins-spec : {M : Type 1} → statement M
-meter-margins-spec =
+pub meter_margins_spec : {M : Type 1} → statement M
+meter_margins_spec =
     tie.close
     (tie.spec
     (λ c κs. search rules)
@@ -24,8 +24,8 @@ meter-margins-spec =
     (λ c. search rules)
     (λ c. search rules)
     (λ c. search rules)
-    returns
+    returns-in-Done
     (λ c. search rules)
     (λ c. search rules)
     (λ c. search rules)
-    returns-2)
+    returns-in-Refused)

@@ -4,16 +4,26 @@ use Rattle.meter.proofs.Measuring.{measured}
 use Rattle.meter.proofs.meter_matrix.Statement.{statement}
 use Rattle.meter.proofs.meter_matrix.Tie as tie
 
-returns : tie.Need-returns
-returns c = let d = c.before.before.before.before in (measured d.delay-matrix.ensures.0 c.enum_told.given.1 refl, d.delay-matrix.ensures.1)
+returns-in-Done : tie.Need-returns-in-Done
+returns-in-Done c = let d = c in (measured d.delay_matrix-answer.ensures.0 c.in-Done.is refl, d.delay_matrix-answer.ensures.1)
 
-returns-2 : tie.Need-returns-2
-returns-2 c =
-    let k = c.before.before in
-    let d = k.before.before.before.before in
-    (measured d.delay-matrix.ensures.0 k.answer.given.1 c.number.ensures.0, d.delay-matrix.ensures.1)
+returns-in-Refused : tie.Need-returns-in-Refused
+returns-in-Refused c =
+    let k = c in
+    let d = k in
+    (measured d.delay_matrix-answer.ensures.0 k.in-Refused.is c.number.ensures.0, d.delay_matrix-answer.ensures.1)
 
-pub meter-matrix-spec : {M : Type 1} → statement M
-meter-matrix-spec =
+pub meter_matrix_spec : {M : Type 1} → statement M
+meter_matrix_spec =
     tie.close
-    (tie.spec (λ c κs. search rules) (λ c. search rules) (λ c. search rules) (λ c κs. search rules) (λ c. search rules) (λ c. search rules) returns (λ c. search rules) (λ c. search rules) returns-2)
+    (tie.spec
+    (λ c κs. search rules)
+    (λ c. search rules)
+    (λ c. search rules)
+    (λ c κs. search rules)
+    (λ c. search rules)
+    (λ c. search rules)
+    returns-in-Done
+    (λ c. search rules)
+    (λ c. search rules)
+    returns-in-Refused)

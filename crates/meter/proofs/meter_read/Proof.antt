@@ -5,14 +5,22 @@ use Rattle.meter.specs.Answers.{read_number}
 use Rattle.meter.proofs.meter_read.Statement.{statement}
 use Rattle.meter.proofs.meter_read.Tie as tie
 
-returns : tie.Need-returns
-returns c = let d = c.before.before.before in (ap read_number (sym (ap read_meaning c.enum_told.given.1) ∙ d.read.ensures.0), d.read.ensures.1)
+returns-in-Board : tie.Need-returns-in-Board
+returns-in-Board c = let d = c in (ap read_number (sym (ap read_meaning c.in-Board.is) ∙ d.read-answer.ensures.0), d.read-answer.ensures.1)
 
-returns-2 : tie.Need-returns-2
-returns-2 c =
-    let k = c.before.before in
-    let d = k.before.before.before in
-    (c.number.ensures.0 ∙ ap read_number (sym (ap read_meaning k.answer.given.1) ∙ d.read.ensures.0), d.read.ensures.1)
+returns-in-Refused : tie.Need-returns-in-Refused
+returns-in-Refused c =
+    let k = c in
+    let d = k in
+    (c.number.ensures.0 ∙ ap read_number (sym (ap read_meaning k.in-Refused.is) ∙ d.read-answer.ensures.0), d.read-answer.ensures.1)
 
-pub meter-read-spec : {M : Type 1} → statement M
-meter-read-spec = tie.close (tie.spec (λ c κs. search rules) (λ c. search rules) (λ c. search rules) (λ c κs. search rules) (λ c. search rules) returns (λ c. search rules) returns-2)
+pub meter_read_spec : {M : Type 1} → statement M
+meter_read_spec = tie.close (tie.spec
+    (λ c κs. search rules)
+    (λ c. search rules)
+    (λ c. search rules)
+    (λ c κs. search rules)
+    (λ c. search rules)
+    returns-in-Board
+    (λ c. search rules)
+    returns-in-Refused)

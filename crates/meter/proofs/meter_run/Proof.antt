@@ -4,16 +4,26 @@ use Rattle.meter.proofs.Measuring.{measured}
 use Rattle.meter.proofs.meter_run.Statement.{statement}
 use Rattle.meter.proofs.meter_run.Tie as tie
 
-returns : tie.Need-returns
-returns c = let d = c.before.before.before.before in (measured d.run.ensures.0 c.enum_told.given.1 refl, d.run.ensures.1)
+returns-in-Accepted : tie.Need-returns-in-Accepted
+returns-in-Accepted c = let d = c in (measured d.run-answer.ensures.0 c.in-Accepted.is refl, d.run-answer.ensures.1)
 
-returns-2 : tie.Need-returns-2
-returns-2 c =
-    let k = c.before.before in
-    let d = k.before.before.before.before in
-    (measured d.run.ensures.0 k.answer.given.1 c.number.ensures.0, d.run.ensures.1)
+returns-in-Refused : tie.Need-returns-in-Refused
+returns-in-Refused c =
+    let k = c in
+    let d = k in
+    (measured d.run-answer.ensures.0 k.in-Refused.is c.number.ensures.0, d.run-answer.ensures.1)
 
-pub meter-run-spec : {M : Type 1} → statement M
-meter-run-spec =
+pub meter_run_spec : {M : Type 1} → statement M
+meter_run_spec =
     tie.close
-    (tie.spec (λ c κs. search rules) (λ c. search rules) (λ c. search rules) (λ c κs. search rules) (λ c. search rules) (λ c. search rules) returns (λ c. search rules) (λ c. search rules) returns-2)
+    (tie.spec
+    (λ c κs. search rules)
+    (λ c. search rules)
+    (λ c. search rules)
+    (λ c κs. search rules)
+    (λ c. search rules)
+    (λ c. search rules)
+    returns-in-Accepted
+    (λ c. search rules)
+    (λ c. search rules)
+    returns-in-Refused)

@@ -22,66 +22,71 @@ module _ (s : tie.Start) where
   g = graph_of s.args.board.vertices s.args.table.now
 
   few : length (arc_lines (arcs_of b.vertices g)) ≤ 88110
-  few = omega (arith, lines_most b.vertices g (omega (arith, s.pre.0.lent.sized.few)), arcs-most b.vertices s.pre.0.sound.acyclic s.pre.0.lent.sized.few)
+  few = omega (arith, lines_most b.vertices g (omega (arith, s.requires.0.lent.sized.few)), arcs-most b.vertices s.requires.0.sound.acyclic s.requires.0.lent.sized.few)
 
   size : length (board_line (sizes_of b)) ≤ 15
-  size = let z = s.pre.0.lent.sized in board-most (sizes_of b) (omega (arith, z.roles, z.few)) (omega (arith, z.roles, z.few)) (omega (arith, z.few))
+  size = let z = s.requires.0.lent.sized in board-most (sizes_of b) (omega (arith, z.roles, z.few)) (omega (arith, z.roles, z.few)) (omega (arith, z.few))
 
   counts : length (counts_line s.args.steps s.args.arcs) ≤ 24
-  counts = counts_most s.args.steps s.args.arcs s.pre.1.0 s.pre.1.1.0
+  counts = counts_most s.args.steps s.args.arcs s.requires.1.0 s.requires.1.1.0
 
-board-line-requires : tie.Need-board-line-requires
-board-line-requires c κs =
-    let s = c.before.before in
+board_line-first-requires : tie.Need-board_line-first-requires
+board_line-first-requires c κs =
+    let s = c in
     let z = s.requires.0.lent.sized in
-    (omega (arith, z.roles, z.few), (omega (arith, z.roles, z.few), (omega (arith, z.few), omega (arith, s.requires.1.1.1, size s))))
+    (omega (arith, z.roles, z.few), (omega (arith, z.roles, z.few), (omega (arith, z.few), omega (arith, s.requires.1.1.1, size s.before.before))))
 
-put-arcs-requires : tie.Need-put-arcs-requires
-put-arcs-requires c κs =
-    let first = c.before.before.before in
-    let s = first.before.before.before in
-    (s.requires.0, omega (arith, s.requires.1.1.1, size s, few s, first.board-line.ensures.end, first.board-line.auto.0))
+put_arcs-last-requires : tie.Need-put_arcs-last-requires
+put_arcs-last-requires c κs =
+    let first = c in
+    let s = first in
+    (s.requires.0, omega (arith, s.requires.1.1.1, size s.before.before.before.before.before.before, few s.before.before.before.before.before.before, first.board_line-first.ensures.end, first.board_line-first.auto.out))
 
-counts-line-requires : tie.Need-counts-line-requires
-counts-line-requires c κs =
-    let rows = c.before.before.before in
-    let first = rows.before.before.before.before in
-    let s = first.before.before.before in (
+counts_line-requires : tie.Need-counts_line-requires
+counts_line-requires c κs =
+    let rows = c in
+    let first = rows in
+    let s = first in (
       omega (arith, s.requires.1.0),
       (
         omega (arith, s.requires.1.1.0),
         omega (
           arith,
           s.requires.1.1.1,
-          size s,
-          few s,
-          counts s,
-          first.board-line.ensures.end,
-          first.board-line.auto.0,
-          rows.put-arcs.ensures.end,
-          rows.put-arcs.auto.1.1.1.0,
+          size s.before.before.before.before.before.before.before.before.before.before,
+          few s.before.before.before.before.before.before.before.before.before.before,
+          counts s.before.before.before.before.before.before.before.before.before.before,
+          first.board_line-first.ensures.end,
+          first.board_line-first.auto.out,
+          rows.put_arcs-last.ensures.end,
+          rows.put_arcs-last.auto.out,
         ),
       ),
     )
 
 returns : tie.Need-returns
 returns c =
-    let last = c.before.before in
-    let rows = last.before.before.before.before in
-    let first = rows.before.before.before.before in
-    let s = first.before.before.before in (
-      appends_more (appends_more first.board-line.ensures rows.put-arcs.ensures) last.counts-line.ensures,
+    let last = c in
+    let rows = last in
+    let first = rows in
+    let s = first in (
+      appends_more (appends_more first.board_line-first.ensures rows.put_arcs-last.ensures) last.counts_line.ensures,
       omega (
         arith,
-        size s,
-        few s,
-        counts s,
-        first.board-line.ensures.end,
-        rows.put-arcs.ensures.end,
-        last.counts-line.ensures.end,
+        size s.before.before.before.before.before.before.before.before.before.before.before.before.before,
+        few s.before.before.before.before.before.before.before.before.before.before.before.before.before,
+        counts s.before.before.before.before.before.before.before.before.before.before.before.before.before,
+        first.board_line-first.ensures.end,
+        rows.put_arcs-last.ensures.end,
+        last.counts_line.ensures.end,
       ),
     )
 
-pub reduced-text-spec : {M : Type 1} → statement M
-reduced-text-spec =
-    tie.close (tie.spec board-line-requires put-arcs-requires counts-line-requires (λ c. search rules) returns)
+pub reduced_text_spec : {M : Type 1} → statement M
+reduced_text_spec =
+    tie.close (tie.spec
+    board_line-first-requires
+    put_arcs-last-requires
+    counts_line-requires
+    (λ c. search rules)
+    returns)

@@ -9,41 +9,41 @@ use Rattle.text.proofs.ThinTexts.{blank-table, text_is, stops_inside}
 use Rattle.text.proofs.text_into.Statement.{statement}
 use Rattle.text.proofs.text_into.Tie as tie
 
-module _ (c : tie.After-read) where
+module _ (c : tie.After-read-found) where
   abbrev cleared : tie.After-blank
-  cleared = c.before.before.before.before
+  cleared = c.before.before.before
 
   abbrev start : tie.Start
   start = cleared.before.before.before.before
 
-  table-blank : cleared.blank.last.0 ≡ blank
-  table-blank = cleared.blank.ensures ∙ blank-table start.args.table.now start.pre.1.1.0
+  table_blank : cleared.blank.new.table ≡ blank
+  table_blank = cleared.blank.ensures ∙ blank-table start.args.table.now start.requires.1.1.0
 
   -- what the call's answer comes to
-  text : (x : Read) → c.read.result ≡ x → text_of c.read.new.1.0 (read_meaning x) ≡ thin_text start.args.input.now
-  text x q = text_is start.args.input.now start.pre.1.0 table-blank start.pre.1.1.1.0 c.read.ensures.0 c.read.ensures.1 x q
+  text : (x : Read) → c.read-found.result ≡ x → text_of c.read-found.new.table (read_meaning x) ≡ thin_text start.args.input.now
+  text x q = text_is start.args.input.now start.requires.1.0 table_blank start.requires.1.1.1.0 c.read-found.ensures.0 c.read-found.ensures.1 x q
 
-refused-text-requires : tie.Need-refused-text-requires
-refused-text-requires c κs =
-    let k = c.before.before in
-    let x = k.before.before.before in
-    let s = start x in
-    (omega (arith, s.pre.0, stops_inside s.args.input.now s.pre.1.0 (table-blank x) s.pre.1.1.1.0 x.read.ensures.0 _ _ k.found2.given.1), s.pre.1.1.1.1)
+refused_text-requires : tie.Need-refused_text-requires
+refused_text-requires c κs =
+    let k = c in
+    let x = k in
+    let s = start x.before.before.before in
+    (omega (arith, s.requires.0, stops_inside s.args.input.now s.requires.1.0 (table_blank x.before.before.before) s.requires.1.1.1.0 x.read-found.ensures.0 _ _ k.in-Refused.is), s.requires.1.1.1.1)
 
-returns : tie.Need-returns
-returns c =
-    let t = c.before.before.before.before in
-    let k = t.before.before.before.before.before in
-    (appends_same (text k.before.before.before _ k.found.given.1) t.run-text.ensures.0, t.run-text.ensures.1)
+returns-in-Board : tie.Need-returns-in-Board
+returns-in-Board c =
+    let t = c in
+    let k = t in
+    (appends_same (text k.before.before.before.before.before.before.before.before.before.before _ k.in-Board.is) t.run_text.ensures.0, t.run_text.ensures.1)
 
-returns-2 : tie.Need-returns-2
-returns-2 c =
-    let t = c.before.before in
-    let k = t.before.before.before in
-    (appends_same (text k.before.before.before _ k.found2.given.1) t.refused-text.ensures.0, t.refused-text.ensures.1)
+returns-in-Refused : tie.Need-returns-in-Refused
+returns-in-Refused c =
+    let t = c in
+    let k = t in
+    (appends_same (text k.before.before.before.before.before.before _ k.in-Refused.is) t.refused_text.ensures.0, t.refused_text.ensures.1)
 
-pub text-into-spec : {M : Type 1} → statement M
-text-into-spec =
+pub text_into_spec : {M : Type 1} → statement M
+text_into_spec =
     tie.close
     (tie.spec
     (λ c κs. search rules)
@@ -51,12 +51,12 @@ text-into-spec =
     (λ c. search rules)
     (λ c κs. search rules)
     (λ c. search rules)
-    refused-text-requires
+    refused_text-requires
     (λ c. search rules)
     (λ c. search rules)
     (λ c. search rules)
-    returns
+    returns-in-Board
     (λ c. search rules)
     (λ c. search rules)
     (λ c. search rules)
-    returns-2)
+    returns-in-Refused)
