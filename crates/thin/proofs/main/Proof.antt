@@ -4,11 +4,11 @@ use lib.ListN.{length-take}
 use Rattle.thin.proofs.main.Statement.{statement}
 use Rattle.thin.proofs.main.Tie as tie
 
-slice-aggregate-write-all : tie.Need-slice-aggregate-write-all
-slice-aggregate-write-all c =
-    let t = c.before.before in
-    let p = t.before.before.before in
-    simp length-take (omega (arith, t.thin-text.ensures.1, t.thin-text.auto.1.0, p.page.ensures))
+slice_bounds-write_all-end : tie.Need-slice_bounds-write_all-end
+slice_bounds-write_all-end c =
+    let t = c in
+    let p = t in
+    simp length-take (omega (arith, t.thin_text-length.ensures.1, t.thin_text-length.auto.out, p.page-out.ensures))
 
 pub main_spec : {M : Type 1} → statement M
 main_spec =
@@ -23,6 +23,6 @@ main_spec =
     (λ c. search rules)
     (λ c κs. search rules)
     (λ c. search rules)
-    slice-aggregate-write-all
+    slice_bounds-write_all-end
     (λ c κs. search rules)
     (λ c. search rules))
