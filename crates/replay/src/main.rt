@@ -5,6 +5,7 @@
 //
 // A part is written `x[0..k]` and not `x[..k]`: that it has k elements needs no proof file then.
 #![tactic(auto)]
+
 mod answers;
 mod calls;
 mod file_calls;

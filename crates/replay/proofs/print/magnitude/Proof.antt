@@ -36,25 +36,30 @@ stays (negsuc n) f e = let z : ◌≡◌ {A = ℕ} 0 1 = cc in absurd (omega ari
 held : (c : tie.Start) → to_z w64 (of_z w64 c.args.x) ≡ c.args.x
 held c = to_z-of_z {w = w64} c.ranges.x
 
-below : (c : tie.Then1) → Below c.before.args.x
-below c = flips _ c.before.ranges.x (rw (held c.before) at c.if1.true)
+below : (c : tie.Then-x-lt0) → Below c.args.x
+below c = flips _ c.ranges.x (rw (held c.before) at c.if-x-lt0.true)
 
-cast-result : tie.Need-overflow-cast-result
-cast-result c = let b = below c in simp b.flipped (tt, record { fits = omega (arith, b.small) })
+overflow_cast-result : tie.Need-overflow_cast-result
+overflow_cast-result c = let b = below c in simp b.flipped (tt, record { fits = omega (arith, b.small) })
 
-add-result : tie.Need-overflow-add-result
-add-result c = let b = below c in simp b.flipped (omega (arith, b.small))
+overflow_add-result : tie.Need-overflow_add-result
+overflow_add-result c = let b = below c in simp b.flipped (omega (arith, b.small))
+
+returns-then-x-lt0 : tie.Need-returns-then-x-lt0
+returns-then-x-lt0 c = let b = below c in simp b.flipped (omega (arith, b.value))
+
+overflow_cast-result-2 : tie.Need-overflow_cast-result-2
+overflow_cast-result-2 c =
+    let s = c in
+    simp (held s.before) (stays _ s.ranges.x (rw (held s.before) at c.if-x-lt0.false))
 
 returns : tie.Need-returns
-returns c = let b = below c in simp b.flipped (omega (arith, b.value))
+returns c = simp (held c.before)
 
-cast-result-2 : tie.Need-overflow-cast-result-2
-cast-result-2 c =
-    let s = c.before in
-    simp (held s) (stays _ s.ranges.x (rw (held s) at c.if1.false))
-
-returns-2 : tie.Need-returns-2
-returns-2 c = simp (held c.before)
-
-pub magnitude-spec : {M : Type 1} → statement M
-magnitude-spec = tie.close (tie.spec cast-result add-result returns cast-result-2 returns-2)
+pub magnitude_spec : {M : Type 1} → statement M
+magnitude_spec = tie.close (tie.spec
+    overflow_cast-result
+    overflow_add-result
+    returns-then-x-lt0
+    overflow_cast-result-2
+    returns)

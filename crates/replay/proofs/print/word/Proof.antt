@@ -6,15 +6,23 @@ use Rattle.replay.specs.Page.{OnPage}
 use Rattle.replay.proofs.print.word.Statement.{statement}
 use Rattle.replay.proofs.print.word.Tie as tie
 
-abbrev invariant-loop : tie.invariant-loop
+abbrev invariant-loop : tie.invariant-loop-i
 invariant-loop page₀ at text next₀ i₀ page next i = (length page ≡ length page₀) × OnPage page next
 
-abbrev decreases-loop : tie.decreases-loop
+abbrev decreases-loop : tie.decreases-loop-i
 decreases-loop page₀ at text next₀ i₀ page next i = length text - i
 
-pub word-spec : {M : Type 1} → statement M
-word-spec =
+pub word_spec : {M : Type 1} → statement M
+word_spec =
     tie.close
-    (tie.spec invariant-loop decreases-loop
-    (λ c. search rules) (λ c. search rules) (λ c κs. search rules) (λ c. search rules)
-    (λ c. search rules) (λ c. search rules) (λ c. search rules) (λ c. search rules))
+    (tie.spec
+    invariant-loop
+    decreases-loop
+    (λ c. search rules)
+    (λ c. search rules)
+    (λ c κs. search rules)
+    (λ c. search rules)
+    (λ c. search rules)
+    (λ c. search rules)
+    (λ c. search rules)
+    (λ c. search rules))
