@@ -1,7 +1,7 @@
 #!/usr/bin/env python3
 """Spells the definitions and lemmas of crates/*/specs and crates/*/proofs in snake case, once, after port.py.
 
-usage: tools/snake_names.py [--list]      at the top of the repository; --list prints old and new and writes nothing
+usage: tools/snake_names.py [--list|--locals]      at the top of the repository; --list prints old and new and writes nothing; --locals does the names that a file has for itself
 
 A word of a name begins a new part (cellDelay, cell_delay). A dash stays between two names of definitions or symbols (present-⊑), and is an underscore else.
 A name is respelled in a file that declares it or imports it from a crate of this repository, behind a dot if it is a record's field here, and in clauses of .rt files.
@@ -59,6 +59,24 @@ def spelled(name, defined):
     return out
 
 
+LOCAL = re.compile(rf"^ *(?:(?:abbrev|pub|unfoldable) )*({WORD})(?: \{{[^{{}}]*\}})* : (.*)$", re.M)
+
+
+def locals_of(text, defined):
+    """What a file declares for itself, in where blocks and modules: old and new."""
+    words = set(re.findall(WORD, text))
+    new = {}
+    for m in LOCAL.finditer(text):
+        n = m[1]
+        if not re.match(r"[a-z]", n) or "tie.Need-" in m[2] or re.match(r"invariant-|decreases-", n):
+            continue
+        if re.search(r"[A-Z]", n) or "-" in n:
+            s = spelled(n, defined)
+            if s != n:
+                new[n] = s + "_lem" if s in words else s
+    return new
+
+
 def main(argv):
     root = "."
     text = {p: open(p, encoding="utf-8").read() for p in texts(root)}
@@ -77,6 +95,19 @@ def main(argv):
         for b in BLOCK.finditer(t):
             for m in INNER.finditer(b[0]):
                 fields[m[1]].add(p)
+    if "--locals" in argv:
+        count = 0
+        for p, t in text.items():
+            if p.endswith(".antt"):
+                new = locals_of(t, defined)
+                u = re.sub(rf"(\.?)({WORD})", lambda m: m[0] if m[1] else new.get(m[2], m[2]), t)
+                if u != t:
+                    count += len(new)
+                    print(p, *(f"{a}:{b}" for a, b in new.items()))
+                    with open(p, "w", encoding="utf-8") as f:
+                        f.write(u)
+        print(count, "names")
+        return 0
     old = sorted(n for n in set(tops) | set(fields) if re.match(r"[a-z_]", n) and (re.search(r"[A-Z]", n) or "-" in n or n in SPECIAL))
     new = {n: spelled(n, defined) for n in old}
     new = {a: b for a, b in new.items() if a != b}
