@@ -59,7 +59,7 @@ def spelled(name, defined):
     return out
 
 
-LOCAL = re.compile(rf"^ *(?:(?:abbrev|pub|unfoldable) )*({WORD})(?: \{{[^{{}}]*\}})* : (.*)$", re.M)
+LOCAL = re.compile(rf"^ *(?:(?:abbrev|unfoldable) )*({WORD})(?: \{{[^{{}}]*\}})* : (.*)$", re.M)
 
 
 def locals_of(text, defined):

@@ -66,10 +66,10 @@ module _ (N : ℕ) (s : List ℕ) (c : Cursor) where
   asked d false q low count m = absurd (let e : ◌≡◌ {A = Reading (Unit {0})} (got tt) _ = m (λ x y z. got tt) in let z : ◌≡◌ {A = ℕ} 0 1 = cc in omega arith)
 
   -- so that a record of an arc from a to b, before one at q, is followed
-  on-arc : (d : Cursor) (a b q : ℕ) → byte_at s (p + 2) ≡ a → p + 2 < length s → a < N → b < N
+  on_arc : (d : Cursor) (a b q : ℕ) → byte_at s (p + 2) ≡ a → p + 2 < length s → a < N → b < N
       → ((load : ℕ → ℕ) (onward : ℕ → (ℕ → ℕ) → ℕ → ℕ) → worked_of (board_shape N) counted p load onward (record_at N s p) ≡ onward q (one_more a load))
       → ((onward : Onward) → onward d.at d.low d.count ≡ ask (leb c.low (N * a + b)) NotRising p (onward q (suc (N * a + b)) (suc c.count))) → GoesOn d
-  on-arc d a b q e l hu hv f m =
+  on_arc d a b q e l hu hv f m =
       let h = asked d (leb c.low (N * a + b)) q (suc (N * a + b)) (suc c.count) m in
       record {
         u = a;
@@ -83,17 +83,17 @@ module _ (N : ℕ) (s : List ℕ) (c : Cursor) where
         counts = λ load onward. f load onward ∙ ap (λ (x : ℕ). onward x (one_more a load)) (sym h.1);
       }
 
-  on-found : (l : List ℤ) (d : Cursor) (x : Verdict Record) → known_at l N s p ≡ x → ((onward : Onward) → onward d.at d.low d.count ≡ found_says s c (board_shape N) x onward) → GoesOn d
-  on-found l d (refused r) e m = absurd (let q : ◌≡◌ {A = Reading (Unit {0})} (got tt) (stopped r p) = m (λ x y z. got tt) in let z : ◌≡◌ {A = ℕ} 0 1 = cc in omega arith)
-  on-found l d (accepted (R.Arc a b z)) e m =
+  on_found : (l : List ℤ) (d : Cursor) (x : Verdict Record) → known_at l N s p ≡ x → ((onward : Onward) → onward d.at d.low d.count ≡ found_says s c (board_shape N) x onward) → GoesOn d
+  on_found l d (refused r) e m = absurd (let q : ◌≡◌ {A = Reading (Unit {0})} (got tt) (stopped r p) = m (λ x y z. got tt) in let z : ◌≡◌ {A = ℕ} 0 1 = cc in omega arith)
+  on_found l d (accepted (R.Arc a b z)) e m =
       let q = stands l N s p (R.Arc a b z) e in
       let k = legal N s p (R.Arc a b z) q in
-      on-arc d a b (p + 8) k.4 (omega (arith, k.0)) k.1 k.2 (λ load onward. ap (worked_of (board_shape N) counted p load onward) q) m
-  on-found l d (accepted (R.Cell a b z)) e m =
+      on_arc d a b (p + 8) k.4 (omega (arith, k.0)) k.1 k.2 (λ load onward. ap (worked_of (board_shape N) counted p load onward) q) m
+  on_found l d (accepted (R.Cell a b z)) e m =
       let q = stands l N s p (R.Cell a b z) e in
       let k = legal N s p (R.Cell a b z) q in
-      on-arc d a b (p + 5) k.3 (omega (arith, k.0)) k.1 k.2 (λ load onward. ap (worked_of (board_shape N) counted p load onward) q) m
-  on-found l d (accepted (R.End n)) e m = absurd (never (eqb n c.count) (eqb (p + 4) (length s)) (m (λ x y z. stopped 0 0)))
+      on_arc d a b (p + 5) k.3 (omega (arith, k.0)) k.1 k.2 (λ load onward. ap (worked_of (board_shape N) counted p load onward) q) m
+  on_found l d (accepted (R.End n)) e m = absurd (never (eqb n c.count) (eqb (p + 4) (length s)) (m (λ x y z. stopped 0 0)))
     where
       never : (a b : Bool) → ◌≡◌ {A = Reading (Unit {0})} (stopped 0 0) (ask a WrongCount p (ask b FileGoesOn (p + 4) (got tt))) → ⊥
       never false b h = let z : ◌≡◌ {A = ℕ} 0 19 = cc in omega arith
@@ -104,18 +104,18 @@ module _ (N : ℕ) (s : List ℕ) (c : Cursor) where
   not_done t h = let q = (ask_got t NotRising p (stopped 0 0) tt (sym h)).1 in let z : ◌≡◌ {A = ℕ} 0 1 = cc in omega arith
 
   -- the record at the cursor is the last
-  done-found : (l : List ℤ) (x : Verdict Record) → known_at l N s p ≡ x → ((onward : Onward) → got tt ≡ found_says s c (board_shape N) x onward) → (load : ℕ → ℕ) (onward : ℕ → (ℕ → ℕ) → ℕ → ℕ) → worked_of (board_shape N) counted p load onward (record_at N s p) ≡ load
-  done-found l (refused r) e m load onward = absurd (let q : ◌≡◌ {A = Reading (Unit {0})} (got tt) (stopped r p) = m (λ x y z. stopped 0 0) in let z : ◌≡◌ {A = ℕ} 0 1 = cc in omega arith)
-  done-found l (accepted (R.Arc a b z)) e m load onward = absurd (not_done (leb c.low (N * a + b)) (m (λ x y z. stopped 0 0)))
-  done-found l (accepted (R.Cell a b z)) e m load onward = absurd (not_done (leb c.low (N * a + b)) (m (λ x y z. stopped 0 0)))
-  done-found l (accepted (R.End n)) e m load onward = ap (worked_of (board_shape N) counted p load onward) (stands l N s p (R.End n) e)
+  done_found : (l : List ℤ) (x : Verdict Record) → known_at l N s p ≡ x → ((onward : Onward) → got tt ≡ found_says s c (board_shape N) x onward) → (load : ℕ → ℕ) (onward : ℕ → (ℕ → ℕ) → ℕ → ℕ) → worked_of (board_shape N) counted p load onward (record_at N s p) ≡ load
+  done_found l (refused r) e m load onward = absurd (let q : ◌≡◌ {A = Reading (Unit {0})} (got tt) (stopped r p) = m (λ x y z. stopped 0 0) in let z : ◌≡◌ {A = ℕ} 0 1 = cc in omega arith)
+  done_found l (accepted (R.Arc a b z)) e m load onward = absurd (not_done (leb c.low (N * a + b)) (m (λ x y z. stopped 0 0)))
+  done_found l (accepted (R.Cell a b z)) e m load onward = absurd (not_done (leb c.low (N * a + b)) (m (λ x y z. stopped 0 0)))
+  done_found l (accepted (R.End n)) e m load onward = ap (worked_of (board_shape N) counted p load onward) (stands l N s p (R.End n) e)
 
 module _ (l : List ℤ) (N : ℕ) (s : List ℕ) (c : Cursor) {r : Turned} (t : Turns (length s) c (found_says s c (board_shape N) (known_at l N s c.at)) r) where
   pub goes_on : (d : Cursor) → r ≡ T.On d → GoesOn N s c d
-  goes_on d e = on-found N s c l d (known_at l N s c.at) refl (turn_means t e)
+  goes_on d e = on_found N s c l d (known_at l N s c.at) refl (turn_means t e)
 
   pub is_done : r ≡ T.Done → (load : ℕ → ℕ) (onward : ℕ → (ℕ → ℕ) → ℕ → ℕ) → worked_of (board_shape N) counted c.at load onward (record_at N s c.at) ≡ load
-  is_done e = done-found N s c l (known_at l N s c.at) refl (turn_means t e)
+  is_done e = done_found N s c l (known_at l N s c.at) refl (turn_means t e)
 
 -- ---- the bytes
 

@@ -57,15 +57,15 @@ module _ (lib : List ℤ) (b : Board) (s l : List ℕ) (t t₁ : List ℤ) (o : 
   abbrev n : ℕ
   n = b.vertices
 
-  file-graph : all_placed lib b.vertices s (loads_of l) t ≡ file_graph lib b.vertices s
+  file_graph_lem : all_placed lib b.vertices s (loads_of l) t ≡ file_graph lib b.vertices s
   unfolding file_graph
-  file-graph i = arcs_worked (with_record lib (loads i)) n s (empty i)
+  file_graph_lem i = arcs_worked (with_record lib (loads i)) n s (empty i)
 
   answer : (arcs_checked b.inputs b.vertices (file_graph lib b.vertices s) then λ _. accepted b) ≡ board_meaning r
-  answer = sym (said.answer ∙ ap (λ (g : Graph). arcs_checked m n g then λ _. accepted b) (graph ∙ file-graph))
+  answer = sym (said.answer ∙ ap (λ (g : Graph). arcs_checked m n g then λ _. accepted b) (graph ∙ file_graph_lem))
 
   pub filled : (x : Board) → r ≡ M.Board x → Loads b.vertices (file_checked lib (sizes_of b) s) t t₁ S.Done
-  filled x e = record { answer = sym (ap passed found); table = table ∙ ap (λ (g : Graph). with_graph n g t) (file-graph ∙ sym (ap graph_read found)) }
+  filled x e = record { answer = sym (ap passed found); table = table ∙ ap (λ (g : Graph). with_graph n g t) (file_graph_lem ∙ sym (ap graph_read found)) }
     where
       found : file_checked lib (sizes_of b) s ≡ got (file_graph lib b.vertices s)
       found =
@@ -95,9 +95,9 @@ module _ (lib : List ℤ) (b : BoardSizes) (s : List ℕ) (t t₁ : List ℤ) (b
   abbrev found : Reading Graph
   found = file_checked lib b s
 
-  read-on : r ≡ S.Done → arcs_read lib b s ≡ found
+  read_on : r ≡ S.Done → arcs_read lib b s ≡ found
   unfolding arcs_read
-  read-on e = simp (sym said ∙ ap scan_meaning e)
+  read_on e = simp (sym said ∙ ap scan_meaning e)
 
   read_off : (x : Refusal) (p : ℕ) → r ≡ S.Refused x p → arcs_read lib b s ≡ stopped (number x) p
   unfolding arcs_read
@@ -105,8 +105,8 @@ module _ (lib : List ℤ) (b : BoardSizes) (s : List ℕ) (t t₁ : List ℤ) (b
 
   pub loaded : r ≡ S.Done → (t₂ : List ℤ) (x : Scanned) → Loads b.vertices (file_checked lib b s) t₁ t₂ x → Loads b.vertices (arcs_read lib b s) t t₂ x
   loaded e t₂ x h = record {
-    answer = h.answer ∙ ap passed (sym (read-on e));
-    table = h.table ∙ ap (with_graph N (graph_read found)) blank ∙ written_over N (graph_read found) no_arcs t ∙ ap (λ (y : Reading Graph). with_graph N (graph_read y) t) (sym (read-on e));
+    answer = h.answer ∙ ap passed (sym (read_on e));
+    table = h.table ∙ ap (with_graph N (graph_read found)) blank ∙ written_over N (graph_read found) no_arcs t ∙ ap (λ (y : Reading Graph). with_graph N (graph_read y) t) (sym (read_on e));
   }
 
   pub not-loaded : (x : Refusal) (p : ℕ) → r ≡ S.Refused x p → Loads b.vertices (arcs_read lib b s) t t₁ r

@@ -16,10 +16,10 @@ use Rattle.files.proofs.Turning.{turn_means}
 -- 15 where no mark fits any more
 module _ {R : Type 0} (shape : R → Shape) (found : ℕ → Verdict R) (s : List ℕ) (short : (p : ℕ) → length s < p + 2 → found p ≡ refused (number FileEnds)) where
   -- turns that are enough begin with the record at the cursor: where none is left, so is no byte
-  one-turn : (turns : ℕ) (c : Cursor) → length s ≤ turns + c.at → records_from shape turns found s c.at c.low c.count ≡ found_says s c shape (found c.at) (records_from shape (turns - 1) found s)
+  one_turn : (turns : ℕ) (c : Cursor) → length s ≤ turns + c.at → records_from shape turns found s c.at c.low c.count ≡ found_says s c shape (found c.at) (records_from shape (turns - 1) found s)
   unfolding records_from
-  one-turn zero c h = simp (short c.at (omega arith))
-  one-turn (suc turns) c h =
+  one_turn zero c h = simp (short c.at (omega arith))
+  one_turn (suc turns) c h =
       let e : turns ≡ suc turns - 1 = omega arith in
       ap (λ (k : ℕ). found_says s c shape (found c.at) (records_from shape k found s)) e
 
@@ -37,7 +37,7 @@ module _ {R : Type 0} (shape : R → Shape) (found : ℕ → Verdict R) (s : Lis
   module _ {whole : Reading (Unit {0})} {c : Cursor} {r : Turned} (l : Left whole c) (t : Turns (length s) c (found_says s c shape (found c.at)) r) where
     -- the answer of a turn that does not go on is that of the file
     pub turn_says : {x : Turned} → r ≡ x → turn_meaning x (records_from shape (l.turns - 1) found s) ≡ whole
-    turn_says e = turn_means t e (records_from shape (l.turns - 1) found s) ∙ sym (one-turn l.turns c l.enough) ∙ l.says
+    turn_says e = turn_means t e (records_from shape (l.turns - 1) found s) ∙ sym (one_turn l.turns c l.enough) ∙ l.says
 
     pub still_left : (d : Cursor) → r ≡ T.On d → Left whole d
     still_left d e =

@@ -24,8 +24,8 @@ module _ {A : Type 0} {part : ℕ → List A} {from : ℕ → ℕ → List A} (p
       let e' : suc v ≡ v + 1 = omega arith in
       ap (from v) e ∙ ps.next v (n - (v + 1)) ∙ ap (λ (k : ℕ). part v ++ from k (n - (v + 1))) e'
 
-  turns-over : (v n : ℕ) → n ≤ v → from v (n - v) ≡ []
-  turns-over v n l = let e : n - v ≡ 0 = omega arith in ap (from v) e ∙ ps.none v
+  turns_over : (v n : ℕ) → n ≤ v → from v (n - v) ≡ []
+  turns_over v n l = let e : n - v ≡ 0 = omega arith in ap (from v) e ∙ ps.none v
 
   pub turns_length : (v c : ℕ) → length (from v c) ≡ sum c (λ i. length (part (v + i)))
   unfolding sum
@@ -79,4 +79,4 @@ module _ {A B : Type 0} {write : List A → List B} (w : Joins write) {part : �
   left_next l = ap write (turn ps v n l) ∙ w.more (part v) (from (v + 1) (n - (v + 1)))
 
   pub left_none : n ≤ v → left write from n v ≡ []
-  left_none l = ap write (turns-over ps v n l) ∙ w.none
+  left_none l = ap write (turns_over ps v n l) ∙ w.none

@@ -23,6 +23,6 @@ board_mark b = board_record b.inputs b.outputs b.vertices
 abbrev pub board_file : Board → List ℤ → List ℕ
 board_file b t = file_of b.inputs b.outputs b.vertices (graph_in b t)
 
--- `writeCall` after its checks, at a board's table
+-- `write_call` after its checks, at a board's table
 abbrev pub file_on : Board → List ℤ → List ℕ → Verdict Written
 file_on b t destination = file_into b.inputs b.outputs b.vertices destination (graph_in b t)

@@ -131,12 +131,12 @@ module _ (l : List ℤ) (N : ℕ) (s : List ℕ) (ok : board_records l N s ≡ g
     placing p (R.Cell u v c) g h = λ _ _. with_arc_lem N u v (value_of (cell_delay l c (file_loads N s v))) g h.1 h.2 (cell_fits (cell_delay l c (file_loads N s v)) (cells c v))
     placing p (R.End n) g h = tt
 
-    arcs-good : Good N (file_graph l N s)
+    arcs_good : Good N (file_graph l N s)
     unfolding file_graph
-    arcs-good = (worked (with_record l (file_loads N s)) (λ _. Good N) placing no_arcs (record { in_range = λ u v t. absurd t }, λ u v. tt)).1
+    arcs_good = (worked (with_record l (file_loads N s)) (λ _. Good N) placing no_arcs (record { in_range = λ u v t. absurd t }, λ u v. tt)).1
 
 pub no_range_check : NoRangeCheck
-no_range_check l N s lib size ok = record { few = few l N s ok; cells = cells l N s ok lib size; arcs = (arcs-good l N s ok lib size).1 }
+no_range_check l N s lib size ok = record { few = few l N s ok; cells = cells l N s ok lib size; arcs = (arcs_good l N s ok lib size).1 }
 
 -- ---- a read that is accepted
 
@@ -172,7 +172,7 @@ unfolding table_read
 parts_pass l s t k b g e f =
     let memory = opened-fits l s t k b e in
     let arcs = arcs_fit l b s g f in
-    let good = arcs-good l b.vertices s arcs.0 memory.0 (few_of b.inputs b.outputs b.vertices memory.1.sizes) in
+    let good = arcs_good l b.vertices s arcs.0 memory.0 (few_of b.inputs b.outputs b.vertices memory.1.sizes) in
     rw (e, f, sym arcs.1.same) (passed-passes (table-passes b.inputs b.outputs b.vertices t (file_graph l b.vertices s) g memory.1.sizes memory.1.table good arcs.1))
 
 pub read_passes : ReadPasses
@@ -201,9 +201,9 @@ module _ (s : List ℕ) (ok : library_records s ≡ got tt) where
   held absent h = read_absent absent_cell absent_cell refl
   held (at z) h = read_at absent_cell z (not_mark z (below-fits ticks_limit z (omega arith) h))
 
-  library-fits : InForce (file_library s)
+  library_fits_lem : InForce (file_library s)
   unfolding library_fits file_library
-  library-fits =
+  library_fits_lem =
       let cell : ℕ → ℤ = λ c. write_cell absent_cell (file_ticks s c) in
       and_i (eqb (length (tabulate library_cells cell)) library_cells) _
       (eq→eqb _ library_cells (length-tabulate cell library_cells))
@@ -211,4 +211,4 @@ module _ (s : List ℕ) (ok : library_records s ≡ got tt) where
 
 pub library_passes : LibraryPasses
 unfolding library_call
-library_passes s l e = rw e (library-fits s (ask_got (eqb (length l) library_cells) WrongLibrary 0 _ tt e).1)
+library_passes s l e = rw e (library_fits_lem s (ask_got (eqb (length l) library_cells) WrongLibrary 0 _ tt e).1)

@@ -39,8 +39,8 @@ module _ (s pre xs : List ℕ) (e : s ≡ pre ++ xs) where
   byte_at : (i : ℕ) → get_or s (length pre + i) 0 ≡ get_or xs i 0
   byte_at i = ap (λ (l : List ℕ). get_or l (length pre + i) 0) e ∙ get_or-append-add pre xs i 0
 
-  byte-first : get_or s (length pre) 0 ≡ get_or xs 0 0
-  byte-first = let q : length pre ≡ length pre + 0 = omega arith in ap (λ (k : ℕ). get_or s k 0) q ∙ byte_at 0
+  byte_first : get_or s (length pre) 0 ≡ get_or xs 0 0
+  byte_first = let q : length pre ≡ length pre + 0 = omega arith in ap (λ (k : ℕ). get_or s k 0) q ∙ byte_at 0
 
   size_is : length s ≡ length pre + length xs
   size_is = ap length e ∙ length-append pre xs
@@ -65,9 +65,9 @@ module _ (N : ℕ) (s pre : List ℕ) where
   abbrev p : ℕ
   p = length pre
 
-  arc-read : (a : Arc) (rest : List ℕ) → s ≡ pre ++ (arc_record a ++ rest) → a.from < N → a.to < N → T (fits delay_limit (at a.delay)) → record_at N s p ≡ accepted (R.Arc a.from a.to a.delay)
+  arc_read : (a : Arc) (rest : List ℕ) → s ≡ pre ++ (arc_record a ++ rest) → a.from < N → a.to < N → T (fits delay_limit (at a.delay)) → record_at N s p ≡ accepted (R.Arc a.from a.to a.delay)
   unfolding record_at mark_at
-  arc-read a rest e hu hv hd = simp (b0, b1, b2, b3, d0, long 2 (omega arith), long 8 (omega arith), lt-ltb a.from N hu, lt-ltb a.to N hv, T_true {b = fits delay_limit (at a.delay)} hd)
+  arc_read a rest e hu hv hd = simp (b0, b1, b2, b3, d0, long 2 (omega arith), long 8 (omega arith), lt-ltb a.from N hu, lt-ltb a.to N hv, T_true {b = fits delay_limit (at a.delay)} hd)
     where
       xs : List ℕ
       xs = arc_record a ++ rest
@@ -76,7 +76,7 @@ module _ (N : ℕ) (s pre : List ℕ) where
       long k l = le-leb (p + k) (length s) (omega (arith, l, size_is s pre (arc_record a ++ rest) e, record_length a rest))
 
       b0 : get_or s p 0 ≡ 65
-      b0 = byte-first s pre (arc_record a ++ rest) e
+      b0 = byte_first s pre (arc_record a ++ rest) e
 
       b1 : get_or s (p + 1) 0 ≡ 82
       b1 = byte_at s pre (arc_record a ++ rest) e 1
@@ -101,7 +101,7 @@ module _ (N : ℕ) (s pre : List ℕ) where
       long k h = le-leb (p + k) (length s) (omega (arith, h, size))
 
       b0 : get_or s p 0 ≡ 69
-      b0 = byte-first s pre (end_record n) e
+      b0 = byte_first s pre (end_record n) e
 
       b1 : get_or s (p + 1) 0 ≡ 78
       b1 = byte_at s pre (end_record n) e 1
@@ -140,7 +140,7 @@ module _ (N : ℕ) (s : List ℕ) (total : ℕ) (few : total < 256 ^ 2) where
       let r = end_read N s pre total e few in
       simp (r.0, eq-eqb total count (omega (arith, c)), eq-eqb (length pre + 4) (length s) (sym r.1))
   records_read lib (a ∷ as') pre low count (suc turns) e h c l =
-      let r = arc-read N s pre a (arc_records as' ++ end_record total) (here pre a as' e) h.0 h.1 h.2 in
+      let r = arc_read N s pre a (arc_records as' ++ end_record total) (here pre a as' e) h.0 h.1 h.2 in
       let k = onward pre a as' e in
       simp (r, le-leb low (N * a.from + a.to) h.3)
       (ap (λ (q : ℕ). records_from (board_shape N) turns (known_at lib N s) s q (suc (N * a.from + a.to)) (suc count)) (sym k.1) ∙ records_read lib as' (pre ++ arc_record a) (suc (N * a.from + a.to)) (suc count) turns k.0 h.4 (omega (arith, c)) (omega (arith, l)))
@@ -151,7 +151,7 @@ module _ (N : ℕ) (s : List ℕ) (total : ℕ) (few : total < 256 ^ 2) where
   arcs_read_lem lib load as' pre low zero g e h l = absurd (omega arith)
   arcs_read_lem lib load [] pre low (suc turns) g e h l = simp (end_read N s pre total e few).0
   arcs_read_lem lib load (a ∷ as') pre low (suc turns) g e h l =
-      let r = arc-read N s pre a (arc_records as' ++ end_record total) (here pre a as' e) h.0 h.1 h.2 in
+      let r = arc_read N s pre a (arc_records as' ++ end_record total) (here pre a as' e) h.0 h.1 h.2 in
       let k = onward pre a as' e in
       simp r
       (ap (λ (q : ℕ). worked_from (board_shape N) (with_record lib load) turns (record_at N s) q (with_arc a.from a.to (at a.delay) g)) (sym k.1) ∙ arcs_read_lem lib load as' (pre ++ arc_record a) (suc (N * a.from + a.to)) turns (with_arc a.from a.to (at a.delay) g) k.0 h.4 (omega (arith, l)))

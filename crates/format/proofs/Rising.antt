@@ -28,10 +28,10 @@ rising_sooner N low low' [] l h = tt
 rising_sooner N low low' (a ∷ as') l h = (h.0, h.1, h.2, omega (arith, l, h.3), h.4)
 
 module _ (N : ℕ) (g : Graph) (legal : (u v : ℕ) → T (fits delay_limit (g u v))) where
-  rising-row : (u v c low : ℕ) (rest : List Arc) → u < N → v + c ≤ N → low ≤ N * u + v → Rising N (N * u + (v + c)) rest → Rising N low (row_arcs g u v c ++ rest)
+  rising_row : (u v c low : ℕ) (rest : List Arc) → u < N → v + c ≤ N → low ≤ N * u + v → Rising N (N * u + (v + c)) rest → Rising N low (row_arcs g u v c ++ rest)
   unfolding row_arcs
-  rising-row u v zero low rest hu hv l h = rising_sooner N (N * u + (v + 0)) low rest (omega arith) h
-  rising-row u v (suc c) low rest hu hv l h = go (g u v) (legal u v) (rising-row u (suc v) c)
+  rising_row u v zero low rest hu hv l h = rising_sooner N (N * u + (v + 0)) low rest (omega arith) h
+  rising_row u v (suc c) low rest hu hv l h = go (g u v) (legal u v) (rising_row u (suc v) c)
     where
       there : Rising N (N * u + (suc v + c)) rest
       there = rising_sooner N (N * u + (v + suc c)) (N * u + (suc v + c)) rest (omega arith) h
@@ -41,15 +41,15 @@ module _ (N : ℕ) (g : Graph) (legal : (u v : ℕ) → T (fits delay_limit (g u
       go absent t ih = ih low rest hu (omega arith) (omega arith) there
       go (at d) t ih = (hu, omega arith, t, l, ih (suc (N * u + v)) rest hu (omega arith) (omega arith) there)
 
-  rising-from : (u c : ℕ) → u + c ≤ N → Rising N (N * u) (arcs_between N g u c)
+  rising_from : (u c : ℕ) → u + c ≤ N → Rising N (N * u) (arcs_between N g u c)
   unfolding arcs_between
-  rising-from u zero l = tt
-  rising-from u (suc c) l =
+  rising_from u zero l = tt
+  rising_from u (suc c) l =
       let e : N * suc u ≡ N * u + N = mul-suc N u in
-      rising-row u 0 N (N * u) (arcs_between N g (suc u) c) (omega arith) (omega arith) (omega arith) (rising_sooner N (N * suc u) (N * u + (0 + N)) (arcs_between N g (suc u) c) (omega arith) (rising-from (suc u) c (omega arith)))
+      rising_row u 0 N (N * u) (arcs_between N g (suc u) c) (omega arith) (omega arith) (omega arith) (rising_sooner N (N * suc u) (N * u + (0 + N)) (arcs_between N g (suc u) c) (omega arith) (rising_from (suc u) c (omega arith)))
 
   pub rising-arcs : Rising N 0 (arcs_of N g)
-  rising-arcs = rising_sooner N (N * 0) 0 (arcs_of N g) (omega arith) (rising-from 0 N (omega arith))
+  rising-arcs = rising_sooner N (N * 0) 0 (arcs_of N g) (omega arith) (rising_from 0 N (omega arith))
 
 -- ---- the graph that arcs make
 
@@ -70,8 +70,8 @@ module _ (N : ℕ) (g : Graph) (w : Within N g) where
   beyond x y h = split (absent_or (g x y)) (λ e. e) (λ t. absurd (h (w.in_range x y t)))
 
   -- one cell more
-  cut-more : (u v : ℕ) (d : Delay) → g u v ≡ d → (x y : ℕ) → cond (eqb x u && eqb y v) d (cut g u v x y) ≡ cut g u (suc v) x y
-  cut-more u v d q x y = go (ℕ_discrete x u) (ℕ_discrete y v)
+  cut_more : (u v : ℕ) (d : Delay) → g u v ≡ d → (x y : ℕ) → cond (eqb x u && eqb y v) d (cut g u v x y) ≡ cut g u (suc v) x y
+  cut_more u v d q x y = go (ℕ_discrete x u) (ℕ_discrete y v)
     where
       later : y ≢ v → ltb y v ≡ ltb y (suc v)
       later ne = cases (ltb y v) (λ e. e ∙ sym (lt-ltb y (suc v) (omega (arith, ltb-true y v e)))) (λ e. e ∙ sym (le-ltb y (suc v) (other (ltb-false y v e) ne)))
@@ -84,8 +84,8 @@ module _ (N : ℕ) (g : Graph) (w : Within N g) where
       go (yes e) (no f) = simp (eq-eqb x u e, ne_eqb y v f, le-ltb x u (omega arith), later f)
       go (no e) f = simp (ne_eqb x u e)
 
-  row-end : (u x y : ℕ) → cut g u N x y ≡ cut g (suc u) 0 x y
-  row-end u x y = go (ℕ_discrete x u)
+  row_end : (u x y : ℕ) → cut g u N x y ≡ cut g (suc u) 0 x y
+  row_end u x y = go (ℕ_discrete x u)
     where
       off : N ≤ y → absent ≡ g x y
       off l = sym (beyond x y (λ h. omega (arith, h.1)))
@@ -105,8 +105,8 @@ module _ (N : ℕ) (g : Graph) (w : Within N g) where
           none true = refl
           none false = refl
 
-  all-cells : (x y : ℕ) → cut g N 0 x y ≡ g x y
-  all-cells x y = cases (ltb x N) (λ k. simp k) (λ k. simp (k, le-ltb y 0 (omega arith)) (none (eqb x N) (sym (beyond x y (λ h. omega (arith, h.0, ltb-false x N k))))))
+  all_cells : (x y : ℕ) → cut g N 0 x y ≡ g x y
+  all_cells x y = cases (ltb x N) (λ k. simp k) (λ k. simp (k, le-ltb y 0 (omega arith)) (none (eqb x N) (sym (beyond x y (λ h. omega (arith, h.0, ltb-false x N k))))))
     where
       none : (b : Bool) → absent ≡ g x y → cond (b && false) (g x y) absent ≡ g x y
       none true e = e
@@ -119,30 +119,30 @@ module _ (N : ℕ) (g : Graph) (w : Within N g) where
       none true = refl
       none false = refl
 
-  place-row : (u v c : ℕ) (rest : List Arc) → place_all (row_arcs g u v c ++ rest) (cut g u v) ≡ place_all rest (cut g u (v + c))
+  place_row : (u v c : ℕ) (rest : List Arc) → place_all (row_arcs g u v c ++ rest) (cut g u v) ≡ place_all rest (cut g u (v + c))
   unfolding row_arcs
-  place-row u v zero rest = let e : v ≡ v + 0 = omega arith in ap (λ (x : ℕ). place_all rest (cut g u x)) e
-  place-row u v (suc c) rest = go (g u v) refl ∙ place-row u (suc v) c rest ∙ ap (λ (x : ℕ). place_all rest (cut g u x)) (let e : suc v + c ≡ v + suc c = omega arith in e)
+  place_row u v zero rest = let e : v ≡ v + 0 = omega arith in ap (λ (x : ℕ). place_all rest (cut g u x)) e
+  place_row u v (suc c) rest = go (g u v) refl ∙ place_row u (suc v) c rest ∙ ap (λ (x : ℕ). place_all rest (cut g u x)) (let e : suc v + c ≡ v + suc c = omega arith in e)
     where
       go : (d : Delay) → g u v ≡ d → place_all (arc_in u v d ++ row_arcs g u (suc v) c ++ rest) (cut g u v) ≡ place_all (row_arcs g u (suc v) c ++ rest) (cut g u (suc v))
-      go absent e = ap (place_all (row_arcs g u (suc v) c ++ rest)) (λ i x y. (keep x y ∙ cut-more u v absent e x y) i)
+      go absent e = ap (place_all (row_arcs g u (suc v) c ++ rest)) (λ i x y. (keep x y ∙ cut_more u v absent e x y) i)
         where
           keep : (x y : ℕ) → cut g u v x y ≡ cond (eqb x u && eqb y v) absent (cut g u v x y)
-          keep x y = at-cell (ℕ_discrete x u) (ℕ_discrete y v)
+          keep x y = at_cell (ℕ_discrete x u) (ℕ_discrete y v)
             where
-              at-cell : Dec (x ≡ u) → Dec (y ≡ v) → cut g u v x y ≡ cond (eqb x u && eqb y v) absent (cut g u v x y)
-              at-cell (yes p) (yes q) = simp (eq-eqb x u p, eq-eqb y v q, le-ltb x u (omega arith), le-ltb y v (omega arith))
-              at-cell (yes p) (no q) = simp (ne_eqb y v q, eq-eqb x u p)
-              at-cell (no p) q = simp (ne_eqb x u p)
-      go (at d) e = ap (place_all (row_arcs g u (suc v) c ++ rest)) (λ i x y. cut-more u v (at d) e x y i)
+              at_cell : Dec (x ≡ u) → Dec (y ≡ v) → cut g u v x y ≡ cond (eqb x u && eqb y v) absent (cut g u v x y)
+              at_cell (yes p) (yes q) = simp (eq-eqb x u p, eq-eqb y v q, le-ltb x u (omega arith), le-ltb y v (omega arith))
+              at_cell (yes p) (no q) = simp (ne_eqb y v q, eq-eqb x u p)
+              at_cell (no p) q = simp (ne_eqb x u p)
+      go (at d) e = ap (place_all (row_arcs g u (suc v) c ++ rest)) (λ i x y. cut_more u v (at d) e x y i)
 
-  place-from : (u c : ℕ) → u + c ≡ N → place_all (arcs_between N g u c) (cut g u 0) ≡ g
+  place_from : (u c : ℕ) → u + c ≡ N → place_all (arcs_between N g u c) (cut g u 0) ≡ g
   unfolding arcs_between
-  place-from u zero l = (λ i x y. cut g ((let e : u ≡ N = omega arith in e) i) 0 x y) ∙ (λ i x y. all-cells x y i)
-  place-from u (suc c) l =
-      place-row u 0 N (arcs_between N g (suc u) c)
-      ∙ ap (place_all (arcs_between N g (suc u) c)) ((λ i x y. cut g u ((let e : 0 + N ≡ N = omega arith in e) i) x y) ∙ (λ i x y. row-end u x y i))
-      ∙ place-from (suc u) c (omega arith)
+  place_from u zero l = (λ i x y. cut g ((let e : u ≡ N = omega arith in e) i) 0 x y) ∙ (λ i x y. all_cells x y i)
+  place_from u (suc c) l =
+      place_row u 0 N (arcs_between N g (suc u) c)
+      ∙ ap (place_all (arcs_between N g (suc u) c)) ((λ i x y. cut g u ((let e : 0 + N ≡ N = omega arith in e) i) x y) ∙ (λ i x y. row_end u x y i))
+      ∙ place_from (suc u) c (omega arith)
 
   pub place_arcs : place_all (arcs_of N g) no_arcs ≡ g
-  place_arcs = ap (place_all (arcs_of N g)) (λ i x y. no_cells x y i) ∙ place-from 0 N (omega arith)
+  place_arcs = ap (place_all (arcs_of N g)) (λ i x y. no_cells x y i) ∙ place_from 0 N (omega arith)

@@ -78,37 +78,37 @@ module _ (m n N : ℕ) (t : List ℤ) (ok : T (passes m n N t)) (l : List ℤ) (
   unfolding file_of
   long = omega (arith, records_long (arcs_of N g), length-append (arc_records (arcs_of N g)) (end_record (length (arcs_of N g))))
 
-  records-good : board_records l N (file_of m n N (graph_of N t)) ≡ got tt
+  records_good : board_records l N (file_of m n N (graph_of N t)) ≡ got tt
   unfolding board_records file_of
-  records-good = records_read N s (length (arcs_of N g)) few l (arcs_of N g) (board_record m n N) 0 0 (length s) refl (rising-arcs N g (sound_fits good.sound)) (omega arith) long
+  records_good = records_read N s (length (arcs_of N g)) few l (arcs_of N g) (board_record m n N) 0 0 (length s) refl (rising-arcs N g (sound_fits good.sound)) (omega arith) long
 
-  graph-good : file_graph l N (file_of m n N (graph_of N t)) ≡ graph_of N t
+  graph_good : file_graph l N (file_of m n N (graph_of N t)) ≡ graph_of N t
   unfolding file_graph file_of
-  graph-good = arcs_read_lem N s (length (arcs_of N g)) few l (file_loads N s) (arcs_of N g) (board_record m n N) 0 (length s) no_arcs refl (rising-arcs N g (sound_fits good.sound)) long ∙ place_arcs N g (sound_within good.sound)
+  graph_good = arcs_read_lem N s (length (arcs_of N g)) few l (file_loads N s) (arcs_of N g) (board_record m n N) 0 (length s) no_arcs refl (rising-arcs N g (sound_fits good.sound)) long ∙ place_arcs N g (sound_within good.sound)
 
-  header-good : header (file_of m n N (graph_of N t)) ≡ got size
+  header_good : header (file_of m n N (graph_of N t)) ≡ got size
   unfolding header file_of mark_at
-  header-good = simp (le-leb 2 (length s) (omega arith), le-leb 5 (length s) (omega arith))
+  header_good = simp (le-leb 2 (length s) (omega arith), le-leb 5 (length s) (omega arith))
 
-  arcs-good : arcs_read l size (file_of m n N (graph_of N t)) ≡ got (graph_of N t)
+  arcs_good : arcs_read l size (file_of m n N (graph_of N t)) ≡ got (graph_of N t)
   unfolding arcs_read passes
-  arcs-good =
+  arcs_good =
       let q = and_e (sizes_fit m n N && table_fits N t && cells_fit N g && no_arc_into_input m N g) (no_cycle N g) ok in
       let r = and_e (sizes_fit m n N && table_fits N t && cells_fit N g) (no_arc_into_input m N g) q.0 in
-      simp (records-good, graph-good, T_true {b = no_arc_into_input m N g} r.1, T_true {b = no_cycle N g} q.1)
+      simp (records_good, graph_good, T_true {b = no_arc_into_input m N g} r.1, T_true {b = no_cycle N g} q.1)
 
   module _ (t' : List ℤ) (k : ℕ) (room : T (table_fits N t')) (scratch : T (scratch_fits N k)) where
-    opened-good : opened l (file_of m n N (graph_of N t)) t' k ≡ got size
+    opened_good : opened l (file_of m n N (graph_of N t)) t' k ≡ got size
     unfolding opened
-    opened-good = simp (T_true {b = library_fits l} lib, header-good, T_true {b = sizes_fit m n N} good.sizes, T_true {b = table_fits N t'} room, T_true {b = scratch_fits N k} scratch)
+    opened_good = simp (T_true {b = library_fits l} lib, header_good, T_true {b = sizes_fit m n N} good.sizes, T_true {b = table_fits N t'} room, T_true {b = scratch_fits N k} scratch)
 
-    read-good : read_call l (file_of m n N (graph_of N t)) t' k ≡ got size
+    read_good : read_call l (file_of m n N (graph_of N t)) t' k ≡ got size
     unfolding read_call
-    read-good = simp (opened-good, arcs-good)
+    read_good = simp (opened_good, arcs_good)
 
-    table-good : table_read l (file_of m n N (graph_of N t)) t' k ≡ with_graph N (graph_of N t) t'
+    table_good : table_read l (file_of m n N (graph_of N t)) t' k ≡ with_graph N (graph_of N t) t'
     unfolding table_read
-    table-good = simp (opened-good, arcs-good)
+    table_good = simp (opened_good, arcs_good)
 
 -- ---- cell by cell
 
@@ -129,8 +129,8 @@ module _ (N : ℕ) (t t' : List ℤ) where
           go (yes l) = l
           go (no n) = let e : N ≡ 0 = omega arith in absurd (omega (arith, h, ap (λ (k : ℕ). k * k) e))
 
-  cell-kept : (x : ℕ) → N * N ≤ x → get_or (with_graph N (graph_of N t) t') x (pos 0) ≡ get_or t' x (pos 0)
-  cell-kept x h =
+  cell_kept : (x : ℕ) → N * N ≤ x → get_or (with_graph N (graph_of N t) t') x (pos 0) ≡ get_or t' x (pos 0)
+  cell_kept x h =
       let e : N * N + (x - N * N) ≡ x = omega arith in
       rw e at (past (x - N * N))
     where
@@ -158,10 +158,10 @@ left_file m n N s t destination w e =
 
 pub round_trip : RoundTrip
 round_trip m n N s t destination w e lib ok t' k room scratch = rw l.file record {
-  answer = read-good m n N t l.ok lib ok t' k fits space;
+  answer = read_good m n N t l.ok lib ok t' k fits space;
   length_kept = ap length table ∙ length-with_graph N (graph_of N t) t' room;
   same = λ x h. ap (λ (y : List ℤ). get_or y x (pos 0)) table ∙ cell_same N t t' x h;
-  kept = λ x h. ap (λ (y : List ℤ). get_or y x (pos 0)) table ∙ cell-kept N t t' x h;
+  kept = λ x h. ap (λ (y : List ℤ). get_or y x (pos 0)) table ∙ cell_kept N t t' x h;
 }
   where
     l : FileLeft m n N t w
@@ -174,4 +174,4 @@ round_trip m n N s t destination w e lib ok t' k room scratch = rw l.file record
     space = le→leb (scratch_cells N) k scratch
 
     table : table_read lib (file_of m n N (graph_of N t)) t' k ≡ with_graph N (graph_of N t) t'
-    table = table-good m n N t l.ok lib ok t' k fits space
+    table = table_good m n N t l.ok lib ok t' k fits space

@@ -22,12 +22,12 @@ pub record Arrivals (g : Graph) (i : ℕ) (F : ℕ → Delay) : Type 0 where
   pub last : (v : ℕ) → v ≢ i → (u : ℕ) × (F v ⊑ F u ⊕ g u v)
 
 module _ {g : Graph} {i : ℕ} {F : ℕ → Delay} (c : Arrivals g i F) where
-  flow-path : (u : ℕ) (xs : List ℕ) (v : ℕ) → F u ⊕ path_delay g u xs v ⊑ F v
-  flow-path u [] v = c.flow u v
-  flow-path u (x ∷ xs) v = rw (← (⊕-assoc (F u) (g u x) (path_delay g x xs v))) (⊑_trans (⊕-right (path_delay g x xs v) (c.flow u x)) (flow-path x xs v))
+  flow_path : (u : ℕ) (xs : List ℕ) (v : ℕ) → F u ⊕ path_delay g u xs v ⊑ F v
+  flow_path u [] v = c.flow u v
+  flow_path u (x ∷ xs) v = rw (← (⊕-assoc (F u) (g u x) (path_delay g x xs v))) (⊑_trans (⊕-right (path_delay g x xs v) (c.flow u x)) (flow_path x xs v))
 
   pub arrivals_bound : (xs : List ℕ) (v : ℕ) → path_delay g i xs v ⊑ F v
-  arrivals_bound xs v = ⊑_trans (⊑-eq (sym (ap (λ (t : Delay). t ⊕ path_delay g i xs v) c.start ∙ immediate-⊕ (path_delay g i xs v)))) (flow-path i xs v)
+  arrivals_bound xs v = ⊑_trans (⊑-eq (sym (ap (λ (t : Delay). t ⊕ path_delay g i xs v) c.start ∙ immediate-⊕ (path_delay g i xs v)))) (flow_path i xs v)
 
   module _ (r : Ranked g) where
     back : (n v : ℕ) → r.rank v < n → v ≢ i → (xs : List ℕ) × (F v ⊑ path_delay g i xs v)

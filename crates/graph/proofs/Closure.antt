@@ -25,9 +25,9 @@ module _ {g L : Graph} (l : Longest g L) where
   pub none_round : Acyclic g → (v : ℕ) → L v v ≡ absent
   none_round a v = (l.reached v v).1 ∙ a.no_loop v (l.reached v v).0
 
-  last-path : (u : ℕ) (xs : List ℕ) (v : ℕ) → (path_delay g u xs v ⊑ g u v) ⊎ ((x : ℕ) × (path_delay g u xs v ⊑ L u x ⊕ g x v))
-  last-path u [] v = inl (⊑_refl (g u v))
-  last-path u (x ∷ xs) v = go (last-path x xs v)
+  last_path : (u : ℕ) (xs : List ℕ) (v : ℕ) → (path_delay g u xs v ⊑ g u v) ⊎ ((x : ℕ) × (path_delay g u xs v ⊑ L u x ⊕ g x v))
+  last_path u [] v = inl (⊑_refl (g u v))
+  last_path u (x ∷ xs) v = go (last_path x xs v)
     where
       go : (path_delay g x xs v ⊑ g x v) ⊎ ((y : ℕ) × (path_delay g x xs v ⊑ L x y ⊕ g y v)) → (g u x ⊕ path_delay g x xs v ⊑ g u v) ⊎ ((y : ℕ) × (g u x ⊕ path_delay g x xs v ⊑ L u y ⊕ g y v))
       go (inl h) = inr (x, ⊕-mono (arc_⊑ u x) h)
@@ -35,7 +35,7 @@ module _ {g L : Graph} (l : Longest g L) where
 
   -- a greatest delay comes by a last arc
   pub last_arc : (u v : ℕ) → (L u v ⊑ g u v) ⊎ ((x : ℕ) × (L u v ⊑ L u x ⊕ g x v))
-  last_arc u v = go (last-path u (l.reached u v).0 v)
+  last_arc u v = go (last_path u (l.reached u v).0 v)
     where
       go : (path_delay g u (l.reached u v).0 v ⊑ g u v) ⊎ ((x : ℕ) × (path_delay g u (l.reached u v).0 v ⊑ L u x ⊕ g x v)) → (L u v ⊑ g u v) ⊎ ((x : ℕ) × (L u v ⊑ L u x ⊕ g x v))
       go (inl h) = inl (⊑_trans (⊑-eq (l.reached u v).1) h)

@@ -49,14 +49,14 @@ longest_ge g (suc k) u v = ⊑_trans (longest_ge g k u v) (⋓-l (longest g k u 
 -- a round keeps what is closed under the vertices below k, and closes it under k, where no path from k to k has a delay above 0
 module _ (D : Graph) (k : ℕ) (loop : D k k ⊑ immediate) where
   -- the round leaves column k and row k as they were: it may be done in place
-  round-col : (u : ℕ) → round D k u k ≡ D u k
-  round-col u = ⊑-antisym (⋓-lub (⊑_refl (D u k)) (⊑_trans (⊕-left (D u k) loop) (⊑-eq (⊕-immediate (D u k))))) (⋓-l (D u k) (D u k ⊕ D k k))
+  round_col : (u : ℕ) → round D k u k ≡ D u k
+  round_col u = ⊑-antisym (⋓-lub (⊑_refl (D u k)) (⊑_trans (⊕-left (D u k) loop) (⊑-eq (⊕-immediate (D u k))))) (⋓-l (D u k) (D u k ⊕ D k k))
 
-  round-row : (v : ℕ) → round D k k v ≡ D k v
-  round-row v = ⊑-antisym (⋓-lub (⊑_refl (D k v)) (⊑_trans (⊕-right (D k v) loop) (⊑-eq (immediate-⊕ (D k v))))) (⋓-l (D k v) (D k k ⊕ D k v))
+  round_row : (v : ℕ) → round D k k v ≡ D k v
+  round_row v = ⊑-antisym (⋓-lub (⊑_refl (D k v)) (⊑_trans (⊕-right (D k v) loop) (⊑-eq (immediate-⊕ (D k v))))) (⋓-l (D k v) (D k k ⊕ D k v))
 
-  round-old : (x : ℕ) → ((u v : ℕ) → D u x ⊕ D x v ⊑ D u v) → (u v : ℕ) → round D k u x ⊕ round D k x v ⊑ round D k u v
-  round-old x c u v =
+  round_old : (x : ℕ) → ((u v : ℕ) → D u x ⊕ D x v ⊑ D u v) → (u v : ℕ) → round D k u x ⊕ round D k x v ⊑ round D k u v
+  round_old x c u v =
       ⋓-elim (λ (t : Delay). t ⊕ round D k x v ⊑ round D k u v) (D u x) (D u k ⊕ D k x)
       (⋓-elim (λ (t : Delay). D u x ⊕ t ⊑ round D k u v) (D x v) (D x k ⊕ D k v)
       (⊑_trans (c u v) (⋓-l (D u v) (D u k ⊕ D k v)))
@@ -69,8 +69,8 @@ module _ (D : Graph) (k : ℕ) (loop : D k k ⊑ immediate) where
       via : D u k ⊕ D k v ⊑ round D k u v
       via = ⋓-r (D u v) (D u k ⊕ D k v)
 
-  round-new : (u v : ℕ) → round D k u k ⊕ round D k k v ⊑ round D k u v
-  round-new u v = rw (round-col u, round-row v) (⋓-r (D u v) (D u k ⊕ D k v))
+  round_new : (u v : ℕ) → round D k u k ⊕ round D k k v ⊑ round D k u v
+  round_new u v = rw (round_col u, round_row v) (⋓-r (D u v) (D u k ⊕ D k v))
 
 longest_low : (g : Graph) → Flat g → (k v : ℕ) → longest g k v v ⊑ immediate
 longest_low g a k v = ⊑_trans (⊑-eq (sym (longest-reached g k v v).1)) (a.low v (longest-reached g k v v).0)
@@ -85,8 +85,8 @@ longest_closed g a (suc k) x h = go (longest_closed g a k) (eq-or-lt_of_le (le_o
 
     go : ((x : ℕ) → x < k → (u v : ℕ) → longest g k u x ⊕ longest g k x v ⊑ longest g k u v) → (x ≡ k) ⊎ (x < k)
         → (u v : ℕ) → round (longest g k) k u x ⊕ round (longest g k) k x v ⊑ round (longest g k) k u v
-    go ih (inl e) = rw e (round-new (longest g k) k none)
-    go ih (inr l) = round-old (longest g k) k none x (ih x l)
+    go ih (inl e) = rw e (round_new (longest g k) k none)
+    go ih (inr l) = round_old (longest g k) k none x (ih x l)
 
 -- on vertices below N, the algorithm finds the greatest delay of all paths
 pub longest-greatest : (N : ℕ) (g : Graph) → Within N g → Flat g → Longest g (longest g N)

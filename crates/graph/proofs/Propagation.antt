@@ -92,8 +92,8 @@ module _ {N : ℕ} {g : Graph} {F G : ℕ → Delay} (w : Within N g) where
           pick (inl e) = ⊑_trans h (none_r (G u) e)
           pick (inr t) = ⊑_trans h (⊑_trans (greatest_ge N (λ u. G u ⊕ g u v) u (w.in_range u v t).0) (⋓-r (F v) (greatest N (λ u. G u ⊕ g u v))))
 
-  equation-settled : ((v : ℕ) → G v ≡ F v ⋓ greatest N (λ u. G u ⊕ g u v)) → Settled g F G
-  equation-settled e = record {
+  equation_settled : ((v : ℕ) → G v ≡ F v ⋓ greatest N (λ u. G u ⊕ g u v)) → Settled g F G
+  equation_settled e = record {
     start = λ v. ⊑_trans (⋓-l (F v) (come v)) (⊑-eq (sym (e v)));
     flow = λ u v. flow u v (absent_or (g u v));
     last = λ v. rw (e v) (⋓-elim (λ (d : Delay). (d ⊑ F v) ⊎ ((u : ℕ) × (d ⊑ G u ⊕ g u v))) (F v) (come v) (inl (⊑_refl (F v))) (last v (greatest_hit N (λ u. G u ⊕ g u v))));
@@ -116,7 +116,7 @@ module _ {N : ℕ} {g : Graph} (w : Within N g) (r : Ranked g) (F : ℕ → Dela
 
   -- the equations at the vertices below N say all
   pub equation_is : (H : ℕ → Delay) → ((v : ℕ) → v < N → H v ≡ F v ⋓ greatest N (λ u. H u ⊕ g u v)) → (v : ℕ) → v < N → H v ≡ propagated N g F v
-  equation_is H e v h = sym (inside v h) ∙ settled_is w r (equation-settled w (λ v. go v (dec_lt v N))) v
+  equation_is H e v h = sym (inside v h) ∙ settled_is w r (equation_settled w (λ v. go v (dec_lt v N))) v
     where
       K : ℕ → Delay
       K v = cond (ltb v N) (H v) (F v)

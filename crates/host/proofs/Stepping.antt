@@ -52,24 +52,24 @@ module _ (m n N s : ℕ) (q : Step) where
   good t g e = let p = then_accepted (checked m n N s t) (plan m n N q) g e in (checked_accepted m n N s t p.0 p.1).good
 
   -- the arcs left are a small number
-  few-left : (t : List ℤ) (x : Reduced) → accepted x ≡ step_call m n N s q t → x.arcs_left ≤ max_vertices * max_vertices
-  few-left t x e =
+  few_left : (t : List ℤ) (x : Reduced) → accepted x ≡ step_call m n N s q t → x.arcs_left ≤ max_vertices * max_vertices
+  few_left t x e =
       let p = then_accepted (planned t) (λ g. accepted (one_step N t g)) x (sym (e ∙ step_of t)) in
       of p.0 (small m n N (good t p.0 p.1).sizes).vertices p.2
     where
       of : (g : Graph) → N ≤ max_vertices → accepted (one_step N t g) ≡ accepted x → x.arcs_left ≤ max_vertices * max_vertices
       of g h k = let same : arcs N g ≡ x.arcs_left = cc in omega (arith, arcs_few N g, mul-le-mul h h)
 
-  answer-same : (t' t : List ℤ) (v : Verdict Graph) → step_answer (left t' v) ≡ step_answer (left t v)
-  answer-same t' t (refused r) = refl
-  answer-same t' t (accepted g) = refl
+  answer_same : (t' t : List ℤ) (v : Verdict Graph) → step_answer (left t' v) ≡ step_answer (left t v)
+  answer_same t' t (refused r) = refl
+  answer_same t' t (accepted g) = refl
 
   module _ (bytes : List ℕ) (are : AreBytes bytes) (t' : List ℤ) (copy : Copy N bytes t') where
     abbrev whole : List ℤ
     whole = cells_of 4 bytes
 
-    call-of : step_call m n N s q t' ≡ left t' (planned whole)
-    call-of = step_of t' ∙ ap (λ (v : Verdict Graph). left t' (v then plan m n N q)) (checked_same m n N s t' whole copy.front copy.long)
+    call_of : step_call m n N s q t' ≡ left t' (planned whole)
+    call_of = step_of t' ∙ ap (λ (v : Verdict Graph). left t' (v then plan m n N q)) (checked_same m n N s t' whole copy.front copy.long)
 
     bytes_same : (v : Verdict Graph) → planned whole ≡ v → table_bytes (left t' v) bytes ≡ table_bytes (left whole v) bytes
     unfolding with_graph
@@ -81,11 +81,11 @@ module _ (m n N s : ℕ) (q : Step) where
         new_cells 4 bytes are (omega arith) (rows N N (λ u v. write_cell absent_cell (g u v))) t' (N * N) (length-rows N (λ u v. write_cell absent_cell (g u v)) N)
         (omega (arith, copy.long, shown_is N N (length whole) h h)) room
 
-    copy-answer : step_answer (step_call m n N s q t') ≡ step_answer (step_call m n N s q whole)
-    copy-answer = ap step_answer call-of ∙ answer-same t' whole (planned whole) ∙ ap step_answer (sym (step_of whole))
+    copy_answer : step_answer (step_call m n N s q t') ≡ step_answer (step_call m n N s q whole)
+    copy_answer = ap step_answer call_of ∙ answer_same t' whole (planned whole) ∙ ap step_answer (sym (step_of whole))
 
-    copy-bytes : table_bytes (step_call m n N s q t') bytes ≡ table_bytes (step_call m n N s q whole) bytes
-    copy-bytes = ap (λ (v : Verdict Reduced). table_bytes v bytes) call-of ∙ bytes_same (planned whole) refl ∙ ap (λ (v : Verdict Reduced). table_bytes v bytes) (sym (step_of whole))
+    copy_bytes : table_bytes (step_call m n N s q t') bytes ≡ table_bytes (step_call m n N s q whole) bytes
+    copy_bytes = ap (λ (v : Verdict Reduced). table_bytes v bytes) call_of ∙ bytes_same (planned whole) refl ∙ ap (λ (v : Verdict Reduced). table_bytes v bytes) (sym (step_of whole))
 
 -- the step over a copy of the cells: it left `after`, and answered r
 pub record Over (m n N s : ℕ) (q : Step) (bytes : List ℕ) (t' after : List ℤ) (r : Answer) : Type 0 where
@@ -101,20 +101,20 @@ module _ {m n N s : ℕ} {q : Step} {bytes : List ℕ} {t' after : List ℤ} {r 
   said : (x : Answer) → r ≡ x → reduced_meaning x after ≡ step_call m n N s q t'
   said x e = ap (λ (y : Answer). reduced_meaning y after) (sym e) ∙ o.call.answer
 
-  said-answer : (x : Answer) → r ≡ x → step_answer (reduced_meaning x after) ≡ step_answer verdict
-  said-answer x e = ap step_answer (said x e) ∙ copy-answer m n N s q bytes o.are t' o.copy
+  said_answer : (x : Answer) → r ≡ x → step_answer (reduced_meaning x after) ≡ step_answer verdict
+  said_answer x e = ap step_answer (said x e) ∙ copy_answer m n N s q bytes o.are t' o.copy
 
-  said-bytes : (x : Answer) → r ≡ x → table_bytes (reduced_meaning x after) bytes ≡ table_bytes verdict bytes
-  said-bytes x e = ap (λ (v : Verdict Reduced). table_bytes v bytes) (said x e) ∙ copy-bytes m n N s q bytes o.are t' o.copy
+  said_bytes : (x : Answer) → r ≡ x → table_bytes (reduced_meaning x after) bytes ≡ table_bytes verdict bytes
+  said_bytes x e = ap (λ (v : Verdict Reduced). table_bytes v bytes) (said x e) ∙ copy_bytes m n N s q bytes o.are t' o.copy
 
   pub arcs_small : (a : ℕ) → r ≡ A.Left a → a ≤ max_vertices * max_vertices
-  arcs_small a e = few-left m n N s q t' _ (said (A.Left a) e)
+  arcs_small a e = few_left m n N s q t' _ (said (A.Left a) e)
 
   pub accepts : (a : ℕ) → r ≡ A.Left a → (put : List ℕ) → put ≡ with_cells 4 after bytes → (pos a ≡ step_answer verdict) × (put ≡ table_bytes verdict bytes)
-  accepts a e put p = (said-answer (A.Left a) e, p ∙ said-bytes (A.Left a) e)
+  accepts a e put p = (said_answer (A.Left a) e, p ∙ said_bytes (A.Left a) e)
 
   pub refuses : (x : Refusal) → r ≡ A.Refused x → (neg_ℤ (pos (number x)) ≡ step_answer verdict) × (bytes ≡ table_bytes verdict bytes)
-  refuses x e = (said-answer (A.Refused x) e, said-bytes (A.Refused x) e)
+  refuses x e = (said_answer (A.Refused x) e, said_bytes (A.Refused x) e)
 
 -- the scratch that is lent on
 pub step_room : (m n N s : ℕ) (q : Step) (t : List ℤ) → step_call m n N (shown N N s) q t ≡ step_call m n N s q t

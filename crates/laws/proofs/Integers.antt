@@ -16,10 +16,10 @@ eq_z→eq a b t =
     omega (zarith, nlt_z→ a b p.0, nlt_z→ b a p.1)
 
 pub eq_z_refl : (a : ℤ) → T (eq_z a a)
-eq_z_refl a = and_i (not (lt_z a a)) (not (lt_z a a)) not-less not-less
+eq_z_refl a = and_i (not (lt_z a a)) (not (lt_z a a)) not_less not_less
   where
-    not-less : T (not (lt_z a a))
-    not-less = not_T (lt_z a a) (λ t. omega (zarith, lt_z→ a a t))
+    not_less : T (not (lt_z a a))
+    not_less = not_T (lt_z a a) (λ t. omega (zarith, lt_z→ a a t))
 
 pub max_sel : (a b : ℤ) → ((a <ℤ b) × (max_z a b ≡ b)) ⊎ ((b ≤ℤ a) × (max_z a b ≡ a))
 unfolding max_z

@@ -21,15 +21,15 @@ module _ {n : ℕ} {g : Graph} {o : List ℕ} (s : TopologicalOrder n g o) where
   place v = first n (λ p. eqb (get_or o p 0) v)
 
   -- the place that a search finds is the rank
-  place-rank : (v : ℕ) → place v < n → s.rank v ≡ place v
-  place-rank v l = subst (λ (x : ℕ). s.rank x ≡ place v) (eqb→eq (get_or o (place v) 0) v (first_holds n (λ p. eqb (get_or o p 0) v) l)) (s.vertex (place v) l).1
+  place_rank : (v : ℕ) → place v < n → s.rank v ≡ place v
+  place_rank v l = subst (λ (x : ℕ). s.rank x ≡ place v) (eqb→eq (get_or o (place v) 0) v (first_holds n (λ p. eqb (get_or o p 0) v) l)) (s.vertex (place v) l).1
 
   place_in : (v : ℕ) → v < n → place v < n
   place_in v l = first_below n (λ p. eqb (get_or o p 0) v) (s.rank v) (s.place v l).0 (eq→eqb (get_or o (s.rank v) 0) v (s.place v l).1)
 
   pub before_rank : (a b : ℕ) → b < n → T (stands_before n o a b) → s.rank a < s.rank b
   unfolding stands_before
-  before_rank a b l t = let k = ltb→lt (place a) (place b) t in omega (arith, k, place_in b l, place-rank a (omega (arith, k, place_in b l)), place-rank b (place_in b l))
+  before_rank a b l t = let k = ltb→lt (place a) (place b) t in omega (arith, k, place_in b l, place_rank a (omega (arith, k, place_in b l)), place_rank b (place_in b l))
 
   pub no_path_back : (a b : ℕ) → b < n → T (stands_before n o a b) → present (longest g n b a) ≡ false
   unfolding order_ranked

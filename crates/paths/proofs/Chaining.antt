@@ -91,23 +91,23 @@ module _ {b : Board} {t : List ℤ} (k : Checked b t) (u : ℕ) (l : u < b.verti
   abbrev n : ℕ
   n = b.vertices
 
-  cell-is : (v : ℕ) → v < n → cell_at (lent n t u k.lent.room l) v ≡ graph_of n t u v
-  cell-is = lent_cell n t u k.lent.room l
+  cell_is : (v : ℕ) → v < n → cell_at (lent n t u k.lent.room l) v ≡ graph_of n t u v
+  cell_is = lent_cell n t u k.lent.room l
 
   first : cell_at (lent n t u k.lent.room l) 0 ≡ absent
-  first = cell-is 0 (omega (arith, k.lent.sized)) ∙ sound_inputs k.sound u 0 k.lent.sized.some_inputs
+  first = cell_is 0 (omega (arith, k.lent.sized)) ∙ sound_inputs k.sound u 0 k.lent.sized.some_inputs
 
   pub chained_all : {c : ℕ → ℕ} → Chain b.vertices (cell_at (lent b.vertices t u k.lent.room l)) c → Chained b.vertices (graph_of b.vertices t) u c
-  chained_all C = chained C first (λ v h. inl (cell-is v h))
+  chained_all C = chained C first (λ v h. inl (cell_is v h))
 
   -- without the arcs that are beaten by way of w
   pub chained_by : {c : ℕ → ℕ} (w : ℕ) (m : w < b.vertices) (d : ℤ) → graph_of b.vertices t u w ≡ at d
       → Chain b.vertices (unbeaten (cell_at (lent b.vertices t u k.lent.room l)) (cell_at (lent b.vertices t w k.lent.room m)) d) c → Chained b.vertices (graph_of b.vertices t) u c
-  chained_by w m d e C = chained C (unbeaten_none row next d 0 first) (λ v h. split (unbeaten-or row next d v) (λ q. inl (q ∙ cell-is v h)) (λ q. inr (
+  chained_by w m d e C = chained C (unbeaten_none row next d 0 first) (λ v h. split (unbeaten-or row next d v) (λ q. inl (q ∙ cell_is v h)) (λ q. inr (
     q.0,
     record {
       via = w;
-      longer = λ j. q.1 (⊑_trans (⊑-eq (ap₂ ◌⊕◌ (sym e) (lent_cell n t w k.lent.room m v h))) (⊑_trans j (⊑-eq (sym (cell-is v h)))));
+      longer = λ j. q.1 (⊑_trans (⊑-eq (ap₂ ◌⊕◌ (sym e) (lent_cell n t w k.lent.room m v h))) (⊑_trans j (⊑-eq (sym (cell_is v h)))));
     },
   )))
     where
@@ -128,11 +128,11 @@ module _ {n : ℕ} {t : List ℤ} {o c₀ c : List ℕ} {w : ℕ} (p : ℕ) (s :
   abbrev u : ℕ
   u = get_or o p 0
 
-  p-in : p < n
-  p-in = omega (arith, R.upto)
+  p_in : p < n
+  p_in = omega (arith, R.upto)
 
   vertex : get_or o p 0 < n
-  vertex = (s.vertex p p-in).0
+  vertex = (s.vertex p p_in).0
 
   abbrev pub part : List ℕ
   part = take (n * get_or o p 0 + n - n * get_or o p 0) (drop (n * get_or o p 0) c)
@@ -163,7 +163,7 @@ module _ {n : ℕ} {t : List ℤ} {o c₀ c : List ℕ} {w : ℕ} (p : ℕ) (s :
 
       go : (q : ℕ) → p ≤ q → q < n → Dec (q ≡ p) → Chained n (graph_of n t) (get_or o q 0) (chain_at n (put_mid (n * u) (n * u + n - n * u) c ys) (get_or o q 0))
       go q h l (yes e) = rw e (chained_same (λ v m. sym (put_in (n * u) (n * u + n) c ys 0 (omega arith) inside sized v (omega arith))) C)
-      go q h l (no ne) = chained_same (others (get_or o q 0) (λ e. ne (sym (s.vertex q l).1 ∙ ap s.rank e ∙ (s.vertex p p-in).1))) (R.done q (omega arith) l)
+      go q h l (no ne) = chained_same (others (get_or o q 0) (λ e. ne (sym (s.vertex q l).1 ∙ ap s.rank e ∙ (s.vertex p p_in).1))) (R.done q (omega arith) l)
 
 -- ---- a pass along a chain that stores at arcs: the cells before v are done, and v is an arc or the end
 pub record Along {A : Type 0} (Q : ℕ → A → Type 0) (d : A) (n : ℕ) (row : ℕ → Delay) (l₀ l : List A) (v : ℕ) : Type 0 where
@@ -198,14 +198,14 @@ module _ {n : ℕ} {t : List ℤ} {c : List ℕ} (C : Chains n t c) (u : ℕ) (r
   pub chain_long : n ≤ length lent_chain
   chain_long = simp (length-take, length-drop) (omega (arith, row_in n u l, C.room))
 
-  cell-lent : (v : ℕ) → v < n → chain_at n c u v ≡ get_or lent_chain v 0
-  cell-lent v m = sym (row_cell c (n * u) (length c - n * u) v 0 (omega (arith, row_in n u l, C.room)))
+  cell_lent : (v : ℕ) → v < n → chain_at n c u v ≡ get_or lent_chain v 0
+  cell_lent v m = sym (row_cell c (n * u) (length c - n * u) v 0 (omega (arith, row_in n u l, C.room)))
 
   pub walked_lent : (v : ℕ) → v < n → walked (chain_at n c u) (graph_of n t u) v ≡ walked_at (lent n t u room l) lent_chain v
-  walked_lent v m = walked_same (graph_of n t u) (cell_at (lent n t u room l)) (chain_at n c u) (λ j. get_or lent_chain j 0) v (sym (lent_cell n t u room l v m)) (cell-lent (v - 1) (omega arith))
+  walked_lent v m = walked_same (graph_of n t u) (cell_at (lent n t u room l)) (chain_at n c u) (λ j. get_or lent_chain j 0) v (sym (lent_cell n t u room l v m)) (cell_lent (v - 1) (omega arith))
 
   pub chain_lent : Chain n (walked_at (lent n t u room l) lent_chain) (λ v. get_or lent_chain v 0)
-  chain_lent = chain_same walked_lent cell-lent (C.row u l).chain
+  chain_lent = chain_same walked_lent cell_lent (C.row u l).chain
 
 -- ---- the graph of the arcs that chains walk
 abbrev pub walked_in : ℕ → List ℤ → List ℕ → Graph

@@ -70,11 +70,11 @@ module _ (m n N s : ℕ) (t : List ℤ) (r : Made) (e : board_meaning r ≡ boar
       pub memory_fits : scratch_cells b.vertices ≤ s → MemoryChecking m n N s t (M.Board b)
       memory_fits h = record {
         answer = sym (same ∙ simp (one b board_sized, le-leb (b.vertices * b.vertices) (length t) two, le-leb (b.vertices * b.vertices) s h));
-        lent = λ x z. subst (λ (y : Board). Lent y t × (scratch_cells y.vertices ≤ s)) (board-is x z) (record { sized = board_sized; room = two }, h);
+        lent = λ x z. subst (λ (y : Board). Lent y t × (scratch_cells y.vertices ≤ s)) (board_is x z) (record { sized = board_sized; room = two }, h);
       }
         where
-          board-is : (x : Board) → M.Board b ≡ M.Board x → b ≡ x
-          board-is x z = cc
+          board_is : (x : Board) → M.Board b ≡ M.Board x → b ≡ x
+          board_is x z = cc
 
 -- ---- 5 and 6
 
@@ -131,14 +131,14 @@ module _ (m n N s : ℕ) (t : List ℤ) (o : List ℕ) (r : Made) (c : MemoryChe
 -- ---- calls: what follows the checks
 
 module _ (m n N s : ℕ) (t : List ℤ) where
-  checks-of : (v : Verdict Graph) (b : Board) → (v then λ _. accepted (sizes m n N)) ≡ accepted b → (g : Graph) × (v ≡ accepted g) × (sizes m n N ≡ b)
-  checks-of v b e = let p = then_accepted v _ b e in (p.0, p.1, same_accepted p.2)
+  checks_of : (v : Verdict Graph) (b : Board) → (v then λ _. accepted (sizes m n N)) ≡ accepted b → (g : Graph) × (v ≡ accepted g) × (sizes m n N ≡ b)
+  checks_of v b e = let p = then_accepted v _ b e in (p.0, p.1, same_accepted p.2)
 
   -- all six passed: the call goes on with the table's graph
   pub call_on : {A : Type 0} (b : Board) (r : Made) → board_meaning r ≡ board_checked m n N s t → r ≡ M.Board b → (f : Graph → Verdict A) → ((checked m n N s t then f) ≡ f (graph_of N t)) × (sizes m n N ≡ b)
   unfolding board_checked
   call_on b r e q f =
-      let p = checks-of (checked m n N s t) b (sym e ∙ ap board_meaning q) in
+      let p = checks_of (checked m n N s t) b (sym e ∙ ap board_meaning q) in
       (ap (λ v. v then f) p.1 ∙ ap f (checked_accepted m n N s t p.0 p.1).graph, p.2)
 
   -- one refused: the call is refused by its number

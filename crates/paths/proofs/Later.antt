@@ -19,20 +19,20 @@ use Rattle.paths.specs.Arrivals.{reached_limit, Reached, Gains}
 
 module _ (a d : ℤ) (r : Reached a) (fd : T (fits delay_limit (read_cell absent_cell d))) where
   module _ (nd : d ≢ absent_cell) where
-    span-a : InSpan reached_limit (at a)
-    span-a = fits_span reached_limit (at a) r.near
+    span_a : InSpan reached_limit (at a)
+    span_a = fits_span reached_limit (at a) r.near
 
-    span-d : InSpan delay_limit (at d)
-    span-d = fits_span delay_limit (at d) (subst (λ (x : Delay). T (fits delay_limit x)) (read_at absent_cell d nd) fd)
+    span_d : InSpan delay_limit (at d)
+    span_d = fits_span delay_limit (at d) (subst (λ (x : Delay). T (fits delay_limit x)) (read_at absent_cell d nd) fd)
 
     pub sum_fits : SFits w64 (a +ℤ d)
-    sum_fits = omega (zneeds, sum a d, span-a, span-d)
+    sum_fits = omega (zneeds, sum a d, span_a, span_d)
 
     here : (a +ℤ d) ≢ absent_wide
-    here e = omega (zarith, sum a d, span-a, span-d)
+    here e = omega (zarith, sum a d, span_a, span_d)
 
     above : (best : ℤ) → (a +ℤ d) ≤ℤ best → best ≢ absent_wide
-    above best l e = omega (zarith, sum a d, span-a, span-d)
+    above best l e = omega (zarith, sum a d, span_a, span_d)
 
     sum_is : read_cell absent_wide a ⊕ read_cell absent_cell d ≡ at (a +ℤ d)
     sum_is = ap₂ ◌⊕◌ (read_at absent_wide a r.there) (read_at absent_cell d nd)

@@ -81,8 +81,8 @@ module _ {b : Board} {t : List ℤ} (k : Checked b t) where
     abbrev R : ℕ → Delay
     R = arrival_in r
 
-    own-span : (v : ℕ) → InSpan inside_limit (mirror (own_time m n R v))
-    own-span v = mirror_span inside_limit (own_time m n R v) (cond_elim (InSpan inside_limit) (leb m v && ltb v (m + n)) (R (v - m)) absent
+    own_span : (v : ℕ) → InSpan inside_limit (mirror (own_time m n R v))
+    own_span v = mirror_span inside_limit (own_time m n R v) (cond_elim (InSpan inside_limit) (leb m v && ltb v (m + n)) (R (v - m)) absent
         (λ e. let p = and_e (leb m v) (ltb v (m + n)) e in given_near given (v - m) (omega (arith, leb→le m v p.0, ltb→lt v (m + n) p.1))) (λ _. tt))
 
     -- what starts at each vertex
@@ -90,10 +90,10 @@ module _ {b : Board} {t : List ℤ} (k : Checked b t) where
     f₁ = stored b.vertices (own_from b r) f
 
     own_read : (v : ℕ) → v < N → arrival_in f₁ v ≡ mirror (own_time m n R v)
-    own_read = read_filled N inside_limit (λ v. mirror (own_time m n R v)) (λ v _. own-span v) (omega arith) f room
+    own_read = read_filled N inside_limit (λ v. mirror (own_time m n R v)) (λ v _. own_span v) (omega arith) f room
 
     pub outputs_started : {o : List ℕ} → Passable b t o → Started b t o f₁
-    outputs_started p = record { passable = p; room = omega (arith, stored-length N (own_from b r) f room); near = λ v h. subst (λ (d : Delay). T (fits inside_limit d)) (sym (own_read v h)) (span_fits inside_limit (mirror (own_time m n R v)) (own-span v)) }
+    outputs_started p = record { passable = p; room = omega (arith, stored-length N (own_from b r) f room); near = λ v h. subst (λ (d : Delay). T (fits inside_limit d)) (sym (own_read v h)) (span_fits inside_limit (mirror (own_time m n R v)) (own_span v)) }
 
     -- what has come back to each
     abbrev back : ℕ → Delay
@@ -102,46 +102,46 @@ module _ {b : Board} {t : List ℤ} (k : Checked b t) where
     back_is : (v : ℕ) → v < N → back v ≡ mirror (required_at m n N g R v)
     back_is = required_propagated k.sound R (arrival_in f₁) own_read
 
-    back-span : (v : ℕ) → v < N → InSpan (inside_limit + N * delay_limit) (back v)
-    back-span v h = subst (InSpan (inside_limit + N * delay_limit)) (sym (back_is v h)) (mirrored_span k.sound R inside_limit (given_near given) v)
+    back_span : (v : ℕ) → v < N → InSpan (inside_limit + N * delay_limit) (back v)
+    back_span v h = subst (InSpan (inside_limit + N * delay_limit)) (sym (back_is v h)) (mirrored_span k.sound R inside_limit (given_near given) v)
 
     pub back_reach : InReach b.vertices (filled b.vertices back f₁)
-    back_reach = filled_reach N (inside_limit + N * delay_limit) back back-span most f₁ (omega (arith, stored-length N (own_from b r) f room))
+    back_reach = filled_reach N (inside_limit + N * delay_limit) back back_span most f₁ (omega (arith, stored-length N (own_from b r) f room))
 
     pub mirrored_back : cells b.vertices (λ v. mirror (arrival_in (filled b.vertices back f₁) v)) ≡ cells b.vertices (required_from b t r)
-    mirrored_back = cells_same N _ (required_from b t r) (λ v h. ap mirror (read_filled N (inside_limit + N * delay_limit) back back-span most f₁ (omega (arith, stored-length N (own_from b r) f room)) v h ∙ back_is v h) ∙ mirror_twice (required_at m n N g R v))
+    mirrored_back = cells_same N _ (required_from b t r) (λ v h. ap mirror (read_filled N (inside_limit + N * delay_limit) back back_span most f₁ (omega (arith, stored-length N (own_from b r) f room)) v h ∙ back_is v h) ∙ mirror_twice (required_at m n N g R v))
 
   -- ---- the three lists
 
-  read-cells : (c : ℕ) (h : ℕ → Delay) → ((v : ℕ) → InSpan c (h v)) → c ≤ reached_limit → (v : ℕ) → v < N → arrival_in (cells N h) v ≡ h v
-  read-cells c h near low v l = ap (read_cell absent_wide) (get_d_tabulate (λ v. write_cell absent_wide (h v)) N v (pos 0) l) ∙ read_held c (omega arith) (h v) (near v)
+  read_cells : (c : ℕ) (h : ℕ → Delay) → ((v : ℕ) → InSpan c (h v)) → c ≤ reached_limit → (v : ℕ) → v < N → arrival_in (cells N h) v ≡ h v
+  read_cells c h near low v l = ap (read_cell absent_wide) (get_d_tabulate (λ v. write_cell absent_wide (h v)) N v (pos 0) l) ∙ read_held c (omega arith) (h v) (near v)
 
-  cells-reach : (c : ℕ) (h : ℕ → Delay) → ((v : ℕ) → InSpan c (h v)) → c ≤ reached_limit → InReach N (cells N h)
-  cells-reach c h near low = record {
+  cells_reach : (c : ℕ) (h : ℕ → Delay) → ((v : ℕ) → InSpan c (h v)) → c ≤ reached_limit → InReach N (cells N h)
+  cells_reach c h near low = record {
     room = omega (arith, length-tabulate (λ v. write_cell absent_wide (h v)) N);
-    near = λ v l. subst (λ (d : Delay). T (fits reached_limit d)) (sym (read-cells c h near low v l)) (span_fits reached_limit (h v) (span_le c reached_limit (h v) low (near v)));
+    near = λ v l. subst (λ (d : Delay). T (fits reached_limit d)) (sym (read_cells c h near low v l)) (span_fits reached_limit (h v) (span_le c reached_limit (h v) low (near v)));
   }
 
   module _ (a r : List ℤ) (ga : Given b.inputs a) (gr : Given b.outputs r) where
     abbrev c : ℕ
     c = inside_limit + N * delay_limit
 
-    arrivals-near : (v : ℕ) → InSpan c (arrivals_from b t a v)
-    arrivals-near = arrival_span k.sound (arrival_in a) inside_limit (given_near ga)
+    arrivals_near : (v : ℕ) → InSpan c (arrivals_from b t a v)
+    arrivals_near = arrival_span k.sound (arrival_in a) inside_limit (given_near ga)
 
-    required-near : (v : ℕ) → InSpan c (required_from b t r v)
-    required-near = required_span k.sound (arrival_in r) inside_limit (given_near gr)
+    required_near : (v : ℕ) → InSpan c (required_from b t r v)
+    required_near = required_span k.sound (arrival_in r) inside_limit (given_near gr)
 
     pub arrivals_reach : InReach b.vertices (cells b.vertices (arrivals_from b t a))
-    arrivals_reach = cells-reach c (arrivals_from b t a) arrivals-near most
+    arrivals_reach = cells_reach c (arrivals_from b t a) arrivals_near most
 
     pub required_reach : InReach b.vertices (cells b.vertices (required_from b t r))
-    required_reach = cells-reach c (required_from b t r) required-near most
+    required_reach = cells_reach c (required_from b t r) required_near most
 
     pub margins_are : cells b.vertices (λ v. arrival_in (cells b.vertices (required_from b t r)) v ⊖ arrival_in (cells b.vertices (arrivals_from b t a)) v)
         ≡ cells b.vertices (margin_at b.inputs b.outputs b.vertices (graph_of b.vertices t) (arrival_in a) (arrival_in r))
     unfolding margin_at
-    margins_are = cells_same N _ (λ v. required_from b t r v ⊖ arrivals_from b t a v) (λ v l. ap₂ ◌⊖◌ (read-cells c (required_from b t r) required-near most v l) (read-cells c (arrivals_from b t a) arrivals-near most v l))
+    margins_are = cells_same N _ (λ v. required_from b t r v ⊖ arrivals_from b t a v) (λ v l. ap₂ ◌⊖◌ (read_cells c (required_from b t r) required_near most v l) (read_cells c (arrivals_from b t a) arrivals_near most v l))
 
 -- ---- the answer
 

@@ -86,23 +86,23 @@ module _ {b : Board} {t : List ℤ} {o c : List ℕ} {f₀ : List ℤ} (R : Star
   rise : (u v : ℕ) → T (present (graph_of n t u v)) → rank u < rank v
   rise = R.passable.order.rise
 
-  rise-walked : (u v : ℕ) → T (present (k u v)) → rank u < rank v
-  rise-walked u v h = rise u v (present-⊑ (walked_in_⊑ n t c u v) h)
+  rise_walked : (u v : ℕ) → T (present (k u v)) → rank u < rank v
+  rise_walked u v h = rise u v (present-⊑ (walked_in_⊑ n t c u v) h)
 
-  ranked-back : Ranked (reversed (graph_of n t))
-  ranked-back = ranked_reversed (record { rank = rank; rise = rise }) n (λ u v h. omega (arith, low v ((graph_of_within n t).in_range u v h).1))
+  ranked_back : Ranked (reversed (graph_of n t))
+  ranked_back = ranked_reversed (record { rank = rank; rise = rise }) n (λ u v h. omega (arith, low v ((graph_of_within n t).in_range u v h).1))
 
-  ranked-walked : Ranked (reversed k)
-  ranked-walked = ranked_reversed (record { rank = rank; rise = rise-walked }) n (λ u v h. omega (arith, low v ((walked_in_within n t c).in_range u v h).1))
+  ranked_walked : Ranked (reversed k)
+  ranked_walked = ranked_reversed (record { rank = rank; rise = rise_walked }) n (λ u v h. omega (arith, low v ((walked_in_within n t c).in_range u v h).1))
 
-  beaten-back : (u v : ℕ) → (k v u ≡ graph_of n t v u) ⊎ Beaten (graph_of n t) v u → (reversed k u v ≡ reversed (graph_of n t) u v) ⊎ Beaten (reversed (graph_of n t)) u v
-  beaten-back u v (inl e) = inl e
-  beaten-back u v (inr B) = inr (record { via = B.via; longer = λ h. B.longer (⊑_trans (⊑-eq (⊕-comm (graph_of n t v B.via) (graph_of n t B.via u))) h) })
+  beaten_back : (u v : ℕ) → (k v u ≡ graph_of n t v u) ⊎ Beaten (graph_of n t) v u → (reversed k u v ≡ reversed (graph_of n t) u v) ⊎ Beaten (reversed (graph_of n t)) u v
+  beaten_back u v (inl e) = inl e
+  beaten_back u v (inr B) = inr (record { via = B.via; longer = λ h. B.longer (⊑_trans (⊑-eq (⊕-comm (graph_of n t v B.via) (graph_of n t B.via u))) h) })
 
   -- signals that settle on the walked arcs, backwards, settle on all of them
   walked_all : (v : ℕ) → propagated n (reversed k) F v ≡ propagated n (reversed (graph_of n t)) F v
-  walked_all = settled_is (within_reversed (graph_of_within n t)) ranked-back
-      (settled_with ranked-back (λ u v. walked_in_⊑ n t c v u) (λ u v. beaten-back u v (walked_in_or C v u)) (propagated-settled (within_reversed (walked_in_within n t c)) (ranked_acyclic ranked-walked) F))
+  walked_all = settled_is (within_reversed (graph_of_within n t)) ranked_back
+      (settled_with ranked_back (λ u v. walked_in_⊑ n t c v u) (λ u v. beaten_back u v (walked_in_or C v u)) (propagated-settled (within_reversed (walked_in_within n t c)) (ranked_acyclic ranked_walked) F))
 
   pub pulling_start : Pulling b.vertices t o c f₀ f₀ b.vertices
   pulling_start = record {
@@ -118,11 +118,11 @@ module _ {b : Board} {t : List ℤ} {o c : List ℕ} {f₀ : List ℤ} (R : Star
     abbrev x : ℕ
     x = get_or o p 0
 
-    p-in : p < n
-    p-in = omega (arith, G.upto)
+    p_in : p < n
+    p_in = omega (arith, G.upto)
 
     pub x_in : get_or o p 0 < b.vertices
-    x_in = (R.passable.order.vertex p p-in).0
+    x_in = (R.passable.order.vertex p p_in).0
 
     pub in_reach : InReach b.vertices f
     in_reach = record {
@@ -144,7 +144,7 @@ module _ {b : Board} {t : List ℤ} {o c : List ℕ} {f₀ : List ℤ} (R : Star
       at_place q l = (R.passable.order.vertex q l).1
 
       apart : (q : ℕ) → q < n → q ≢ p → get_or o q 0 ≢ x
-      apart q l ne e = ne (sym (at_place q l) ∙ ap rank e ∙ at_place p p-in)
+      apart q l ne e = ne (sym (at_place q l) ∙ ap rank e ∙ at_place p p_in)
 
       -- an arc from a vertex that has pulled, or pulls now, does not lead to x
       onward : (q : ℕ) → p ≤ q → q < n → (u : ℕ) → arrival_in f' u ⊕ k (get_or o q 0) u ≡ arrival_in f u ⊕ k (get_or o q 0) u
@@ -152,20 +152,20 @@ module _ {b : Board} {t : List ℤ} {o c : List ℕ} {f₀ : List ℤ} (R : Star
         where
           go : (k (get_or o q 0) u ≡ absent) ⊎ T (present (k (get_or o q 0) u)) → arrival_in f' u ⊕ k (get_or o q 0) u ≡ arrival_in f u ⊕ k (get_or o q 0) u
           go (inl e) = rw (e, ⊕-absent (arrival_in f' u), ⊕-absent (arrival_in f u))
-          go (inr t) = ap (λ (d : Delay). d ⊕ k (get_or o q 0) u) (other u (λ e. omega (arith, rise-walked (get_or o q 0) u t, at_place q l, at_place p p-in, ap rank e)))
+          go (inr t) = ap (λ (d : Delay). d ⊕ k (get_or o q 0) u) (other u (λ e. omega (arith, rise_walked (get_or o q 0) u t, at_place q l, at_place p p_in, ap rank e)))
 
       new : read_cell absent_wide r ≡ F x ⋓ greatest n (λ u. arrival_in f u ⊕ k x u)
       new = q ∙ ap₂ ◌⋓◌ (ap (read_cell absent_wide) (G.left p (omega arith))) (greatest_ext n _ (λ u. arrival_in f u ⊕ k x u) (λ u l. ap (λ (d : Delay). arrival_in f u ⊕ d) (sym (walked_lent C x R.passable.checked.lent.room x_in u l))))
 
-      new-span : InSpan (inside_limit + (n - p) * delay_limit) (read_cell absent_wide r)
-      new-span = subst (InSpan (inside_limit + (n - p) * delay_limit)) (sym new) (⋓-elim (InSpan (inside_limit + (n - p) * delay_limit)) (F x) (greatest n (λ u. arrival_in f u ⊕ k x u))
+      new_span : InSpan (inside_limit + (n - p) * delay_limit) (read_cell absent_wide r)
+      new_span = subst (InSpan (inside_limit + (n - p) * delay_limit)) (sym new) (⋓-elim (InSpan (inside_limit + (n - p) * delay_limit)) (F x) (greatest n (λ u. arrival_in f u ⊕ k x u))
           (span_le inside_limit (inside_limit + (n - p) * delay_limit) (F x) (omega arith) (fits_span inside_limit (F x) (R.near x x_in)))
           (go (greatest_hit n (λ u. arrival_in f u ⊕ k x u))))
         where
           go : (greatest n (λ u. arrival_in f u ⊕ k x u) ≡ absent) ⊎ ((u : ℕ) × (u < n) × (greatest n (λ u. arrival_in f u ⊕ k x u) ≡ arrival_in f u ⊕ k x u)) → InSpan (inside_limit + (n - p) * delay_limit) (greatest n (λ u. arrival_in f u ⊕ k x u))
           go (inl e) = subst (InSpan (inside_limit + (n - p) * delay_limit)) (sym e) tt
           go (inr (u, l, e)) =
-              let w : n - p ≡ n - (p + 1) + 1 = omega (arith, p-in) in
+              let w : n - p ≡ n - (p + 1) + 1 = omega (arith, p_in) in
               subst (InSpan (inside_limit + (n - p) * delay_limit)) (sym e) (span_le (inside_limit + (n - (p + 1)) * delay_limit + delay_limit) (inside_limit + (n - p) * delay_limit) (arrival_in f u ⊕ k x u) (omega arith)
               (span_⊕ (inside_limit + (n - (p + 1)) * delay_limit) delay_limit (arrival_in f u) (k x u) (G.span u l) (walked_span delay_limit (chain_at n c x) (graph_of n t x) u (fits_span delay_limit (graph_of n t x u) (sound_fits R.passable.checked.sound x u)))))
 
@@ -174,28 +174,28 @@ module _ {b : Board} {t : List ℤ} {o c : List ℕ} {f₀ : List ℤ} (R : Star
         upto = omega (arith, G.upto);
         size = length-set f x r ∙ G.size;
         done = λ q h l. done q h l (ℕ_discrete q p);
-        left = λ q l. get_or-set_other f x (get_or o q 0) r (pos 0) (apart q (omega (arith, p-in)) (λ e. omega arith)) ∙ G.left q (omega arith);
+        left = λ q l. get_or-set_other f x (get_or o q 0) r (pos 0) (apart q (omega (arith, p_in)) (λ e. omega arith)) ∙ G.left q (omega arith);
         rest = λ v h. get_or-set_other f x v r (pos 0) (λ e. omega (arith, x_in)) ∙ G.rest v h;
         span = λ v h. span v h (ℕ_discrete v x);
       }
         where
           wider : inside_limit + (n - (p + 1)) * delay_limit ≤ inside_limit + (n - p) * delay_limit
-          wider = let w : n - p ≡ n - (p + 1) + 1 = omega (arith, p-in) in omega arith
+          wider = let w : n - p ≡ n - (p + 1) + 1 = omega (arith, p_in) in omega arith
 
           done : (q : ℕ) → p ≤ q → q < n → Dec (q ≡ p) → arrival_in f' (get_or o q 0) ≡ F (get_or o q 0) ⋓ greatest n (λ u. arrival_in f' u ⊕ k (get_or o q 0) u)
           done q h l (yes e) = subst (λ (z : ℕ). arrival_in f' (get_or o z 0) ≡ F (get_or o z 0) ⋓ greatest n (λ u. arrival_in f' u ⊕ k (get_or o z 0) u)) (sym e)
-              (here ∙ new ∙ ap (λ (d : Delay). F x ⋓ d) (greatest_ext n (λ u. arrival_in f u ⊕ k x u) (λ u. arrival_in f' u ⊕ k x u) (λ u _. sym (onward p (omega arith) p-in u))))
+              (here ∙ new ∙ ap (λ (d : Delay). F x ⋓ d) (greatest_ext n (λ u. arrival_in f u ⊕ k x u) (λ u. arrival_in f' u ⊕ k x u) (λ u _. sym (onward p (omega arith) p_in u))))
           done q h l (no ne) =
               other (get_or o q 0) (apart q l ne) ∙ G.done q (omega arith) l
               ∙ ap (λ (d : Delay). F (get_or o q 0) ⋓ d) (greatest_ext n (λ u. arrival_in f u ⊕ k (get_or o q 0) u) (λ u. arrival_in f' u ⊕ k (get_or o q 0) u) (λ u _. sym (onward q h l u)))
 
           span : (v : ℕ) → v < n → Dec (v ≡ x) → InSpan (inside_limit + (n - p) * delay_limit) (arrival_in f' v)
-          span v h (yes e) = subst (λ (z : ℕ). InSpan (inside_limit + (n - p) * delay_limit) (arrival_in f' z)) (sym e) (subst (InSpan (inside_limit + (n - p) * delay_limit)) (sym here) new-span)
+          span v h (yes e) = subst (λ (z : ℕ). InSpan (inside_limit + (n - p) * delay_limit) (arrival_in f' z)) (sym e) (subst (InSpan (inside_limit + (n - p) * delay_limit)) (sym here) new_span)
           span v h (no ne) = subst (InSpan (inside_limit + (n - p) * delay_limit)) (sym (other v ne)) (span_le (inside_limit + (n - (p + 1)) * delay_limit) (inside_limit + (n - p) * delay_limit) (arrival_in f v) wider (G.span v h))
 
   pub pulled_all : (f : List ℤ) → Pulling b.vertices t o c f₀ f 0 → f ≡ filled b.vertices (propagated b.vertices (reversed (graph_of b.vertices t)) (arrival_in f₀)) f₀
   pulled_all f G = filled_is n (propagated n (reversed (graph_of n t)) F) f₀ f R.room G.size
-      (λ v h. equation_is (within_reversed (walked_in_within n t c)) ranked-walked F (arrival_in f) each v h ∙ walked_all v) G.rest
+      (λ v h. equation_is (within_reversed (walked_in_within n t c)) ranked_walked F (arrival_in f) each v h ∙ walked_all v) G.rest
     where
       each : (v : ℕ) → v < n → arrival_in f v ≡ F v ⋓ greatest n (λ u. arrival_in f u ⊕ k v u)
       each v h = subst (λ (z : ℕ). arrival_in f z ≡ F z ⋓ greatest n (λ u. arrival_in f u ⊕ k z u)) (R.passable.order.place v h).1 (G.done (rank v) (omega arith) (low v h))

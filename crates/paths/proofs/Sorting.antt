@@ -123,35 +123,35 @@ module _ {n : ℕ} {g : Graph} {o f : List ℕ} {p : ℕ} (w : Within n g) (G : 
         go (yes h) = absurd (omega (arith, G.fan u l, one_in n (G.rank u) h))
         go (no h) = omega arith
 
-    waits-none : waits n g G.rank u ≡ 0
+    waits_none : waits n g G.rank u ≡ 0
     unfolding fan_of
-    waits-none = omega (arith, G.fan u l)
+    waits_none = omega (arith, G.fan u l)
 
     abbrev next : ℕ → ℕ
     next = update G.rank u p
 
-    waits-next : (v : ℕ) → waits n g next v + bit (g u v) ≡ waits n g G.rank v
+    waits_next : (v : ℕ) → waits n g next v + bit (g u v) ≡ waits n g G.rank v
     unfolding waits
-    waits-next v =
+    waits_next v =
         let e = sum_change n (λ x. wait n (next x) (g x v)) (λ x. wait n (G.rank x) (g x v)) u l (λ i ne. ap (λ (r : ℕ). wait n r (g i v)) (update_other G.rank u p i ne)) in
         omega (arith, e, wait_out n (G.rank u) (g u v) new, ap (λ (r : ℕ). wait n r (g u v)) (update_same G.rank u p), wait_in n p (g u v) p-in)
 
-    waits-few : (v : ℕ) → waits n g G.rank v ≤ n
+    waits_few : (v : ℕ) → waits n g G.rank v ≤ n
     unfolding waits
-    waits-few v = sum_bound n (λ x. wait n (G.rank x) (g x v)) (λ x. wait_le n (G.rank x) (g x v))
+    waits_few v = sum_bound n (λ x. wait n (G.rank x) (g x v)) (λ x. wait_le n (G.rank x) (g x v))
 
     -- no count is lowered below 0
     pub covers : (v : ℕ) → v < n → bit (g u v) ≤ get_or f v 0
     unfolding fan_of
-    covers v k = omega (arith, G.fan v k, waits-next v)
+    covers v k = omega (arith, G.fan v k, waits_next v)
 
     before : (x : ℕ) → T (present (g x u)) → (x ≢ u) × (G.rank x < p)
     unfolding waits
-    before x t = (λ e. omega (arith, waits-next u, waits-none, bit-present (g u u) (subst (λ (y : ℕ). T (present (g y u))) e t)), (G.place x (placed (dec_lt (G.rank x) n))).0)
+    before x t = (λ e. omega (arith, waits_next u, waits_none, bit-present (g u u) (subst (λ (y : ℕ). T (present (g y u))) e t)), (G.place x (placed (dec_lt (G.rank x) n))).0)
       where
         placed : Dec (G.rank x < n) → G.rank x < n
         placed (yes h) = h
-        placed (no h) = absurd (omega (arith, sum_pick n (λ y. wait n (G.rank y) (g y u)) x (w.in_range x u t).0, waits-none, wait_out n (G.rank x) (g x u) (omega arith), bit-present (g x u) t))
+        placed (no h) = absurd (omega (arith, sum_pick n (λ y. wait n (G.rank y) (g y u)) x (w.in_range x u t).0, waits_none, wait_out n (G.rank x) (g x u) (omega arith), bit-present (g x u) t))
 
     pub going_step : (h : List ℕ) → ((v : ℕ) → v < n → v ≢ u → get_or h v 0 + bit (g u v) ≡ get_or f v 0) → get_or h u 0 ≡ 100 → Going n g (set o p u) h (suc p)
     unfolding fan_of
@@ -174,8 +174,8 @@ module _ {n : ℕ} {g : Graph} {o f : List ℕ} {p : ℕ} (w : Within n g) (G : 
     }
       where
         fan' : (v : ℕ) → v < n → Dec (v ≡ u) → get_or h v 0 ≡ fan_of n g next v
-        fan' v k (yes e) = rw e (omega (arith, mark, waits-next u, waits-none, ap (one n) (update_same G.rank u p), one_in n p p-in))
-        fan' v k (no ne) = omega (arith, low v k ne, G.fan v k, waits-next v, ap (one n) (update_other G.rank u p v ne))
+        fan' v k (yes e) = rw e (omega (arith, mark, waits_next u, waits_none, ap (one n) (update_same G.rank u p), one_in n p p-in))
+        fan' v k (no ne) = omega (arith, low v k ne, G.fan v k, waits_next v, ap (one n) (update_other G.rank u p v ne))
 
         place' : (v : ℕ) → next v < n → Dec (v ≡ u) → (next v < suc p) × (get_or (set o p u) (next v) 0 ≡ v)
         place' v k (yes e) = rw (e, update_same G.rank u p) (omega arith, get_or-set_same o p u 0 (omega (arith, G.long)))
@@ -205,8 +205,8 @@ module _ {n : ℕ} {g : Graph} {o f : List ℕ} {p : ℕ} (w : Within n g) (G : 
       where
         go : Dec (v ≡ u) → Dec (G.rank v < n) → 100 ≤ get_or h v 0
         go (yes e) _ = rw e (omega (arith, mark))
-        go (no ne) (yes r) = omega (arith, low v k ne, G.fan v k, waits-next v, one_in n (G.rank v) r)
-        go (no ne) (no r) = absurd (omega (arith, G.fan v k, one_out n (G.rank v) (omega arith), waits-few v))
+        go (no ne) (yes r) = omega (arith, low v k ne, G.fan v k, waits_next v, one_in n (G.rank v) r)
+        go (no ne) (no r) = absurd (omega (arith, G.fan v k, one_out n (G.rank v) (omega arith), waits_few v))
 
   -- all are placed
   pub going_all : p ≡ n → TopologicalOrder n g o

@@ -95,9 +95,9 @@ module _ {b : Board} {t : List ℤ} {o : List ℕ} (p : Passable b t o) where
     m≤n : m ≤ n
     m≤n = omega (arith, p.checked.sound.room)
 
-    at-input : (v : ℕ) → v < m → F v ≡ arrival_in a v
+    at_input : (v : ℕ) → v < m → F v ≡ arrival_in a v
     unfolding F
-    at-input v h = ap (read_cell absent_wide) (stored_cell n (from_list a) f v (omega (arith, m≤n)) ∙ ap (λ (c : Bool). cond c (get_or a v (pos 0)) absent_wide) (lt-ltb v (length a) (omega (arith, given.long))))
+    at_input v h = ap (read_cell absent_wide) (stored_cell n (from_list a) f v (omega (arith, m≤n)) ∙ ap (λ (c : Bool). cond c (get_or a v (pos 0)) absent_wide) (lt-ltb v (length a) (omega (arith, given.long))))
 
     at_other : (v : ℕ) → m ≤ v → v < n → F v ≡ absent
     unfolding F
@@ -110,10 +110,10 @@ module _ {b : Board} {t : List ℤ} {o : List ℕ} (p : Passable b t o) where
     inputs_started = record { passable = p; room = omega (arith, stored-length n (from_list a) f room); near = λ v h. go v h (dec_lt v m) }
       where
         go : (v : ℕ) → v < n → Dec (v < m) → T (fits inside_limit (arrival_in (stored n (from_list a) f) v))
-        go v h (yes q) = subst (λ (d : Delay). T (fits inside_limit d)) (sym (at-input v q)) (given.near v q)
+        go v h (yes q) = subst (λ (d : Delay). T (fits inside_limit d)) (sym (at_input v q)) (given.near v q)
         go v h (no q) = fits_absent inside_limit (at_other v (omega arith) h)
 
     pub inputs_propagated : filled b.vertices (propagated b.vertices (graph_of b.vertices t) (arrival_in (stored b.vertices (from_list a) f))) (stored b.vertices (from_list a) f)
         ≡ filled b.vertices (arrival_at b.inputs b.vertices (graph_of b.vertices t) (arrival_in a)) f
     unfolding F
-    inputs_propagated = filled_over n (propagated n g (arrival_in (stored n (from_list a) f))) (arrival_at m n g (arrival_in a)) (from_list a) f (arrival_propagated p.checked.sound (arrival_in a) (arrival_in (stored n (from_list a) f)) at-input at_other)
+    inputs_propagated = filled_over n (propagated n g (arrival_in (stored n (from_list a) f))) (arrival_at m n g (arrival_in a)) (from_list a) f (arrival_propagated p.checked.sound (arrival_in a) (arrival_in (stored n (from_list a) f)) at_input at_other)

@@ -1,4 +1,4 @@
--- The common difference, found place by place: what the places seen so far say, and that it is `commonDifference` in the end.
+-- The common difference, found place by place: what the places seen so far say, and that it is `common_difference` in the end.
 use mathlib.Core.Path.{◌≡◌, refl, sym, ap, ◌∙◌, subst}
 use mathlib.Core.Bool.{Bool, ◌&&◌}
 use Prim.Native.Nat.{ℕ, zero, suc, ◌+◌, ◌≤◌, ◌<◌}
@@ -78,16 +78,16 @@ module _ (a b : ℕ → Delay) where
       let z : ticks (b k) ≡ ticks (a k) +ℤ e = ap ticks y in
       omega (zarith, dif (ticks (b k)) (ticks (a k)), sum (ticks (a k)) e)
 
-  says-step : (n : ℕ) (s : Seen) (x y : Delay) → a n ≡ x → b n ≡ y → Says s n → Says (compared s x y) (suc n)
-  says-step n Nothing absent absent p q h = below_suc (λ j. (a j ≡ absent) × (b j ≡ absent)) n h (p, q)
-  says-step n (One e) absent absent p q h = ((h.0.0, omega (arith, h.0.1), h.0.2), below_suc (λ j. b j ≡ a j ⊕ at e) n h.1 (q ∙ sym (ap (λ (d : Delay). d ⊕ at e) p)))
-  says-step n Clash absent absent p q h = λ e sh. h e (λ j l. sh j (omega arith))
-  says-step n s absent (at y) p q h = λ e sh. not-present (at y) (sym q ∙ sh n (omega arith) ∙ ap (λ (d : Delay). d ⊕ at e) p) tt
-  says-step n s (at x) absent p q h = λ e sh. not-present (at (x +ℤ e)) (sym (ap (λ (d : Delay). d ⊕ at e) p) ∙ sym (sh n (omega arith)) ∙ q) tt
-  says-step n Nothing (at x) (at y) p q h =
+  says_step : (n : ℕ) (s : Seen) (x y : Delay) → a n ≡ x → b n ≡ y → Says s n → Says (compared s x y) (suc n)
+  says_step n Nothing absent absent p q h = below_suc (λ j. (a j ≡ absent) × (b j ≡ absent)) n h (p, q)
+  says_step n (One e) absent absent p q h = ((h.0.0, omega (arith, h.0.1), h.0.2), below_suc (λ j. b j ≡ a j ⊕ at e) n h.1 (q ∙ sym (ap (λ (d : Delay). d ⊕ at e) p)))
+  says_step n Clash absent absent p q h = λ e sh. h e (λ j l. sh j (omega arith))
+  says_step n s absent (at y) p q h = λ e sh. not-present (at y) (sym q ∙ sh n (omega arith) ∙ ap (λ (d : Delay). d ⊕ at e) p) tt
+  says_step n s (at x) absent p q h = λ e sh. not-present (at (x +ℤ e)) (sym (ap (λ (d : Delay). d ⊕ at e) p) ∙ sym (sh n (omega arith)) ∙ q) tt
+  says_step n Nothing (at x) (at y) p q h =
       ((n, omega arith, at_present p), below_suc (λ j. b j ≡ a j ⊕ at (y -ℤ x)) n (λ j l. (h j l).1 ∙ sym (ap (λ (d : Delay). d ⊕ at (y -ℤ x)) (h j l).0)) (q ∙ shift x y (y -ℤ x) refl ∙ sym (ap (λ (d : Delay). d ⊕ at (y -ℤ x)) p)))
-  says-step n Clash (at x) (at y) p q h = λ e sh. h e (λ j l. sh j (omega arith))
-  says-step n (One e) (at x) (at y) p q h = cond_elim (λ (s : Seen). Says s (suc n)) (eq_z (y -ℤ x) e) (One e) Clash
+  says_step n Clash (at x) (at y) p q h = λ e sh. h e (λ j l. sh j (omega arith))
+  says_step n (One e) (at x) (at y) p q h = cond_elim (λ (s : Seen). Says s (suc n)) (eq_z (y -ℤ x) e) (One e) Clash
       (λ t. ((h.0.0, omega (arith, h.0.1), h.0.2), below_suc (λ j. b j ≡ a j ⊕ at e) n h.1 (q ∙ shift x y e (eq_z→eq (y -ℤ x) e t) ∙ sym (ap (λ (d : Delay). d ⊕ at e) p))))
       (λ t f sh. T_not (eq_z (y -ℤ x) e) t (subst (λ (z : ℤ). T (eq_z (y -ℤ x) z)) (other f sh) (eq_z_refl (y -ℤ x))))
     where
@@ -99,7 +99,7 @@ module _ (a b : ℕ → Delay) where
   says : (n : ℕ) → Says (seen n a b) n
   unfolding seen
   says zero = λ j l. absurd (not-suc-le-zero l)
-  says (suc n) = says-step n (seen n a b) (a n) (b n) refl refl (says n)
+  says (suc n) = says_step n (seen n a b) (a n) (b n) refl refl (says n)
 
   module _ (n : ℕ) where
     abbrev f : ℕ
@@ -111,23 +111,23 @@ module _ (a b : ℕ → Delay) where
     abbrev same : ℕ → Bool
     same j = eq_d (b j) (a j ⊕ at fd)
 
-    not-common : (f < n → Shifted n fd → ⊥) → refused 11 ≡ common_difference n a b
+    not_common : (f < n → Shifted n fd → ⊥) → refused 11 ≡ common_difference n a b
     unfolding common_difference
-    not-common h = sym (ap (λ (c : Bool). require c NoCommonDifference (accepted fd)) (is_false (ltb f n && every n same) (λ t.
+    not_common h = sym (ap (λ (c : Bool). require c NoCommonDifference (accepted fd)) (is_false (ltb f n && every n same) (λ t.
         let p = and_e (ltb f n) (every n same) t in
         h (ltb→lt f n p.0) (λ j l. eq_d→eq (b j) (a j ⊕ at fd) (every_at n same p.1 j l)))))
 
-    is-common : (e : ℤ) → f < n → Shifted n e → accepted e ≡ common_difference n a b
+    is_common : (e : ℤ) → f < n → Shifted n e → accepted e ≡ common_difference n a b
     unfolding common_difference
-    is-common e l sh =
+    is_common e l sh =
         let q : fd ≡ e = joined_at {k = f} {e = e} (first_holds n (λ j. present (a j)) l) (sh f l) in
         sym (ap (λ (c : Bool). require c NoCommonDifference (accepted fd)) (is_true (ltb f n && every n same)
         (and_i (ltb f n) (every n same) (lt→ltb f n l) (every_all n same (λ j k. eq→eq_d (b j) (a j ⊕ at fd) (sh j k ∙ ap (λ (z : ℤ). a j ⊕ at z) (sym q)))))) ∙ ap accepted q)
 
     settles : (s : Seen) → Says s n → difference_meaning (settled s) ≡ common_difference n a b
-    settles Nothing h = not-common (λ l _. not-present (a f) (h f l).0 (first_holds n (λ j. present (a j)) l))
-    settles (One e) h = is-common e (first_below n (λ j. present (a j)) h.0.0 h.0.1 h.0.2) h.1
-    settles Clash h = not-common (λ _ sh. h fd sh)
+    settles Nothing h = not_common (λ l _. not-present (a f) (h f l).0 (first_holds n (λ j. present (a j)) l))
+    settles (One e) h = is_common e (first_below n (λ j. present (a j)) h.0.0 h.0.1 h.0.2) h.1
+    settles Clash h = not_common (λ _ sh. h fd sh)
 
   pub seen_common : (n : ℕ) → difference_meaning (settled (seen n a b)) ≡ common_difference n a b
   seen_common n = settles n (seen n a b) (says n)

@@ -32,8 +32,8 @@ use Rattle.plans.proofs.CopiedRow.{new_cell}
 -- ---- lists of rows: t is the list where the loop begins, x as it is now
 
 module _ {A : Type 0} (n : ℕ) (f : ℕ → ℕ → A) (t x : List A) where
-  row-passed : (u : ℕ) → x ≡ rows n u f ++ drop (n * u) t → take n (drop (n * u) t) ≡ tabulate n (f u) → x ≡ rows n (u + 1) f ++ drop (n * (u + 1)) t
-  row-passed u e h = sym (same (n * u) (n * u + n - n * u)) ∙ row_back n f t x u e (take (n * u + n - n * u) (drop (n * u) x)) (row_lent n f t x u e ∙ h)
+  row_passed : (u : ℕ) → x ≡ rows n u f ++ drop (n * u) t → take n (drop (n * u) t) ≡ tabulate n (f u) → x ≡ rows n (u + 1) f ++ drop (n * (u + 1)) t
+  row_passed u e h = sym (same (n * u) (n * u + n - n * u)) ∙ row_back n f t x u e (take (n * u + n - n * u) (drop (n * u) x)) (row_lent n f t x u e ∙ h)
     where
       same : (a m : ℕ) → put_mid a m x (take m (drop a x)) ≡ x
       same a m = ap (λ (l : List A). take a x ++ l) (take-append-drop m (drop a x)) ∙ take-append-drop a x
@@ -44,7 +44,7 @@ module _ {A : Type 0} (n : ℕ) (f : ℕ → ℕ → A) (t x : List A) where
     where
       go : (u ≤ w → x ≡ rows n w f ++ drop (n * w) t) → Dec (u ≡ suc w) → x ≡ rows n (suc w) f ++ drop (n * suc w) t
       go ih (yes q) = subst (λ (k : ℕ). x ≡ rows n k f ++ drop (n * k) t) q e
-      go ih (no ne) = subst (λ (k : ℕ). x ≡ rows n k f ++ drop (n * k) t) (add-one w) (row-passed w (ih (omega arith)) (h w (omega arith) (omega arith)))
+      go ih (no ne) = subst (λ (k : ℕ). x ≡ rows n k f ++ drop (n * k) t) (add-one w) (row_passed w (ih (omega arith)) (h w (omega arith) (omega arith)))
 
 -- ---- tables
 
@@ -64,19 +64,19 @@ module _ (N : ℕ) (t x : List ℤ) (how : Rewriting) (u : ℕ) (e : x ≡ rows 
   new = new_cell (rewritten how (graph_of N t))
 
   -- what is left is as it was
-  cell-left : (i : ℕ) → N * u ≤ i → get_or x i (pos 0) ≡ get_or t i (pos 0)
-  cell-left i h =
+  cell_left : (i : ℕ) → N * u ≤ i → get_or x i (pos 0) ≡ get_or t i (pos 0)
+  cell_left i h =
       let q : N * u + (i - N * u) ≡ i = omega arith in
       ap (λ (z : ℕ). get_or x z (pos 0)) (sym q) ∙ sym (get_or-drop (N * u) x (i - N * u) (pos 0))
       ∙ ap (λ (l : List ℤ). get_or l (i - N * u) (pos 0)) (ap (drop (N * u)) e ∙ drop_at (rows N u new) (drop (N * u) t) (N * u) (length-rows N new u))
       ∙ get_or-drop (N * u) t (i - N * u) (pos 0) ∙ ap (λ (z : ℕ). get_or t z (pos 0)) q
 
-  graph-left : (j v : ℕ) → u ≤ j → graph_of N x j v ≡ graph_of N t j v
+  graph_left : (j v : ℕ) → u ≤ j → graph_of N x j v ≡ graph_of N t j v
   unfolding graph_of
-  graph-left j v l = ap (λ (z : ℤ). cond (ltb j N && ltb v N) (read_cell absent_cell z) absent) (cell-left (N * j + v) (omega (arith, mul-le-mul_left N l)))
+  graph_left j v l = ap (λ (z : ℤ). cond (ltb j N && ltb v N) (read_cell absent_cell z) absent) (cell_left (N * j + v) (omega (arith, mul-le-mul_left N l)))
 
   still : (h : Rewriting) (j : ℕ) → u ≤ j → Untouched h (graph_of N x) j → Untouched h (graph_of N t) j
-  still (Shrink k) j l p = (p.0, sym (graph-left j k l) ∙ p.1)
+  still (Shrink k) j l p = (p.0, sym (graph_left j k l) ∙ p.1)
   still (ShareInputs a b k d) j l p = p
   still (ShareOutputs a b d) j l p = p
   still (MergeBack v o d) j l p = p

@@ -63,17 +63,17 @@ module _ (m n N a b : ℕ) (g : Graph) where
   outputs_wrong e = sym (ap (λ (c : Bool). require c WrongVertex (common_difference m (column N g a) (column N g b) then outputs_saved N g a b)) e)
 
   module _ (e : (is_output m n a && is_output m n b && not (eqb a b)) ≡ true) (found : Difference) (said : difference_meaning found ≡ common_difference m (column N g a) (column N g b)) where
-    outputs-right : (difference_meaning found then outputs_saved N g a b) ≡ share_outputs_verdict m n N a b g
+    outputs_right : (difference_meaning found then outputs_saved N g a b) ≡ share_outputs_verdict m n N a b g
     unfolding share_outputs_verdict
-    outputs-right =
+    outputs_right =
         ap (λ (x : Verdict ℤ). x then outputs_saved N g a b) said
         ∙ sym (ap (λ (c : Bool). require c WrongVertex (common_difference m (column N g a) (column N g b) then outputs_saved N g a b)) e)
 
     pub outputs_common : (z : ℤ) → found ≡ D.Common z → outputs_saved N g a b z ≡ share_outputs_verdict m n N a b g
-    outputs_common z q = sym (ap (λ (x : Difference). difference_meaning x then outputs_saved N g a b) q) ∙ outputs-right
+    outputs_common z q = sym (ap (λ (x : Difference). difference_meaning x then outputs_saved N g a b) q) ∙ outputs_right
 
     pub outputs_refused : (r : Refusal) → found ≡ D.Refused r → difference_meaning found ≡ share_outputs_verdict m n N a b g
-    outputs_refused r q = ap difference_meaning q ∙ sym (ap (λ (x : Difference). difference_meaning x then outputs_saved N g a b) q) ∙ outputs-right
+    outputs_refused r q = ap difference_meaning q ∙ sym (ap (λ (x : Difference). difference_meaning x then outputs_saved N g a b) q) ∙ outputs_right
 
 -- ---- the verdict of share inputs
 
@@ -97,14 +97,14 @@ module _ (m n N a b k : ℕ) (g : Graph) where
     number_taken f = sym (ap (λ (c : Bool). require c WrongVertex (require free NumberTaken (common then inputs_saved N g b))) e ∙ ap (λ (c : Bool). require c NumberTaken (common then inputs_saved N g b)) f)
 
     module _ (f : (is_inner m n N k && unused N g k) ≡ true) (found : Difference) (said : difference_meaning found ≡ common_difference n (matrix m N g a) (matrix m N g b)) where
-      inputs-right : (difference_meaning found then inputs_saved N g b) ≡ share_inputs_verdict m n N a b k g
+      inputs_right : (difference_meaning found then inputs_saved N g b) ≡ share_inputs_verdict m n N a b k g
       unfolding share_inputs_verdict
-      inputs-right =
+      inputs_right =
           ap (λ (x : Verdict ℤ). x then inputs_saved N g b) said
           ∙ sym (ap (λ (c : Bool). require c WrongVertex (require free NumberTaken (common then inputs_saved N g b))) e ∙ ap (λ (c : Bool). require c NumberTaken (common then inputs_saved N g b)) f)
 
       pub inputs_common : (z : ℤ) → found ≡ D.Common z → inputs_saved N g b z ≡ share_inputs_verdict m n N a b k g
-      inputs_common z q = sym (ap (λ (x : Difference). difference_meaning x then inputs_saved N g b) q) ∙ inputs-right
+      inputs_common z q = sym (ap (λ (x : Difference). difference_meaning x then inputs_saved N g b) q) ∙ inputs_right
 
       pub inputs_refused : (r : Refusal) → found ≡ D.Refused r → difference_meaning found ≡ share_inputs_verdict m n N a b k g
-      inputs_refused r q = ap difference_meaning q ∙ sym (ap (λ (x : Difference). difference_meaning x then inputs_saved N g b) q) ∙ inputs-right
+      inputs_refused r q = ap difference_meaning q ∙ sym (ap (λ (x : Difference). difference_meaning x then inputs_saved N g b) q) ∙ inputs_right

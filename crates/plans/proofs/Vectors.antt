@@ -33,19 +33,19 @@ module _ (n : ℕ) (f y : List ℤ) (h : n ≤ length f) where
   abbrev pub joined : List ℤ
   joined = put_mid n (length f - n) f y
 
-  rest-is : rest ≡ drop n f
-  rest-is = take_all (length f - n) (drop n f) (omega (arith, length-drop n f))
+  rest_is : rest ≡ drop n f
+  rest_is = take_all (length f - n) (drop n f) (omega (arith, length-drop n f))
 
-  joined-low : (v : ℕ) → v < n → get_or joined v (pos 0) ≡ get_or f v (pos 0)
-  joined-low v l = get_or-append (take n f) (y ++ drop (length f - n) (drop n f)) (pos 0) v (omega (arith, length-take-le n f h)) ∙ get_or-take n f v (pos 0) l
+  joined_low : (v : ℕ) → v < n → get_or joined v (pos 0) ≡ get_or f v (pos 0)
+  joined_low v l = get_or-append (take n f) (y ++ drop (length f - n) (drop n f)) (pos 0) v (omega (arith, length-take-le n f h)) ∙ get_or-take n f v (pos 0) l
 
-  joined-drop : drop n joined ≡ y
-  joined-drop =
+  joined_drop : drop n joined ≡ y
+  joined_drop =
       drop_at (take n f) (y ++ drop (length f - n) (drop n f)) n (length-take-le n f h)
       ∙ ap (λ (l : List ℤ). y ++ l) (drop_of_length-le (drop n f) {i = length f - n} (omega (arith, length-drop n f))) ∙ append-nil y
 
-  joined-high : (v : ℕ) → get_or joined (n + v) (pos 0) ≡ get_or y v (pos 0)
-  joined-high v = sym (get_or-drop n joined v (pos 0)) ∙ ap (λ (l : List ℤ). get_or l v (pos 0)) joined-drop
+  joined_high : (v : ℕ) → get_or joined (n + v) (pos 0) ≡ get_or y v (pos 0)
+  joined_high v = sym (get_or-drop n joined v (pos 0)) ∙ ap (λ (l : List ℤ). get_or l v (pos 0)) joined_drop
 
 -- ---- the delays from i and from j
 module _ {b : Board} {t : List ℤ} {o : List ℕ} (p : Passable b t o) (i j : ℕ) (hi : i < b.vertices) (hj : j < b.vertices) (f₀ f₁ y : List ℤ) (room : b.vertices + b.vertices ≤ length f₀)
@@ -72,25 +72,25 @@ module _ {b : Board} {t : List ℤ} {o : List ℕ} (p : Passable b t o) (i j : �
     abbrev x : List ℤ
     x = put_mid N (length f₁ - N) f₁ y
 
-    first-vector : (v : ℕ) → v < N → arrival_in x v ≡ walk (longest g N) i v
-    first-vector v l = ap (read_cell absent_wide) (joined-low N f₁ y first-room v l) ∙ held_walk p i hi f₀ f₁ (omega arith) e v l
+    first_vector : (v : ℕ) → v < N → arrival_in x v ≡ walk (longest g N) i v
+    first_vector v l = ap (read_cell absent_wide) (joined_low N f₁ y first-room v l) ∙ held_walk p i hi f₀ f₁ (omega arith) e v l
 
-    second-vector : (v : ℕ) → v < N → arrival_in x (N + v) ≡ walk (longest g N) j v
-    second-vector v l = ap (read_cell absent_wide) (joined-high N f₁ y first-room v) ∙ held_walk p j hj (rest N f₁ y first-room) y rest_room q v l
+    second_vector : (v : ℕ) → v < N → arrival_in x (N + v) ≡ walk (longest g N) j v
+    second_vector v l = ap (read_cell absent_wide) (joined_high N f₁ y first-room v) ∙ held_walk p j hj (rest N f₁ y first-room) y rest_room q v l
 
-    both-length : length x ≡ length f₀
-    both-length = same_len_mid N (length f₁ - N) f₁ y (held_length p j hj (rest N f₁ y first-room) y rest_room q) ∙ first-length
+    both_length : length x ≡ length f₀
+    both_length = same_len_mid N (length f₁ - N) f₁ y (held_length p j hj (rest N f₁ y first-room) y rest_room q) ∙ first-length
 
     pub both_vectors : TwoVectors b (put_mid b.vertices (length f₁ - b.vertices) f₁ y)
     both_vectors = record {
       sized = p.checked.lent.sized;
-      room = omega (arith, both-length);
-      near = λ v l. (subst (λ (d : Delay). T (fits arrival_limit d)) (sym (first-vector v l)) (walk_near p i hi v l), subst (λ (d : Delay). T (fits arrival_limit d)) (sym (second-vector v l)) (walk_near p j hj v l));
+      room = omega (arith, both_length);
+      near = λ v l. (subst (λ (d : Delay). T (fits arrival_limit d)) (sym (first_vector v l)) (walk_near p i hi v l), subst (λ (d : Delay). T (fits arrival_limit d)) (sym (second_vector v l)) (walk_near p j hj v l));
     }
 
     pub both_past : drop (b.vertices + b.vertices) (put_mid b.vertices (length f₁ - b.vertices) f₁ y) ≡ drop (b.vertices + b.vertices) f₀
     both_past =
-        sym (drop-drop N N x) ∙ ap (drop N) (joined-drop N f₁ y first-room) ∙ held_past p j hj (rest N f₁ y first-room) y rest_room q ∙ ap (drop N) (rest-is N f₁ y first-room)
+        sym (drop-drop N N x) ∙ ap (drop N) (joined_drop N f₁ y first-room) ∙ held_past p j hj (rest N f₁ y first-room) y rest_room q ∙ ap (drop N) (rest_is N f₁ y first-room)
         ∙ drop-drop N N f₁ ∙ drop_further N (N + N) f₀ f₁ (omega arith) (held_past p i hi f₀ f₁ (omega arith) e)
 
     -- of two inputs: the matrix's rows
@@ -100,7 +100,7 @@ module _ {b : Board} {t : List ℤ} {o : List ℕ} (p : Passable b t o) (i j : �
     unfolding matrix
     both_common li lj = common_same b.outputs _ _ _ _ (λ k l.
         let below : m + k < N = omega (arith, p.checked.lent.sized.roles) in
-        (first-vector (m + k) below ∙ walk_other (longest g N) i (m + k) (λ c. omega arith), second-vector (m + k) below ∙ walk_other (longest g N) j (m + k) (λ c. omega arith)))
+        (first_vector (m + k) below ∙ walk_other (longest g N) i (m + k) (λ c. omega arith), second_vector (m + k) below ∙ walk_other (longest g N) j (m + k) (λ c. omega arith)))
 
 -- ---- the outputs' cells of both
 module _ (b : Board) (f : List ℤ) (w : TwoVectors b f) where
@@ -110,11 +110,11 @@ module _ (b : Board) (f : List ℤ) (w : TwoVectors b f) where
   abbrev pub outputs_second : List ℤ
   outputs_second = take (b.vertices + b.inputs + b.outputs - (b.vertices + b.inputs)) (drop (b.vertices + b.inputs) f)
 
-  size-first : length outputs_first ≡ b.outputs
-  size-first = simp (length-take, length-drop) (omega (arith, w.room, w.sized.roles))
+  size_first : length outputs_first ≡ b.outputs
+  size_first = simp (length-take, length-drop) (omega (arith, w.room, w.sized.roles))
 
-  size-second : length outputs_second ≡ b.outputs
-  size-second = simp (length-take, length-drop) (omega (arith, w.room, w.sized.roles))
+  size_second : length outputs_second ≡ b.outputs
+  size_second = simp (length-take, length-drop) (omega (arith, w.room, w.sized.roles))
 
   at_first : (j : ℕ) → j < b.outputs → arrival_in outputs_first j ≡ arrival_in f (b.inputs + j)
   at_first j l = ap (read_cell absent_wide) (row_cell f b.inputs (b.inputs + b.outputs - b.inputs) j (pos 0) (omega arith))
@@ -126,10 +126,10 @@ module _ (b : Board) (f : List ℤ) (w : TwoVectors b f) where
 
   pub outputs_comparable : Comparable outputs_first outputs_second
   outputs_comparable = record {
-    long = size-first ∙ sym size-second;
-    near_x = λ j l. let k : j < b.outputs = omega (arith, size-first) in subst (λ (d : Delay). T (fits arrival_limit d)) (sym (at_first j k)) (w.near (b.inputs + j) (omega (arith, w.sized.roles))).0;
-    near_y = λ j l. let k : j < b.outputs = omega (arith, size-second) in subst (λ (d : Delay). T (fits arrival_limit d)) (sym (at_second j k)) (w.near (b.inputs + j) (omega (arith, w.sized.roles))).1;
+    long = size_first ∙ sym size_second;
+    near_x = λ j l. let k : j < b.outputs = omega (arith, size_first) in subst (λ (d : Delay). T (fits arrival_limit d)) (sym (at_first j k)) (w.near (b.inputs + j) (omega (arith, w.sized.roles))).0;
+    near_y = λ j l. let k : j < b.outputs = omega (arith, size_second) in subst (λ (d : Delay). T (fits arrival_limit d)) (sym (at_second j k)) (w.near (b.inputs + j) (omega (arith, w.sized.roles))).1;
   }
 
   pub outputs_common : common_difference (length outputs_first) (arrival_in outputs_first) (arrival_in outputs_second) ≡ common_difference b.outputs (λ j. arrival_in f (b.inputs + j)) (λ j. arrival_in f (b.vertices + (b.inputs + j)))
-  outputs_common = ap (λ (n : ℕ). common_difference n (arrival_in outputs_first) (arrival_in outputs_second)) size-first ∙ common_same b.outputs _ _ _ _ (λ j l. (at_first j l, at_second j l))
+  outputs_common = ap (λ (n : ℕ). common_difference n (arrival_in outputs_first) (arrival_in outputs_second)) size_first ∙ common_same b.outputs _ _ _ _ (λ j l. (at_first j l, at_second j l))

@@ -128,10 +128,10 @@ pub outputs_asked : (m n N a b : ℕ) (g : Graph) → Output m n a → Output m 
 unfolding share_outputs_verdict
 outputs_asked m n N a b g ha hb ab =
     accepted_require (is_output m n a && is_output m n b && not (eqb a b)) WrongVertex _
-    (and_i (is_output m n a && is_output m n b) (not (eqb a b)) (and_i (is_output m n a) (is_output m n b) (is-output m n a ha) (is-output m n b hb)) (ne→neqb a b ab))
+    (and_i (is_output m n a && is_output m n b) (not (eqb a b)) (and_i (is_output m n a) (is_output m n b) (is_output_lem m n a ha) (is_output_lem m n b hb)) (ne→neqb a b ab))
   where
-    is-output : (m n j : ℕ) → Output m n j → T (is_output m n j)
-    is-output m n j h = and_i (leb m j) (ltb j (m + n)) (le→leb m j h.0) (lt→ltb j (m + n) h.1)
+    is_output_lem : (m n j : ℕ) → Output m n j → T (is_output m n j)
+    is_output_lem m n j h = and_i (leb m j) (ltb j (m + n)) (le→leb m j h.0) (lt→ltb j (m + n) h.1)
 
 pub prune_accepted : (m n N : ℕ) (g : Graph) (x : Unit {0}) → prune_verdict m n N g ≡ accepted x → arcs N (pruned m n N g) < arcs N g
 unfolding prune_verdict

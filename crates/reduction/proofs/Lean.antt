@@ -36,13 +36,13 @@ module _ (m n N : ℕ) (g : Graph) where
   idle u t = present (g u t) && not (critical every_pair m n N g u t)
 
   -- prune is accepted where some arc is idle
-  by-idle : prune_verdict m n N g ≡ verdict (some N (λ u. some N (idle u)))
+  by_idle : prune_verdict m n N g ≡ verdict (some N (λ u. some N (idle u)))
   unfolding prune_verdict pruned
-  by-idle = ap verdict (sym (fewer N g (critical every_pair m n N g)))
+  by_idle = ap verdict (sym (fewer N g (critical every_pair m n N g)))
 
 module _ {m n N : ℕ} {g : Graph} where
   pub lean_refused : Lean m n N g → prune_verdict m n N g ≡ refused (number NothingSaved)
-  lean_refused h = by-idle m n N g ∙ ap verdict (is_false (some N (λ u. some N (idle m n N g u))) none)
+  lean_refused h = by_idle m n N g ∙ ap verdict (is_false (some N (λ u. some N (idle m n N g u))) none)
     where
       none : T (some N (λ u. some N (idle m n N g u))) → ⊥
       none t =
@@ -63,7 +63,7 @@ module _ {m n N : ℕ} {g : Graph} where
       go u t h (inr c) = absurd (never (some N (λ u. some N (idle m n N g u)))
           (some_of N (λ u. some N (idle m n N g u)) u (s.legal u t h).from_below
           (some_of N (idle m n N g u) t (s.legal u t h).to_below (and_i (present (g u t)) (not (critical every_pair m n N g u t)) h c)))
-          (sym (by-idle m n N g) ∙ e))
+          (sym (by_idle m n N g) ∙ e))
 
 -- ---- how an arc of a new graph decides
 
@@ -120,8 +120,8 @@ pruned_lean {m} {n} {N} {g} s = record { deciding = λ u t h. again u t (stayed 
     l' : Longest g' D'
     l' = longest_of b.sound
 
-    path-⊑ : (u : ℕ) (xs : List ℕ) (v : ℕ) → path_delay g' u xs v ⊑ walk D' u v
-    path-⊑ u xs v = ⊑_trans (l'.bound u xs v) (walk-⊒ b.sound.acyclic l' u v)
+    path_⊑ : (u : ℕ) (xs : List ℕ) (v : ℕ) → path_delay g' u xs v ⊑ walk D' u v
+    path_⊑ u xs v = ⊑_trans (l'.bound u xs v) (walk-⊒ b.sound.acyclic l' u v)
 
     stayed : (u t : ℕ) → T (present (g' u t)) → T (stay u t)
     stayed u t = cond_elim (λ (d : Delay). T (present d) → T (stay u t)) (stay u t) (g u t) absent (λ k _. k) (λ _ k. absurd k)
@@ -129,7 +129,7 @@ pruned_lean {m} {n} {N} {g} s = record { deciding = λ u t h. again u t (stayed 
     -- the arc u→t and a greatest walk from t to j, as a path
     beyond : (u t j : ℕ) → Dec (t ≡ j) → (ys : List ℕ) × (g u t ⊕ walk D t j ⊑ path_delay g u ys j) × (path_delay g' u ys j ⊑ g' u t ⊕ walk D' t j)
     beyond u t j (yes e) = rw e ([], ⊑-eq (ap (λ (d : Delay). g u j ⊕ d) (walk_same D j) ∙ ⊕-immediate (g u j)), ⊑-eq (sym (ap (λ (d : Delay). g' u j ⊕ d) (walk_same D' j) ∙ ⊕-immediate (g' u j))))
-    beyond u t j (no n) = let p = l.reached t j in (t ∷ p.0, ⊕-left (g u t) (⊑-eq (walk_other D t j n ∙ p.1)), ⊕-left (g' u t) (path-⊑ t p.0 j))
+    beyond u t j (no n) = let p = l.reached t j in (t ∷ p.0, ⊕-left (g u t) (⊑-eq (walk_other D t j n ∙ p.1)), ⊕-left (g' u t) (path_⊑ t p.0 j))
 
     -- a greatest walk from i to u and a path from there, as one path
     before : (i u : ℕ) (ys : List ℕ) (j : ℕ) → Dec (i ≡ u) → (zs : List ℕ) × (walk D i u ⊕ path_delay g u ys j ⊑ path_delay g i zs j) × (path_delay g' i zs j ⊑ walk D' i u ⊕ path_delay g' u ys j)
@@ -142,7 +142,7 @@ pruned_lean {m} {n} {N} {g} s = record { deciding = λ u t h. again u t (stayed 
         let p = l.reached i u in (
           p.0 ++ u ∷ ys,
           ⊑-eq (ap (λ (d : Delay). d ⊕ path_delay g u ys j) (walk_other D i u n ∙ p.1) ∙ sym (path_append g i p.0 u ys j)),
-          ⊑_trans (⊑-eq (path_append g' i p.0 u ys j)) (⊕-right (path_delay g' u ys j) (path-⊑ i p.0 u)),
+          ⊑_trans (⊑-eq (path_append g' i p.0 u ys j)) (⊕-right (path_delay g' u ys j) (path_⊑ i p.0 u)),
         )
 
     again : (u t : ℕ) → T (stay u t) → T (critical every_pair m n N g' u t)

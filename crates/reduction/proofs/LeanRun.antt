@@ -68,9 +68,9 @@ module _ (m n N : ℕ) where
   -- ---- accepted steps
 
   -- the table of an accepted step is lean if its graph is
-  lean-step : (s : ℕ) (q : Step) (t : List ℤ) (r : Reduced) → step_call m n N s q t ≡ accepted r → ((g' : Graph) → Sound m n N (graph_of N t) → plan m n N q (graph_of N t) ≡ accepted g' → Lean m n N g')
+  lean_step : (s : ℕ) (q : Step) (t : List ℤ) (r : Reduced) → step_call m n N s q t ≡ accepted r → ((g' : Graph) → Sound m n N (graph_of N t) → plan m n N q (graph_of N t) ≡ accepted g' → Lean m n N g')
       → LeanTable m n N r.table
-  lean-step s q t r e f =
+  lean_step s q t r e f =
       let p = step_parts m n N s q t r e in
       subst (λ (x : Reduced). LeanTable m n N x.table) p.3
       (subst (Lean m n N) (sym (put_back m n N t p.1 (plan_better p.0.sound q p.1 p.2))) (f p.1 p.0.sound p.2))
@@ -91,24 +91,24 @@ module _ (m n N : ℕ) where
 
       go : (x : Verdict Reduced) → step_call m n N s prune t ≡ x → LeanTable m n N (attempt (tried x) p).table
       go (refused r) e = unmoved r e (prune_verdict m n N (graph_of N t)) refl
-      go (accepted r) e = lean-step s prune t r e (λ g' sound b. subst (Lean m n N) (same_accepted (then_accepted (prune_verdict m n N (graph_of N t)) _ g' b).2) (pruned_lean sound))
+      go (accepted r) e = lean_step s prune t r e (λ g' sound b. subst (Lean m n N) (same_accepted (then_accepted (prune_verdict m n N (graph_of N t)) _ g' b).2) (pruned_lean sound))
 
   -- ---- what is accepted on a lean table leaves one
 
-  plan-lean : (q : Step) → T (takes_vertex q) → (g g' : Graph) → Sound m n N g → plan m n N q g ≡ accepted g' → Lean m n N g → Lean m n N g'
+  plan_lean : (q : Step) → T (takes_vertex q) → (g g' : Graph) → Sound m n N g → plan m n N q g ≡ accepted g' → Lean m n N g → Lean m n N g'
   unfolding plan
-  plan-lean (shrink k) _ g g' s e h = let p = then_accepted (shrink_verdict m n N k g) _ g' e in subst (Lean m n N) (same_accepted p.2) (shrunk_lean k p.0 s p.1 h)
-  plan-lean (share_inputs a b k) f g g' s e h = absurd f
-  plan-lean (share_outputs a b) f g g' s e h = absurd f
-  plan-lean prune f g g' s e h = absurd f
-  plan-lean (merge_back o) _ g g' s e h = let p = then_accepted (merge_back_verdict m n N o g) _ g' e in subst (Lean m n N) (same_accepted p.2) (merged_lean o p.0 s p.1 h)
-  plan-lean (star S Ts k) f g g' s e h = absurd f
+  plan_lean (shrink k) _ g g' s e h = let p = then_accepted (shrink_verdict m n N k g) _ g' e in subst (Lean m n N) (same_accepted p.2) (shrunk_lean k p.0 s p.1 h)
+  plan_lean (share_inputs a b k) f g g' s e h = absurd f
+  plan_lean (share_outputs a b) f g g' s e h = absurd f
+  plan_lean prune f g g' s e h = absurd f
+  plan_lean (merge_back o) _ g g' s e h = let p = then_accepted (merge_back_verdict m n N o g) _ g' e in subst (Lean m n N) (same_accepted p.2) (merged_lean o p.0 s p.1 h)
+  plan_lean (star S Ts k) f g g' s e h = absurd f
 
   abbrev pub StaysLean : Try → Type 0
   StaysLean q = (t : List ℤ) (r : Reduced) → q t ≡ tried (accepted r) → LeanTable m n N t → LeanTable m n N r.table
 
   pub step-stays_lean : (s : ℕ) (q : Step) → T (takes_vertex q) → StaysLean (try_step m n N s q)
-  step-stays_lean s q f t r e h = lean-step s q t r (inside (step_call m n N s q t) e) (λ g' sound b. plan-lean q f (graph_of N t) g' sound b h)
+  step-stays_lean s q f t r e h = lean_step s q t r (inside (step_call m n N s q t) e) (λ g' sound b. plan_lean q f (graph_of N t) g' sound b h)
     where
       inside : (x : Verdict Reduced) → tried x ≡ tried (accepted r) → x ≡ accepted r
       inside x z = cc

@@ -47,23 +47,23 @@ walk_kept L L' u v h = ⊑-eq (go (ℕ_discrete u v))
 
 module _ {g L : Graph} (a : Acyclic g) (l : Longest g L) where
   -- a greatest walk begins with a first arc
-  first-arc : (u v : ℕ) → v ≢ u → (x : ℕ) × (walk L u v ⊑ g u x ⊕ walk L x v)
-  first-arc u v n = go (l.reached u v).0 (walk_other L u v (λ e. n (sym e)) ∙ (l.reached u v).1)
+  first_arc : (u v : ℕ) → v ≢ u → (x : ℕ) × (walk L u v ⊑ g u x ⊕ walk L x v)
+  first_arc u v n = go (l.reached u v).0 (walk_other L u v (λ e. n (sym e)) ∙ (l.reached u v).1)
     where
       go : (xs : List ℕ) → walk L u v ≡ path_delay g u xs v → (x : ℕ) × (walk L u v ⊑ g u x ⊕ walk L x v)
       go [] e = (v, ⊑-eq (e ∙ sym (ap (λ (d : Delay). g u v ⊕ d) (walk_same L v) ∙ ⊕-immediate (g u v))))
       go (x ∷ xs) e = (x, ⊑_trans (⊑-eq e) (⊕-left (g u x) (⊑_trans (l.bound x xs v) (walk-⊒ a l x v))))
 
   -- to a vertex with one arc in, and from one with one arc out
-  only-in : (i k p : ℕ) → k ≢ i → ((x : ℕ) → x ≢ p → g x k ≡ absent) → walk L i k ⊑ walk L i p ⊕ g p k
-  only-in i k p n only = let w = (walk-arrivals a l i).last k n in go w.0 w.1 (ℕ_discrete w.0 p)
+  only_in : (i k p : ℕ) → k ≢ i → ((x : ℕ) → x ≢ p → g x k ≡ absent) → walk L i k ⊑ walk L i p ⊕ g p k
+  only_in i k p n only = let w = (walk-arrivals a l i).last k n in go w.0 w.1 (ℕ_discrete w.0 p)
     where
       go : (x : ℕ) → walk L i k ⊑ walk L i x ⊕ g x k → Dec (x ≡ p) → walk L i k ⊑ walk L i p ⊕ g p k
       go x h (yes e) = rw e at h
       go x h (no q) = ⊑_trans h (none_r (walk L i x) (only x q))
 
   only_out : (k p j : ℕ) → j ≢ k → ((x : ℕ) → x ≢ p → g k x ≡ absent) → walk L k j ⊑ g k p ⊕ walk L p j
-  only_out k p j n only = let w = first-arc k j n in go w.0 w.1 (ℕ_discrete w.0 p)
+  only_out k p j n only = let w = first_arc k j n in go w.0 w.1 (ℕ_discrete w.0 p)
     where
       go : (x : ℕ) → walk L k j ⊑ g k x ⊕ walk L x j → Dec (x ≡ p) → walk L k j ⊑ g k p ⊕ walk L p j
       go x h (yes e) = rw e at h
@@ -125,7 +125,7 @@ shrunk_lean {m} {n} {N} k {g} x s e lean = record { deciding = λ u t h. go u t 
             let beyond = walk D t w.0.output in
             let only = alone N (λ u. g u k) (λ u t. ((sound_within s).in_range u k t).0) (eqb→eq (fan_in N g k) 1 one) u in-k in
             by u t p q (g u k ⊕ g k t) sum w.0
-            (⊑_trans w.1 (⊑_trans (⊕-right (g k t ⊕ beyond) (only-in s.acyclic (longest_of s) i k u (λ z. input_inner s i k w.0.is_input_lem inner (sym z)) only))
+            (⊑_trans w.1 (⊑_trans (⊕-right (g k t ⊕ beyond) (only_in s.acyclic (longest_of s) i k u (λ z. input_inner s i k w.0.is_input_lem inner (sym z)) only))
             (⊑-eq (⊕-assoc (walk D i u) (g u k) (g k t ⊕ beyond) ∙ ap (λ (d : Delay). walk D i u ⊕ d) (sym (⊕-assoc (g u k) (g k t) beyond))))))
         through in-k out-k (inr one) =
             let w = decided u k (lean.deciding u k in-k) in
@@ -187,8 +187,8 @@ merged_lean {m} {n} {N} o {g} x s e lean =
         onward : (x j : ℕ) (y : Delay) → x ≢ v → x ≢ o → j ≢ v → y ⊑ g' o x → y ⊕ walk D x j ⊑ walk D' o j
         onward x j y p q n h = ⊑_trans (⊕-mono (⊑_trans h (arc_⊑ l' o x)) (kept x j p q n)) (⊑_trans (path_walk b.sound.acyclic l' o x j) (walk-⊒ b.sound.acyclic l' o j))
 
-        from-o : (j : ℕ) → j ≢ v → walk D o j ⊑ walk D' o j
-        from-o j n = pick (ℕ_discrete j o)
+        from_o : (j : ℕ) → j ≢ v → walk D o j ⊑ walk D' o j
+        from_o j n = pick (ℕ_discrete j o)
           where
             first : (x : ℕ) → walk D o j ⊑ g o x ⊕ walk D x j → (g o x ≡ absent) ⊎ T (present (g o x)) → walk D o j ⊑ walk D' o j
             first x h (inl z) = ⊑_trans h (none_l (walk D x j) z)
@@ -200,15 +200,15 @@ merged_lean {m} {n} {N} o {g} x s e lean =
 
             pick : Dec (j ≡ o) → walk D o j ⊑ walk D' o j
             pick (yes z) = walk_kept D D' o j (λ ne. absurd (ne z))
-            pick (no ne) = let w = first-arc s.acyclic l o j ne in first w.0 w.1 (absent_or (g o w.0))
+            pick (no ne) = let w = first_arc s.acyclic l o j ne in first w.0 w.1 (absent_or (g o w.0))
 
         -- from v they were as long, but for v→o
-        from-v : (j : ℕ) → j ≢ v → walk D v j ⊑ at d ⊕ walk D' o j
-        from-v j n = let w = first-arc s.acyclic l v j n in first w.0 w.1 (absent_or (g v w.0)) (ℕ_discrete w.0 o)
+        from_v : (j : ℕ) → j ≢ v → walk D v j ⊑ at d ⊕ walk D' o j
+        from_v j n = let w = first_arc s.acyclic l v j n in first w.0 w.1 (absent_or (g v w.0)) (ℕ_discrete w.0 o)
           where
             first : (x : ℕ) → walk D v j ⊑ g v x ⊕ walk D x j → (g v x ≡ absent) ⊎ T (present (g v x)) → Dec (x ≡ o) → walk D v j ⊑ at d ⊕ walk D' o j
             first x h (inl z) _ = ⊑_trans h (none_l (walk D x j) z)
-            first x h (inr t) (yes z) = ⊑_trans (rw (z, one.arc) at h) (⊕-left (at d) (from-o j n))
+            first x h (inr t) (yes z) = ⊑_trans (rw (z, one.arc) at h) (⊕-left (at d) (from_o j n))
             first x h (inr t) (no xo) =
                 let xv : x ≢ v = λ z. omega (arith, r.rise v x t, ap r.rank z) in
                 let y = g v x ⊕ at (neg_ℤ d) in
@@ -231,7 +231,7 @@ merged_lean {m} {n} {N} o {g} x s e lean =
         into u p there =
             let w = decided u v (lean.deciding u v there) in
             let j = w.0.output in
-            carried b u o w.0 (⊑_trans w.1 (⊕-mono (before w.0 u p) (⊑_trans (⊕-left (g u v) (from-v j (beyond w.0)))
+            carried b u o w.0 (⊑_trans w.1 (⊕-mono (before w.0 u p) (⊑_trans (⊕-left (g u v) (from_v j (beyond w.0)))
             (⊑-eq (sym (⊕-assoc (g u v) (at d) (walk D' o j)) ∙ ap (λ (z : Delay). z ⊕ walk D' o j) (sym (c.into u p)))))))
 
         -- an arc of v is one of o
@@ -281,7 +281,7 @@ sink_refused {m} {n} {N} k {g} s h none x e = go (or_cases (eqb (fan_in N g k) 1
         let i = p.0.input in
         let j = p.0.output in
         let on = present_r (g u k) (walk D k j) (present_r (walk D i u) (g u k ⊕ walk D k j) (present-⊑ p.1 p.0.there)) in
-        let f = first-arc s.acyclic (longest_of s) k j (output_inner s j k p.0.is_output_lem a.inner) in
+        let f = first_arc s.acyclic (longest_of s) k j (output_inner s j k p.0.is_output_lem a.inner) in
         out f.0 (present_l (g k f.0) (walk D f.0 j) (present-⊑ f.1 on))
 
     go : T (eqb (fan_in N g k) 1) ⊎ T (eqb (fan_out N g k) 1) → ⊥

@@ -49,12 +49,12 @@ record Legal (m N : ℕ) (rank : ℕ → ℕ) (u v : ℕ) (d : Delay) : Type 0 w
   rise : rank u < rank v
 
 module _ (m N : ℕ) (rank : ℕ → ℕ) where
-  arc-legal : (arcs : List Arc) → T (all_legal m N rank arcs) → (u v : ℕ) → T (present (graph_of_arcs arcs u v)) → Legal m N rank u v (graph_of_arcs arcs u v)
+  arc_legal : (arcs : List Arc) → T (all_legal m N rank arcs) → (u v : ℕ) → T (present (graph_of_arcs arcs u v)) → Legal m N rank u v (graph_of_arcs arcs u v)
   unfolding all_legal
-  arc-legal [] t u v p = absurd p
-  arc-legal (arc x y d ∷ rest) t u v p =
+  arc_legal [] t u v p = absurd p
+  arc_legal (arc x y d ∷ rest) t u v p =
       cond_elim (λ (z : Delay). T (present z) → Legal m N rank u v z) (eqb u x && eqb v y) (at d) (graph_of_arcs rest u v)
-      (λ e _. this e) (λ _ q. arc-legal rest (and_e (legal m N rank (arc x y d)) (all_legal m N rank rest) t).1 u v q) p
+      (λ e _. this e) (λ _ q. arc_legal rest (and_e (legal m N rank (arc x y d)) (all_legal m N rank rest) t).1 u v q) p
     where
       this : T (eqb u x && eqb v y) → Legal m N rank u v (at d)
       this e =
@@ -68,19 +68,19 @@ module _ (m N : ℕ) (rank : ℕ → ℕ) where
             rise = ltb→lt (rank x) (rank y) p4.1;
           })
 
-  arcs-sound : (n : ℕ) (arcs : List Arc) → T (all_legal m N rank arcs) → m + n ≤ N → Sound m n N (graph_of_arcs arcs)
-  arcs-sound n arcs t room = record {
-    legal = λ u v p. (arc-legal arcs t u v p).is;
-    acyclic = ranked_acyclic (record { rank = rank; rise = λ u v p. (arc-legal arcs t u v p).rise });
+  arcs_sound : (n : ℕ) (arcs : List Arc) → T (all_legal m N rank arcs) → m + n ≤ N → Sound m n N (graph_of_arcs arcs)
+  arcs_sound n arcs t room = record {
+    legal = λ u v p. (arc_legal arcs t u v p).is;
+    acyclic = ranked_acyclic (record { rank = rank; rise = λ u v p. (arc_legal arcs t u v p).rise });
     room = room;
   }
 
   -- its table has that graph
-  arcs-graph : (n : ℕ) (arcs : List Arc) → T (all_legal m N rank arcs) → m + n ≤ N → graph_of N (table N arcs) ≡ graph_of_arcs arcs
-  arcs-graph n arcs t room = graph_of_with_graph N (graph_of_arcs arcs) [] (sound_within (arcs-sound n arcs t room)) (λ u v z e. not_mark z (held u v z e))
+  arcs_graph : (n : ℕ) (arcs : List Arc) → T (all_legal m N rank arcs) → m + n ≤ N → graph_of N (table N arcs) ≡ graph_of_arcs arcs
+  arcs_graph n arcs t room = graph_of_with_graph N (graph_of_arcs arcs) [] (sound_within (arcs_sound n arcs t room)) (λ u v z e. not_mark z (held u v z e))
     where
       held : (u v : ℕ) (z : ℤ) → graph_of_arcs arcs u v ≡ at z → T (fits delay_limit (at z))
-      held u v z e = subst (λ (d : Delay). T (fits delay_limit d)) e (arc-legal arcs t u v (subst (λ (d : Delay). T (present d)) (sym e) tt)).is.in_range
+      held u v z e = subst (λ (d : Delay). T (fits delay_limit d)) e (arc_legal arcs t u v (subst (λ (d : Delay). T (present d)) (sym e) tt)).is.in_range
 
 -- ---- the lecture's
 
@@ -108,10 +108,10 @@ unfolding all_legal
 ok = tt
 
 sound : Sound 8 1 20 g
-sound = arcs-sound 8 20 rank 1 lecture_arcs ok (omega arith)
+sound = arcs_sound 8 20 rank 1 lecture_arcs ok (omega arith)
 
 graph_is : graph_of 20 (table 20 lecture_arcs) ≡ g
-graph_is = arcs-graph 8 20 rank 1 lecture_arcs ok (omega arith)
+graph_is = arcs_graph 8 20 rank 1 lecture_arcs ok (omega arith)
 
 at_inputs : T (every 8 (λ v. eq_d (AT v) (arrival_in given v)))
 unfolding every AT tabulate read_cell

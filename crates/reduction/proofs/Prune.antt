@@ -34,9 +34,9 @@ module _ {Counts : ℕ → ℕ → Type 0} {L g g' : Graph} (s : Thinned Counts 
   pub thinned_ranked : Ranked g → Ranked g'
   thinned_ranked r = record { rank = r.rank; rise = λ u v t. r.rise u v (present-⊑ (s.less u v) t) }
 
-  less-path : (u : ℕ) (xs : List ℕ) (v : ℕ) → path_delay g' u xs v ⊑ path_delay g u xs v
-  less-path u [] v = s.less u v
-  less-path u (x ∷ xs) v = ⊕-mono (s.less u x) (less-path x xs v)
+  less_path : (u : ℕ) (xs : List ℕ) (v : ℕ) → path_delay g' u xs v ⊑ path_delay g u xs v
+  less_path u [] v = s.less u v
+  less_path u (x ∷ xs) v = ⊕-mono (s.less u x) (less_path x xs v)
 
   module _ (a : Acyclic g) (l : Longest g L) (i j : ℕ) (c : Counts i j) (h : T (present (L i j))) where
     -- p is the delay of a walk from i to u that a path of the greatest delay begins with
@@ -53,7 +53,7 @@ module _ {Counts : ℕ → ℕ → Type 0} {L g g' : Graph} (s : Thinned Counts 
 
   pub thinned_same : {L' : Graph} → Acyclic g → Longest g L → Longest g' L' → (i j : ℕ) → Counts i j → L' i j ≡ L i j
   thinned_same {L'} a l l' i j c =
-      ⊑-antisym (⊑_trans (⊑-eq (l'.reached i j).1) (⊑_trans (less-path i (l'.reached i j).0 j) (l.bound i (l'.reached i j).0 j))) (go (absent_or (L i j)))
+      ⊑-antisym (⊑_trans (⊑-eq (l'.reached i j).1) (⊑_trans (less_path i (l'.reached i j).0 j) (l.bound i (l'.reached i j).0 j))) (go (absent_or (L i j)))
     where
       xs : List ℕ
       xs = (l.reached i j).0
@@ -80,9 +80,9 @@ module _ (counts : ℕ → ℕ → Bool) (m n N : ℕ) (g : Graph) (u v : ℕ) w
       let c = and_e (counts a.0 (m + b.0)) (decides (longest g N) g u v a.0 (m + b.0)) b.2 in
       (a.0, m + b.0, (a.1, (omega arith, omega arith), c.0), c.1)
 
-  critical-of : (i j : ℕ) → Counted counts m n i j → T (decides (longest g N) g u v i j) → T (critical counts m n N g u v)
+  critical_of : (i j : ℕ) → Counted counts m n i j → T (decides (longest g N) g u v i j) → T (critical counts m n N g u v)
   unfolding critical
-  critical-of i j c t =
+  critical_of i j c t =
       some_of m (λ i. some n (λ j. counts i (m + j) && decides (longest g N) g u v i (m + j))) i c.0
       (some_of n (λ j. counts i (m + j) && decides (longest g N) g u v i (m + j)) (j - m) (omega arith)
       (subst (λ (x : ℕ). T (counts i x && decides (longest g N) g u v i x)) e (and_i (counts i j) (decides (longest g N) g u v i j) c.2 t)))
@@ -93,7 +93,7 @@ module _ (counts : ℕ → ℕ → Bool) (m n N : ℕ) (g : Graph) (u v : ℕ) w
 -- an arc that reaches the greatest delay of a pair that counts
 pub reaching_critical : (counts : ℕ → ℕ → Bool) {m n N : ℕ} {g : Graph} → Sound m n N g → (u v i j : ℕ) → Counted counts m n i j → T (present (longest g N i j))
     → longest g N i j ⊑ through_arc (longest g N) g u v i j → T (critical counts m n N g u v)
-reaching_critical counts {m} {n} {N} {g} s u v i j c t h = critical-of counts m n N g u v i j c
+reaching_critical counts {m} {n} {N} {g} s u v i j c t h = critical_of counts m n N g u v i j c
     (same_i (longest g N i j) (through_arc (longest g N) g u v i j) t (⊑-antisym h (through_⊑ s.acyclic (longest_of s) u v i j)))
 
 -- any arcs may go as long as those that decide stay

@@ -37,22 +37,22 @@ abbrev pub lean : ℕ → ℕ → ℤ → Graph → Graph
 lean a b e g = update g b (λ v. at e ⊕ g a v)
 
 module _ (a b : ℕ) (e : ℤ) {g : Graph} (ab : a ≢ b) (nb : (u : ℕ) → g u b ≡ absent) (r : Ranked g) where
-  lean-row : (v : ℕ) → lean a b e g b v ≡ at e ⊕ g a v
-  lean-row v = ap (λ (f : ℕ → Delay). f v) (update_same g b (λ v. at e ⊕ g a v))
+  lean_row : (v : ℕ) → lean a b e g b v ≡ at e ⊕ g a v
+  lean_row v = ap (λ (f : ℕ → Delay). f v) (update_same g b (λ v. at e ⊕ g a v))
 
-  lean-other : (u v : ℕ) → u ≢ b → lean a b e g u v ≡ g u v
-  lean-other u v n = ap (λ (f : ℕ → Delay). f v) (update_other g b (λ v. at e ⊕ g a v) u n)
+  lean_other : (u v : ℕ) → u ≢ b → lean a b e g u v ≡ g u v
+  lean_other u v n = ap (λ (f : ℕ → Delay). f v) (update_other g b (λ v. at e ⊕ g a v) u n)
 
-  lean-in : (u : ℕ) → Dec (u ≡ b) → lean a b e g u b ≡ absent
-  lean-in u (yes p) = rw (p, lean-row b, nb a)
-  lean-in u (no n) = lean-other u b n ∙ nb u
+  lean_in : (u : ℕ) → Dec (u ≡ b) → lean a b e g u b ≡ absent
+  lean_in u (yes p) = rw (p, lean_row b, nb a)
+  lean_in u (no n) = lean_other u b n ∙ nb u
 
   pub lean_within : {N : ℕ} → b < N → Within N g → Within N (lean a b e g)
   lean_within {N} bN w = record { in_range = λ u v t. go u v t (ℕ_discrete u b) }
     where
       go : (u v : ℕ) → T (present (lean a b e g u v)) → Dec (u ≡ b) → (u < N) × (v < N)
-      go u v t (yes p) = (rw p bN, (w.in_range a v (present_r (at e) (g a v) (rw (p, lean-row v) at t))).1)
-      go u v t (no n) = w.in_range u v (rw (lean-other u v n) at t)
+      go u v t (yes p) = (rw p bN, (w.in_range a v (present_r (at e) (g a v) (rw (p, lean_row v) at t))).1)
+      go u v t (no n) = w.in_range u v (rw (lean_other u v n) at t)
 
   pub lean_ranked : Ranked (lean a b e g)
   lean_ranked = record { rank = update (λ (v : ℕ). suc (r.rank v)) b 0; rise = λ u v t. go u v t (ℕ_discrete u b) (ℕ_discrete v b) }
@@ -61,41 +61,41 @@ module _ (a b : ℕ) (e : ℤ) {g : Graph} (ab : a ≢ b) (nb : (u : ℕ) → g 
       q = update (λ (v : ℕ). suc (r.rank v)) b 0
 
       go : (u v : ℕ) → T (present (lean a b e g u v)) → Dec (u ≡ b) → Dec (v ≡ b) → q u < q v
-      go u v t d (yes p) = absurd (not-present (lean a b e g u v) (rw p (lean-in u d)) t)
+      go u v t d (yes p) = absurd (not-present (lean a b e g u v) (rw p (lean_in u d)) t)
       go u v t (yes p) (no n) = rw (p, update_same (λ (v : ℕ). suc (r.rank v)) b 0, update_other (λ (v : ℕ). suc (r.rank v)) b 0 v n) (omega arith)
-      go u v t (no m) (no n) = rw (update_other (λ (v : ℕ). suc (r.rank v)) b 0 u m, update_other (λ (v : ℕ). suc (r.rank v)) b 0 v n) (omega (arith, r.rise u v (rw (lean-other u v m) at t)))
+      go u v t (no m) (no n) = rw (update_other (λ (v : ℕ). suc (r.rank v)) b 0 u m, update_other (λ (v : ℕ). suc (r.rank v)) b 0 v n) (omega (arith, r.rise u v (rw (lean_other u v m) at t)))
 
   -- from another start b is not reached
-  lean-arrivals : {i : ℕ} {F : ℕ → Delay} → Arrivals g i F → b ≢ i → Arrivals (lean a b e g) i F
-  lean-arrivals {i} {F} c bi = record { start = c.start; flow = λ u v. flow' u v (ℕ_discrete u b); last = λ v n. last' v (c.last v n).0 (c.last v n).1 (ℕ_discrete (c.last v n).0 b) }
+  lean_arrivals : {i : ℕ} {F : ℕ → Delay} → Arrivals g i F → b ≢ i → Arrivals (lean a b e g) i F
+  lean_arrivals {i} {F} c bi = record { start = c.start; flow = λ u v. flow' u v (ℕ_discrete u b); last = λ v n. last' v (c.last v n).0 (c.last v n).1 (ℕ_discrete (c.last v n).0 b) }
     where
       none : F b ≡ absent
       none = ⊑-absent (⊑_trans (c.last b bi).1 (none_r (F (c.last b bi).0) (nb (c.last b bi).0)))
 
       flow' : (u v : ℕ) → Dec (u ≡ b) → F u ⊕ lean a b e g u v ⊑ F v
       flow' u v (yes p) = none_l {x = F u} (lean a b e g u v) (rw p none)
-      flow' u v (no n) = rw (lean-other u v n) (c.flow u v)
+      flow' u v (no n) = rw (lean_other u v n) (c.flow u v)
 
       last' : (v u : ℕ) → F v ⊑ F u ⊕ g u v → Dec (u ≡ b) → (u : ℕ) × (F v ⊑ F u ⊕ lean a b e g u v)
       last' v u h (yes p) = (u, ⊑_trans h (none_l {x = F u} (g u v) (rw p none)))
-      last' v u h (no n) = (u, rw (lean-other u v n) h)
+      last' v u h (no n) = (u, rw (lean_other u v n) h)
 
   module _ {L : Graph} (l : Longest g L) where
     B : ℕ → Delay
     B v = at e ⊕ L a v
 
-    lean-arrivals-b : Arrivals (lean a b e g) b (update B b immediate)
+    lean_arrivals_b : Arrivals (lean a b e g) b (update B b immediate)
     unfolding B
-    lean-arrivals-b = record { start = update_same B b immediate; flow = flow'; last = λ v n. last' v n (last_arc l a v) }
+    lean_arrivals_b = record { start = update_same B b immediate; flow = flow'; last = λ v n. last' v n (last_arc l a v) }
       where
         flow' : (u v : ℕ) → update B b immediate u ⊕ lean a b e g u v ⊑ update B b immediate v
-        flow' u v = update_elim B b immediate (λ (y : ℕ) (d : Delay). update B b immediate u ⊕ lean a b e g u y ⊑ d) (none_r (update B b immediate u) (lean-in u (ℕ_discrete u b))) v
+        flow' u v = update_elim B b immediate (λ (y : ℕ) (d : Delay). update B b immediate u ⊕ lean a b e g u y ⊑ d) (none_r (update B b immediate u) (lean_in u (ℕ_discrete u b))) v
             (λ _. update_elim B b immediate (λ (x : ℕ) (d : Delay). d ⊕ lean a b e g x v ⊑ at e ⊕ L a v)
-            (rw (lean-row v, immediate-⊕ (at e ⊕ g a v)) (⊕-left (at e) (arc_⊑ l a v))) u
-            (λ n. rw (lean-other u v n, ⊕-assoc (at e) (L a u) (g u v)) (⊕-left (at e) (extend l a u v))))
+            (rw (lean_row v, immediate-⊕ (at e ⊕ g a v)) (⊕-left (at e) (arc_⊑ l a v))) u
+            (λ n. rw (lean_other u v n, ⊕-assoc (at e) (L a u) (g u v)) (⊕-left (at e) (extend l a u v))))
 
         last' : (v : ℕ) → v ≢ b → (L a v ⊑ g a v) ⊎ ((x : ℕ) × (L a v ⊑ L a x ⊕ g x v)) → (u : ℕ) × (update B b immediate v ⊑ update B b immediate u ⊕ lean a b e g u v)
-        last' v n (inl h) = (b, rw (update_other B b immediate v n, update_same B b immediate, lean-row v, immediate-⊕ (at e ⊕ g a v)) (⊕-left (at e) h))
+        last' v n (inl h) = (b, rw (update_other B b immediate v n, update_same B b immediate, lean_row v, immediate-⊕ (at e ⊕ g a v)) (⊕-left (at e) h))
         last' v n (inr (x, h)) = go (ℕ_discrete x b)
           where
             go : Dec (x ≡ b) → (u : ℕ) × (update B b immediate v ⊑ update B b immediate u ⊕ lean a b e g u v)
@@ -107,7 +107,7 @@ module _ (a b : ℕ) (e : ℤ) {g : Graph} (ab : a ≢ b) (nb : (u : ℕ) → g 
 
                 dead : L a x ≡ absent
                 dead = rw p (⊑-absent (reach (last_arc l a b)))
-            go (no m) = (x, rw (update_other B b immediate v n, update_other B b immediate x m, lean-other x v m, ⊕-assoc (at e) (L a x) (g x v)) (⊕-left (at e) h))
+            go (no m) = (x, rw (update_other B b immediate v n, update_other B b immediate x m, lean_other x v m, ⊕-assoc (at e) (L a x) (g x v)) (⊕-left (at e) h))
 
     -- from b, at each j at which b's delay is a's and e
     pub lean_same : {L' : Graph} → Longest (lean a b e g) L' → (i j : ℕ) → j ≢ i → (i ≡ b → L b j ≡ at e ⊕ L a j) → L' i j ≡ L i j
@@ -115,8 +115,8 @@ module _ (a b : ℕ) (e : ℤ) {g : Graph} (ab : a ≢ b) (nb : (u : ℕ) → g 
     lean_same {L'} l' i j ne eq = go (ℕ_discrete i b)
       where
         go : Dec (i ≡ b) → L' i j ≡ L i j
-        go (yes p) = rw p (arrivals-longest lean-arrivals-b lean_ranked l' j (λ x. ne (x ∙ sym p)) ∙ update_other B b immediate j (λ x. ne (x ∙ sym p)) ∙ sym (eq p))
-        go (no n) = arrivals-longest (lean-arrivals (walk-arrivals (ranked_acyclic r) l i) (λ x. n (sym x))) lean_ranked l' j ne ∙ walk_other L i j (λ e. ne (sym e))
+        go (yes p) = rw p (arrivals-longest lean_arrivals_b lean_ranked l' j (λ x. ne (x ∙ sym p)) ∙ update_other B b immediate j (λ x. ne (x ∙ sym p)) ∙ sym (eq p))
+        go (no n) = arrivals-longest (lean_arrivals (walk-arrivals (ranked_acyclic r) l i) (λ x. n (sym x))) lean_ranked l' j ne ∙ walk_other L i j (λ e. ne (sym e))
 
 pub record Shared (a b k : ℕ) (e : ℤ) (g g' : Graph) : Type 0 where
   pub hub : (t : ℕ) → g' k t ≡ g a t
@@ -129,28 +129,28 @@ pub record Shared (a b k : ℕ) (e : ℤ) (g g' : Graph) : Type 0 where
 
 module _ {a b k : ℕ} {e : ℤ} {g g' : Graph} (s : Shared a b k e g g') (ab : a ≢ b) (ka : k ≢ a) (kb : k ≢ b) (out : (v : ℕ) → g k v ≡ absent) (in' : (u : ℕ) → g u k ≡ absent)
     (nb : (u : ℕ) → g u b ≡ absent) (r : Ranked g) where
-  shared-shrunk : Shrunk k g' (lean a b e g)
-  shared-shrunk = record {
-    gone_out = λ v. lean-other a b e ab nb r k v kb ∙ out v;
-    gone_in = λ u. in-k u (ℕ_discrete u b);
+  shared_shrunk : Shrunk k g' (lean a b e g)
+  shared_shrunk = record {
+    gone_out = λ v. lean_other a b e ab nb r k v kb ∙ out v;
+    gone_in = λ u. in_k u (ℕ_discrete u b);
     rest = λ u v p q. sym (go u v p q (ℕ_discrete u a) (ℕ_discrete u b));
   }
     where
-      in-k : (u : ℕ) → Dec (u ≡ b) → lean a b e g u k ≡ absent
-      in-k u (yes p) = rw (p, lean-row a b e ab nb r k, in' a)
-      in-k u (no n) = lean-other a b e ab nb r u k n ∙ in' u
+      in_k : (u : ℕ) → Dec (u ≡ b) → lean a b e g u k ≡ absent
+      in_k u (yes p) = rw (p, lean_row a b e ab nb r k, in' a)
+      in_k u (no n) = lean_other a b e ab nb r u k n ∙ in' u
 
       go : (u v : ℕ) → u ≢ k → v ≢ k → Dec (u ≡ a) → Dec (u ≡ b) → g' u v ⋓ (g' u k ⊕ g' k v) ≡ lean a b e g u v
-      go u v p q d (yes x) = rw (x, lean-row a b e ab nb r v, s.b_k, s.hub v, s.b_out v q)
-      go u v p q (yes x) (no n) = rw (x, lean-other a b e ab nb r a v ab, s.a_k, s.hub v, s.a_out v q, immediate-⊕ (g a v))
-      go u v p q (no m) (no n) = rw (lean-other a b e ab nb r u v n, s.else_k u m n, s.rest u v m n p q) (⋓-absent (g u v))
+      go u v p q d (yes x) = rw (x, lean_row a b e ab nb r v, s.b_k, s.hub v, s.b_out v q)
+      go u v p q (yes x) (no n) = rw (x, lean_other a b e ab nb r a v ab, s.a_k, s.hub v, s.a_out v q, immediate-⊕ (g a v))
+      go u v p q (no m) (no n) = rw (lean_other a b e ab nb r u v n, s.else_k u m n, s.rest u v m n p q) (⋓-absent (g u v))
 
   pub shared_ranked : {N : ℕ} → Within N g' → Ranked g'
-  shared_ranked w = unshrunk_ranked shared-shrunk w (s.else_k k ka kb) (lean_ranked a b e ab nb r)
+  shared_ranked w = unshrunk_ranked shared_shrunk w (s.else_k k ka kb) (lean_ranked a b e ab nb r)
 
   pub shared_same : {N : ℕ} {L L' : Graph} → b < N → Within N g → Within N g' → Longest g L → Longest g' L' → (i j : ℕ) → j ≢ i → i ≢ k → j ≢ k → (i ≡ b → L b j ≡ at e ⊕ L a j) → L' i j ≡ L i j
   shared_same {N} bN w w' l l' i j ne ni nj eq =
-      unshrunk_same shared-shrunk w' (s.else_k k ka kb) (lean_ranked a b e ab nb r) mid l' i j ne ni nj ∙ lean_same a b e ab nb r l mid i j ne eq
+      unshrunk_same shared_shrunk w' (s.else_k k ka kb) (lean_ranked a b e ab nb r) mid l' i j ne ni nj ∙ lean_same a b e ab nb r l mid i j ne eq
     where
       mid : Longest (lean a b e g) (longest (lean a b e g) N)
       mid = longest_is N (lean a b e g) (lean_within a b e ab nb r bN w) (ranked_acyclic (lean_ranked a b e ab nb r))
@@ -229,8 +229,8 @@ module _ (counts : ℕ → ℕ → Bool) {m n N : ℕ} (a b k : ℕ) {g : Graph}
   none : (u : ℕ) → g u b ≡ absent
   none u = sound_inputs s u b hb
 
-  at-output : (j : ℕ) → Output m n j → T (counts b j) → longest g N b j ≡ longest g N a j ⊕ at e
-  at-output j hj =
+  at_output : (j : ℕ) → Output m n j → T (counts b j) → longest g N b j ≡ longest g N a j ⊕ at e
+  at_output j hj =
       let z : m + (j - m) ≡ j = omega arith in
       subst (λ (x : ℕ). T (counts b x) → longest g N b x ≡ longest g N a x ⊕ at e) z (dif (j - m) (omega arith))
 
@@ -260,7 +260,7 @@ module _ (counts : ℕ → ℕ → Bool) {m n N : ℕ} (a b k : ℕ) {g : Graph}
   pub inputs_shared_keeps : Same counts m n N g (inputs_shared a b k e g)
   inputs_shared_keeps = same s legal ranked (λ l' i j hi hj t.
       shared_same c ab ka kb out in' none (rank_of s) b<N (sound_within s) w' (longest_of s) l' i j (input_output s i j hi hj) (input_inner s i k hi hk) (output_inner s j k hj hk)
-      (λ z. at-output j hj (subst (λ (x : ℕ). T (counts x j)) z t) ∙ ⊕-comm (longest g N a j) (at e)))
+      (λ z. at_output j hj (subst (λ (x : ℕ). T (counts x j)) z t) ∙ ⊕-comm (longest g N a j) (at e)))
 
   -- b's arcs go for two
   pub inputs_shared_count : arcs N (inputs_shared a b k e g) + fan_out N g b ≤ arcs N g + 2

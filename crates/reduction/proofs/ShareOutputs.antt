@@ -59,8 +59,8 @@ module _ {a b : ℕ} {e : ℤ} {g g' : Graph} (s : Tied a b e g g') (ab : a ≢ 
                 (λ h. present-⊑ ((walk-arrivals (ranked_acyclic r) l b).flow u v) (present-⊕ (walk L b u) (g u v) h t')),
           )
 
-  tied-arrivals : {i : ℕ} {F : ℕ → Delay} → Arrivals g i F → F b ≡ F a ⊕ at e → Arrivals g' i F
-  tied-arrivals {i} {F} c eq = record { start = c.start; flow = λ u v. flow' u v (ℕ_discrete v b) (ℕ_discrete u a); last = λ v n. last' v n (ℕ_discrete v b) }
+  tied_arrivals : {i : ℕ} {F : ℕ → Delay} → Arrivals g i F → F b ≡ F a ⊕ at e → Arrivals g' i F
+  tied_arrivals {i} {F} c eq = record { start = c.start; flow = λ u v. flow' u v (ℕ_discrete v b) (ℕ_discrete u a); last = λ v n. last' v n (ℕ_discrete v b) }
     where
       flow' : (u v : ℕ) → Dec (v ≡ b) → Dec (u ≡ a) → F u ⊕ g' u v ⊑ F v
       flow' u v (yes p) (yes q) = rw (p, q, s.new, eq) (⊑_refl (F a ⊕ at e))
@@ -73,7 +73,7 @@ module _ {a b : ℕ} {e : ℤ} {g g' : Graph} (s : Tied a b e g g') (ab : a ≢ 
 
   pub tied_same : {L L' : Graph} → Longest g L → Longest g' L' → L b a ≡ absent → (i j : ℕ) → j ≢ i → a ≢ i → b ≢ i → L i b ≡ L i a ⊕ at e → L' i j ≡ L i j
   tied_same {L} l l' no_way i j ne na nb eq =
-      arrivals-longest (tied-arrivals (walk-arrivals (ranked_acyclic r) l i) (rw (walk_other L i a (λ e. na (sym e)), walk_other L i b (λ e. nb (sym e))) eq)) (tied_ranked l no_way) l' j ne
+      arrivals-longest (tied_arrivals (walk-arrivals (ranked_acyclic r) l i) (rw (walk_other L i a (λ e. na (sym e)), walk_other L i b (λ e. nb (sym e))) eq)) (tied_ranked l no_way) l' j ne
       ∙ walk_other L i j (λ e. ne (sym e))
 
 pub tied_fewer : {N a b : ℕ} {e : ℤ} {g g' : Graph} → Tied a b e g g' → a < N → b < N → 2 ≤ fan_in N g b → arcs N g' < arcs N g

@@ -97,37 +97,37 @@ bit-cond false d = omega (arith, bit_absent {x = absent} refl)
 module _ (S Ts : List ℕ) (k : ℕ) (g : Graph) (out : (v : ℕ) → g k v ≡ absent) (in' : (u : ℕ) → g u k ≡ absent)
     (gone : ℕ → ℕ → Bool) (part : (u v : ℕ) → T (gone u v) → T (covered S Ts g u v)) where
   -- a sum through the centre is never above the arc
-  centre-⊑ : (u v : ℕ) → to_centre S Ts g u ⊕ from_centre S Ts g v ⊑ g u v
+  centre_⊑ : (u v : ℕ) → to_centre S Ts g u ⊕ from_centre S Ts g v ⊑ g u v
   unfolding to_centre from_centre
-  centre-⊑ u v = cond_elim (λ (d : Delay). d ⊕ cond (member v Ts) (g (first_of S) v) absent ⊑ g u v) (member u S) (least Ts (λ t. g u t ⊖ g (first_of S) t)) absent
+  centre_⊑ u v = cond_elim (λ (d : Delay). d ⊕ cond (member v Ts) (g (first_of S) v) absent ⊑ g u v) (member u S) (least Ts (λ t. g u t ⊖ g (first_of S) t)) absent
       (λ _. cond_elim (λ (d : Delay). least Ts (λ t. g u t ⊖ g (first_of S) t) ⊕ d ⊑ g u v) (member v Ts) (g (first_of S) v) absent
       (λ m. ⊑_trans (⊕-right (g (first_of S) v) (least-⊑ Ts (λ t. g u t ⊖ g (first_of S) t) v m)) (⊖-⊕ (g u v) (g (first_of S) v)))
       (λ _. rw ⊕-absent (absent_⊑ (g u v))))
       (λ _. absent_⊑ (g u v))
 
-  star-in : (u : ℕ) → u ≢ k → centred gone S Ts k g u k ≡ to_centre S Ts g u
-  star-in u n = simp (eqb_same, eqb_other)
+  star_in : (u : ℕ) → u ≢ k → centred gone S Ts k g u k ≡ to_centre S Ts g u
+  star_in u n = simp (eqb_same, eqb_other)
 
-  star-out : (v : ℕ) → centred gone S Ts k g k v ≡ from_centre S Ts g v
-  star-out v = simp eqb_same
+  star_out : (v : ℕ) → centred gone S Ts k g k v ≡ from_centre S Ts g v
+  star_out v = simp eqb_same
 
-  star-loop : centred gone S Ts k g k k ≡ absent
+  star_loop : centred gone S Ts k g k k ≡ absent
   unfolding from_centre
-  star-loop = star-out k ∙ cond_elim (λ (d : Delay). d ≡ absent) (member k Ts) (g (first_of S) k) absent (λ _. in' (first_of S)) (λ _. refl)
+  star_loop = star_out k ∙ cond_elim (λ (d : Delay). d ≡ absent) (member k Ts) (g (first_of S) k) absent (λ _. in' (first_of S)) (λ _. refl)
 
-  star-cell : (u v : ℕ) → u ≢ k → v ≢ k → centred gone S Ts k g u v ≡ cond (gone u v) absent (g u v)
-  star-cell u v a b = simp eqb_other
+  star_cell : (u v : ℕ) → u ≢ k → v ≢ k → centred gone S Ts k g u v ≡ cond (gone u v) absent (g u v)
+  star_cell u v a b = simp eqb_other
 
   covers : (u v : ℕ) → T (gone u v) → T (present (g u v)) × (g u v ≡ to_centre S Ts g u ⊕ from_centre S Ts g v)
   unfolding covered
   covers u v t = same_e (g u v) (to_centre S Ts g u ⊕ from_centre S Ts g v) (part u v t)
 
-  starred-is : Starred k g (centred gone S Ts k g)
-  starred-is = record {
+  starred_is : Starred k g (centred gone S Ts k g)
+  starred_is = record {
     fresh_out = out;
     fresh_in = in';
-    thru = λ u v a b. rw (star-in u a, star-out v) (centre-⊑ u v);
-    cell = λ u v a b. rw (star-in u a, star-out v, star-cell u v a b) (cell u v);
+    thru = λ u v a b. rw (star_in u a, star_out v) (centre_⊑ u v);
+    cell = λ u v a b. rw (star_in u a, star_out v, star_cell u v a b) (cell u v);
   }
     where
       cell : (u v : ℕ) → (cond (gone u v) absent (g u v) ≡ g u v) ⊎ ((cond (gone u v) absent (g u v) ≡ absent) × (g u v ≡ to_centre S Ts g u ⊕ from_centre S Ts g v))
@@ -137,41 +137,41 @@ module _ (S Ts : List ℕ) (k : ℕ) (g : Graph) (out : (v : ℕ) → g k v ≡ 
   cov : ℕ → ℕ → ℕ
   cov u v = cond (gone u v) 1 0
 
-  cov-absent : (u v : ℕ) → g u v ≡ absent → cov u v ≡ 0
+  cov_absent : (u v : ℕ) → g u v ≡ absent → cov u v ≡ 0
   unfolding cov
-  cov-absent u v e = cond_elim (λ (x : ℕ). x ≡ 0) (gone u v) 1 0 (λ t. absurd (not-present (g u v) e (covers u v t).0)) (λ _. refl)
+  cov_absent u v e = cond_elim (λ (x : ℕ). x ≡ 0) (gone u v) 1 0 (λ t. absurd (not-present (g u v) e (covers u v t).0)) (λ _. refl)
 
-  cov-cell : (u v : ℕ) → u ≢ k → v ≢ k → bit (centred gone S Ts k g u v) + cov u v ≤ bit (g u v)
+  cov_cell : (u v : ℕ) → u ≢ k → v ≢ k → bit (centred gone S Ts k g u v) + cov u v ≤ bit (g u v)
   unfolding cov
-  cov-cell u v a b = rw (star-cell u v a b) (go (gone u v) (λ t. (covers u v t).0))
+  cov_cell u v a b = rw (star_cell u v a b) (go (gone u v) (λ t. (covers u v t).0))
     where
       go : (c : Bool) → (T c → T (present (g u v))) → bit (cond c absent (g u v)) + cond c 1 0 ≤ bit (g u v)
       go true h = omega (arith, bit_absent {x = absent} refl, bit-present (g u v) (h tt))
       go false h = omega arith
 
-  star-fewer : (N : ℕ) → k < N → length S + length Ts < holding N gone → arcs N (centred gone S Ts k g) < arcs N g
+  star_fewer : (N : ℕ) → k < N → length S + length Ts < holding N gone → arcs N (centred gone S Ts k g) < arcs N g
   unfolding fan_in fan_out cov to_centre from_centre
-  star-fewer N kN more =
-      starred_fewer g (centred gone S Ts k g) cov kN (λ v. cov-absent k v (out v)) (λ u. cov-absent u k (in' u)) cov-cell
+  star_fewer N kN more =
+      starred_fewer g (centred gone S Ts k g) cov kN (λ v. cov_absent k v (out v)) (λ u. cov_absent u k (in' u)) cov_cell
       (omega (
         arith,
         members N S,
         members N Ts,
         sum_le N (λ u. bit (centred gone S Ts k g u k)) (λ u. cond (member u S) 1 0) (λ u _. to u (ℕ_discrete u k)),
-        sum_le N (λ v. bit (centred gone S Ts k g k v)) (λ v. cond (member v Ts) 1 0) (λ v _. rw (star-out v) (bit-cond (member v Ts) (g (first_of S) v))),
+        sum_le N (λ v. bit (centred gone S Ts k g k v)) (λ v. cond (member v Ts) 1 0) (λ v _. rw (star_out v) (bit-cond (member v Ts) (g (first_of S) v))),
       ))
     where
       to : (u : ℕ) → Dec (u ≡ k) → bit (centred gone S Ts k g u k) ≤ cond (member u S) 1 0
-      to u (yes e) = omega (arith, bit_absent {x = centred gone S Ts k g u k} (rw e star-loop))
-      to u (no n) = rw (star-in u n) (bit-cond (member u S) (least Ts (λ t. g u t ⊖ g (first_of S) t)))
+      to u (yes e) = omega (arith, bit_absent {x = centred gone S Ts k g u k} (rw e star_loop))
+      to u (no n) = rw (star_in u n) (bit-cond (member u S) (least Ts (λ t. g u t ⊖ g (first_of S) t)))
 
   pub centred_better : {m n N : ℕ} → Sound m n N g → T (each S (λ s. ltb s N)) → Inner m n N k → length S + length Ts < holding N gone → T (each S (λ s. fits delay_limit (to_centre S Ts g s)))
       → Better every_pair m n N g (centred gone S Ts k g)
   unfolding to_centre from_centre
   centred_better {m} {n} {N} s low hk more fit =
-      better s legal (unshrunk_ranked (starred-shrunk starred-is) w' star-loop (rank_of s))
-      (λ l' i j hi hj. unshrunk_same (starred-shrunk starred-is) w' star-loop (rank_of s) (longest_of s) l' i j (input_output s i j hi hj) (input_inner s i k hi hk) (output_inner s j k hj hk))
-      (star-fewer N hk.1 more)
+      better s legal (unshrunk_ranked (starred-shrunk starred_is) w' star_loop (rank_of s))
+      (λ l' i j hi hj. unshrunk_same (starred-shrunk starred_is) w' star_loop (rank_of s) (longest_of s) l' i j (input_output s i j hi hj) (input_inner s i k hi hk) (output_inner s j k hj hk))
+      (star_fewer N hk.1 more)
     where
       legal : (u v : ℕ) → T (present (centred gone S Ts k g u v)) → LegalArc m N u v (centred gone S Ts k g u v)
       legal u v = go (ℕ_discrete u k) (ℕ_discrete v k)
@@ -189,10 +189,10 @@ module _ (S Ts : List ℕ) (k : ℕ) (g : Graph) (out : (v : ℕ) → g k v ≡ 
               source = cond_elim (λ (d : Delay). T (present d) → T (member u S)) (member u S) (least Ts (λ t. g u t ⊖ g (first_of S) t)) absent (λ b _. b) (λ _ t. absurd t)
 
           go : Dec (u ≡ k) → Dec (v ≡ k) → T (present (centred gone S Ts k g u v)) → LegalArc m N u v (centred gone S Ts k g u v)
-          go (yes p) _ h = rw (p, star-out v) (onward (rw (p, star-out v) at h))
-          go (no p) (yes q) h = rw (q, star-in u p) (into (rw (q, star-in u p) at h))
-          go (no p) (no q) h = rw (star-cell u v p q)
-              (cond_elim (λ (d : Delay). T (present d) → LegalArc m N u v d) (gone u v) absent (g u v) (λ _ t. absurd t) (λ _. s.legal u v) (rw (star-cell u v p q) at h))
+          go (yes p) _ h = rw (p, star_out v) (onward (rw (p, star_out v) at h))
+          go (no p) (yes q) h = rw (q, star_in u p) (into (rw (q, star_in u p) at h))
+          go (no p) (no q) h = rw (star_cell u v p q)
+              (cond_elim (λ (d : Delay). T (present d) → LegalArc m N u v d) (gone u v) absent (g u v) (λ _ t. absurd t) (λ _. s.legal u v) (rw (star_cell u v p q) at h))
 
       w' : Within N (centred gone S Ts k g)
       w' = record { in_range = λ u v h. ((legal u v h).from_below, (legal u v h).to_below) }

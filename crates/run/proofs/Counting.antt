@@ -40,11 +40,11 @@ module _ (N : ℕ) (g : Graph) (a b : ℕ) (e : ℤ) (v : ℕ) (v-a : v ≢ a) (
   column-stays = sum_eq N _ _ (λ u _. rw (eqb_other v b v-b) refl)
 
 module _ {board : Board} {t : List ℤ} {o : List ℕ} {a b k : ℕ} {sorted : Bool} where
-  others-stay : (side : Side) → Ready side board t o k sorted → (e : ℤ) (v : ℕ) → OnSide board side v → v ≢ a → v ≢ b
+  others_stay : (side : Side) → Ready side board t o k sorted → (e : ℤ) (v : ℕ) → OnSide board side v → v ≢ a → v ≢ b
       → is_rich side board.vertices (shared side a b k (graph_of board.vertices t) e) v ≡ is_rich side board.vertices (graph_of board.vertices t) v
   unfolding fresh_number
-  others-stay Inputs ready e v on v-a v-b = ap (leb 3) (row_stays board.vertices (graph_of board.vertices t) a b e v v-a v-b k (λ q. omega (arith, q, on.below, ready.fresh refl)))
-  others-stay Outputs ready e v on v-a v-b = ap (leb 2) (column-stays board.vertices (graph_of board.vertices t) a b e v v-a v-b)
+  others_stay Inputs ready e v on v-a v-b = ap (leb 3) (row_stays board.vertices (graph_of board.vertices t) a b e v v-a v-b k (λ q. omega (arith, q, on.below, ready.fresh refl)))
+  others_stay Outputs ready e v on v-a v-b = ap (leb 2) (column-stays board.vertices (graph_of board.vertices t) a b e v v-a v-b)
 
   -- x and y are the new counts of a and b
   pub counted_again : (side : Side) → Checked board t → Ready side board t o k sorted → Pair side board a b → (rich : List Bool) → Counted side board t rich
@@ -67,4 +67,4 @@ module _ {board : Board} {t : List ℤ} {o : List ℕ} {a b k : ℕ} {sorted : B
       go v on (no v-b) (no v-a) =
           let made = share_graph board t side a b k ok after tried in
           get_or-set_other (set rich a x) b v y false v-b ∙ get_or-set_other rich a v x false v-a ∙ h.each v on
-          ∙ sym (others-stay side ready made.0 v on v-a v-b) ∙ ap (λ (f : Graph). is_rich side board.vertices f v) (sym made.1)
+          ∙ sym (others_stay side ready made.0 v on v-a v-b) ∙ ap (λ (f : Graph). is_rich side board.vertices f v) (sym made.1)

@@ -27,26 +27,26 @@ use Rattle.run.specs.Running.{progress}
 use Rattle.run.specs.Runs.{Runs, run_on}
 
 module _ (m n N s : ℕ) (p q : Progress) (way : round (tries m n N s) p ≡ q) where
-  abbrev arcsAt : Progress → ℕ
-  arcsAt x = arcs N (graph_of N x.table)
+  abbrev arcs_at : Progress → ℕ
+  arcs_at x = arcs N (graph_of N x.table)
 
-  last-round : q.steps ≡ p.steps → rounds (suc (arcs N (graph_of N p.table))) (tries m n N s) p ≡ q
+  last_round : q.steps ≡ p.steps → rounds (suc (arcs N (graph_of N p.table))) (tries m n N s) p ≡ q
   unfolding rounds
-  last-round e = rw (ap (λ (x : Progress). eqb x.steps p.steps) way ∙ ap (λ (x : ℕ). eqb x p.steps) e ∙ eqb_same p.steps) way
+  last_round e = rw (ap (λ (x : Progress). eqb x.steps p.steps) way ∙ ap (λ (x : ℕ). eqb x p.steps) e ∙ eqb_same p.steps) way
 
   module _ (ne : q.steps ≢ p.steps) where
     other : eqb (round (tries m n N s) p).steps p.steps ≡ false
     other = ap (λ (x : Progress). eqb x.steps p.steps) way ∙ eqb_other q.steps p.steps ne
 
-    fewer-arcs : arcs N (graph_of N q.table) < arcs N (graph_of N p.table)
-    fewer-arcs = subst (λ (x : Progress). arcsAt x < arcsAt p) way (round_less m n N (tries m n N s) (tries_gain m n N s) (arcsAt p) p (omega arith) (subst (λ (x : Bool). T (not x)) (sym other) tt))
+    fewer_arcs : arcs N (graph_of N q.table) < arcs N (graph_of N p.table)
+    fewer_arcs = subst (λ (x : Progress). arcs_at x < arcs_at p) way (round_less m n N (tries m n N s) (tries_gain m n N s) (arcs_at p) p (omega arith) (subst (λ (x : Bool). T (not x)) (sym other) tt))
 
-    next-round : rounds (suc (arcs N (graph_of N q.table))) (tries m n N s) q ≡ rounds (suc (arcs N (graph_of N p.table))) (tries m n N s) p
+    next_round : rounds (suc (arcs N (graph_of N q.table))) (tries m n N s) q ≡ rounds (suc (arcs N (graph_of N p.table))) (tries m n N s) p
     unfolding rounds
-    next-round =
-        fuel_enough m n N (tries m n N s) (tries_gain m n N s) (suc (arcsAt q)) (arcsAt p) q (omega arith) fewer-arcs
-        ∙ ap (rounds (arcsAt p) (tries m n N s)) (sym way)
-        ∙ sym (ap (λ (x : Bool). cond x (round (tries m n N s) p) (rounds (arcsAt p) (tries m n N s) (round (tries m n N s) p))) other)
+    next_round =
+        fuel_enough m n N (tries m n N s) (tries_gain m n N s) (suc (arcs_at q)) (arcs_at p) q (omega arith) fewer_arcs
+        ∙ ap (rounds (arcs_at p) (tries m n N s)) (sym way)
+        ∙ sym (ap (λ (x : Bool). cond x (round (tries m n N s) p) (rounds (arcs_at p) (tries m n N s) (round (tries m n N s) p))) other)
 
 -- where the loop stands: more rounds lead to the goal, or it is reached
 abbrev pub Toward : ℕ → ℕ → ℕ → ℕ → Progress → Bool → Progress → Type 0
@@ -61,13 +61,13 @@ rounds_left N false t = 0
 module _ (m n N s : ℕ) (p q : Progress) (way : round (tries m n N s) p ≡ q) where
   pub toward_next : (goal : Progress) → Toward m n N s goal true p → Toward m n N s goal (not (eqb q.steps p.steps)) q
   toward_next goal h = cases (eqb q.steps p.steps)
-      (λ e. subst (λ (x : Bool). Toward m n N s goal (not x) q) (sym e) (sym (last-round m n N s p q way (eqb→eq q.steps p.steps (true_is e))) ∙ h))
-      (λ e. subst (λ (x : Bool). Toward m n N s goal (not x) q) (sym e) (next-round m n N s p q way (neqb→ne q.steps p.steps (subst (λ (x : Bool). T (not x)) (sym e) tt)) ∙ h))
+      (λ e. subst (λ (x : Bool). Toward m n N s goal (not x) q) (sym e) (sym (last_round m n N s p q way (eqb→eq q.steps p.steps (true_is e))) ∙ h))
+      (λ e. subst (λ (x : Bool). Toward m n N s goal (not x) q) (sym e) (next_round m n N s p q way (neqb→ne q.steps p.steps (subst (λ (x : Bool). T (not x)) (sym e) tt)) ∙ h))
 
   pub fewer_left : rounds_left N (not (eqb q.steps p.steps)) q.table < suc (arcs N (graph_of N p.table))
   fewer_left = cases (eqb q.steps p.steps)
       (λ e. subst (λ (x : Bool). rounds_left N (not x) q.table < suc (arcs N (graph_of N p.table))) (sym e) (omega arith))
-      (λ e. subst (λ (x : Bool). rounds_left N (not x) q.table < suc (arcs N (graph_of N p.table))) (sym e) (omega (arith, fewer-arcs m n N s p q way (neqb→ne q.steps p.steps (subst (λ (x : Bool). T (not x)) (sym e) tt)))))
+      (λ e. subst (λ (x : Bool). rounds_left N (not x) q.table < suc (arcs N (graph_of N p.table))) (sym e) (omega (arith, fewer_arcs m n N s p q way (neqb→ne q.steps p.steps (subst (λ (x : Bool). T (not x)) (sym e) tt)))))
 
 -- what the loop answers
 pub runs_done : (m n N s : ℕ) (t after : List ℤ) (c a : ℕ) → reduce m n N s t ≡ progress after c → a ≡ arcs N (graph_of N after) → Runs (accepted (whole_run m n N s t)) t after (R.Accepted c a)

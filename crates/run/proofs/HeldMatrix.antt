@@ -28,9 +28,9 @@ module _ {b : Board} {t : List ℤ} {o : List ℕ} (p : Passable b t o) where
   entry i j = matrix b.inputs b.vertices (graph_of b.vertices t) i j
 
   -- an entry is a walk to another vertex
-  entry-is : (i j : ℕ) → i < b.inputs → walk (longest (graph_of b.vertices t) b.vertices) i (b.inputs + j) ≡ entry i j
+  entry_is : (i j : ℕ) → i < b.inputs → walk (longest (graph_of b.vertices t) b.vertices) i (b.inputs + j) ≡ entry i j
   unfolding matrix
-  entry-is i j h = walk_other (longest (graph_of b.vertices t) b.vertices) i (b.inputs + j) (λ e. omega arith)
+  entry_is i j h = walk_other (longest (graph_of b.vertices t) b.vertices) i (b.inputs + j) (λ e. omega arith)
 
   module _ (M rest : List ℤ) (e : M ≡ matrix_cells b.inputs b.outputs b.vertices (graph_of b.vertices t) ++ rest) where
     pub held_start : Held b M t
@@ -40,8 +40,8 @@ module _ {b : Board} {t : List ℤ} {o : List ℕ} (p : Passable b t o) where
       cells = λ i j hi hj.
           ap (λ (x : List ℤ). arrival_in x (b.outputs * i + j)) e
           ∙ ap (read_cell absent_wide) (cell_rows b.outputs b.inputs (λ i j. write_cell absent_wide (entry i j)) rest i j (pos 0) hi hj)
-          ∙ read_far (entry i j) (subst (λ (d : Delay). T (fits reached_limit d)) (entry-is i j hi) (walk_far p i (below i hi) (b.inputs + j) (output j hj)));
-      near = λ i j hi hj. subst (λ (d : Delay). T (fits arrival_limit d)) (entry-is i j hi) (walk_near p i (below i hi) (b.inputs + j) (output j hj));
+          ∙ read_far (entry i j) (subst (λ (d : Delay). T (fits reached_limit d)) (entry_is i j hi) (walk_far p i (below i hi) (b.inputs + j) (output j hj)));
+      near = λ i j hi hj. subst (λ (d : Delay). T (fits arrival_limit d)) (entry_is i j hi) (walk_near p i (below i hi) (b.inputs + j) (output j hj));
     }
       where
         below : (i : ℕ) → i < b.inputs → i < b.vertices

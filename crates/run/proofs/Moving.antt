@@ -57,13 +57,13 @@ module _ {b : Board} {t : List ℤ} (ok : Checked b t) where
   }
 
   -- the checks of a step's call pass again
-  call-is-step : (s : ℕ) → scratch_cells N ≤ s → (q : Step) → step_call m n N s q t ≡ (plan m n N q (graph_of N t) then λ g'. accepted (one_step N t g'))
+  call_is_step : (s : ℕ) → scratch_cells N ≤ s → (q : Step) → step_call m n N s q t ≡ (plan m n N q (graph_of N t) then λ g'. accepted (one_step N t g'))
   unfolding step_call
-  call-is-step s room q = ap (λ (v : Verdict Graph). v then λ g. plan m n N q g then λ g'. accepted (one_step N t g')) (checked-passed s checked-passes (le→leb (scratch_cells N) s room))
+  call_is_step s room q = ap (λ (v : Verdict Graph). v then λ g. plan m n N q g then λ g'. accepted (one_step N t g')) (checked-passed s checked-passes (le→leb (scratch_cells N) s room))
 
   pub moves : (q : Step) (after : List ℤ) (r : Bool) → Tries (table_by b q t) t after r
       → (s c : ℕ) → scratch_cells b.vertices ≤ s → attempt (try_step b.inputs b.outputs b.vertices s q t) (progress t c) ≡ progress after (c + gained r)
-  moves q after r h s c room = ap (λ (x : Verdict Reduced). attempt (tried x) (progress t c)) (call-is-step s room q) ∙ go (plan m n N q (graph_of N t)) r h
+  moves q after r h s c room = ap (λ (x : Verdict Reduced). attempt (tried x) (progress t c)) (call_is_step s room q) ∙ go (plan m n N q (graph_of N t)) r h
     where
       never : (y : ℕ) → refused y ≡ accepted after → ⊥
       never y e = let z : ◌≡◌ {A = ℕ} 0 1 = cc in omega arith

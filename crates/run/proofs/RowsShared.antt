@@ -24,13 +24,13 @@ one_source_left : (N : ℕ) (g : Graph) (a b : ℕ) (e : ℤ) (words words' : Li
 unfolding outputs_shared
 one_source_left N g a b e words words' h one = record { long = omega (arith, h.long, one.long); row = row }
   where
-    with-arc : (x y : Bool) (d : Delay) → cond x y (present d) ≡ present (cond x (cond y (at e) absent) d)
-    with-arc true true d = refl
-    with-arc true false d = refl
-    with-arc false y d = refl
+    with_arc_lem : (x y : Bool) (d : Delay) → cond x y (present d) ≡ present (cond x (cond y (at e) absent) d)
+    with_arc_lem true true d = refl
+    with_arc_lem true false d = refl
+    with_arc_lem false y d = refl
 
     row : (u : ℕ) → u < N → Targets (outputs_shared a b e g) u (set_at words' u)
-    row u l v = one.rows u v l ∙ ap (cond (eqb v b) (eqb u a)) (h.row u l v) ∙ with-arc (eqb v b) (eqb u a) (g u v)
+    row u l v = one.rows u v l ∙ ap (cond (eqb v b) (eqb u a)) (h.row u l v) ∙ with_arc_lem (eqb v b) (eqb u a) (g u v)
 
 module _ (board : Board) (t : List ℤ) (side : Side) (a b k : ℕ) (ok : Checked board t) (after : List ℤ) (tried : Trying board t side a b k after true) where
   pub rows_shared : (words words' : List ℕ) (made : Bool) → RowsKept side board t words made → length words' ≡ length words → (made ≡ true → OneSource board.vertices a b words words') → RowsKept side board after words' made

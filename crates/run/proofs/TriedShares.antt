@@ -100,23 +100,23 @@ module _ (board : Board) (t : List ℤ) (o : List ℕ) (side : Side) (a b k c : 
   abbrev pub Tried : List ℤ → ℕ → Type 0
   Tried after d = Reaches board.vertices (λ s. try_share board.inputs board.outputs board.vertices side s a b ∷ []) (progress t c) (progress after d)
 
-  share-reaches : (after : List ℤ) (r : Bool) → Trying board t side a b k after r → Tried after (c + gained r)
+  share_reaches : (after : List ℤ) (r : Bool) → Trying board t side a b k after r → Tried after (c + gained r)
   unfolding round
-  share-reaches after r h s room =
+  share_reaches after r h s room =
       try_share_lem board.inputs board.outputs board.vertices s side a b (progress t c)
       ∙ ap (λ (q : Step). attempt (try_step board.inputs board.outputs board.vertices s q t) (progress t c)) (sym (share_fresh board t o side a b k ready))
       ∙ moves run.checked (share_step side a b k) after r h s c room
 
   pub share_goes : (after : List ℤ) → Trying board t side a b k after true → Tried after (c + 1) × Checked board after
   share_goes after h =
-      let way = share-reaches after true h in
+      let way = share_reaches after true h in
       let gain : (s : ℕ) → All (Gains board.inputs board.outputs board.vertices) (try_share board.inputs board.outputs board.vertices side s a b ∷ []) = λ s. (share_try_gains board.inputs board.outputs board.vertices side s a b, tt) in
       (way, (running_on board (λ s. try_share board.inputs board.outputs board.vertices side s a b ∷ []) (progress t c) (progress after (c + 1)) gain way run).checked)
 
   pub share_stays : (after : List ℤ) → Trying board t side a b k after false → Tried after c × Ready side board after o k sorted
   share_stays after h =
       let same : c + 0 ≡ c = omega arith in
-      (λ s room. share-reaches after false h s room ∙ ap (progress after) same, subst (λ (x : List ℤ). Ready side board x o k sorted) (sym (h.refused refl).1) ready)
+      (λ s room. share_reaches after false h s room ∙ ap (progress after) same, subst (λ (x : List ℤ). Ready side board x o k sorted) (sym (h.refused refl).1) ready)
 
   -- b has too few arcs
   pub share_passed : is_rich side board.vertices (graph_of board.vertices t) b ≡ false → Tried t c

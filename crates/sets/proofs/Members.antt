@@ -67,14 +67,14 @@ empty-member = place (λ u. holds none u ≡ false) (λ u l. low none u l ∙ od
 -- ---- one number: the word that has its digit alone
 
 module _ (v w : ℕ) where
-  lone-low : v < 64 → ((j : ℕ) → odd w j ≡ eqb j v) → (u : ℕ) → holds (record { low = w; high = 0 }) u ≡ eqb u v
-  lone-low h e = place (λ u. holds (record { low = w; high = 0 }) u ≡ eqb u v)
+  lone_low : v < 64 → ((j : ℕ) → odd w j ≡ eqb j v) → (u : ℕ) → holds (record { low = w; high = 0 }) u ≡ eqb u v
+  lone_low h e = place (λ u. holds (record { low = w; high = 0 }) u ≡ eqb u v)
       (λ u l. low _ u l ∙ e u)
       (λ u g l. high _ u g l ∙ odd_none (u - 64) ∙ sym (eqb_other u v (λ q. omega arith)))
       (λ u g. beyond _ u g ∙ sym (eqb_other u v (λ q. omega arith)))
 
-  lone-high : 64 ≤ v → v < room → ((j : ℕ) → odd w j ≡ eqb j (v - 64)) → (u : ℕ) → holds (record { low = 0; high = w }) u ≡ eqb u v
-  lone-high g h e = place (λ u. holds (record { low = 0; high = w }) u ≡ eqb u v)
+  lone_high : 64 ≤ v → v < room → ((j : ℕ) → odd w j ≡ eqb j (v - 64)) → (u : ℕ) → holds (record { low = 0; high = w }) u ≡ eqb u v
+  lone_high g h e = place (λ u. holds (record { low = 0; high = w }) u ≡ eqb u v)
       (λ u l. low _ u l ∙ odd_none u ∙ sym (eqb_other u v (λ q. omega arith)))
       (λ u k l. high _ u k l ∙ e (u - 64) ∙ same_truth (eqb (u - 64) (v - 64)) (eqb u v)
       (λ t. eq→eqb u v (back u k (eqb→eq (u - 64) (v - 64) t))) (λ t. eq→eqb (u - 64) (v - 64) (ap (λ (z : ℕ). z - 64) (eqb→eq u v t))))
@@ -89,13 +89,13 @@ pub plus_low : (v w : ℕ) (s : Set) → v < 64 → ((j : ℕ) → odd w j ≡ e
 plus_low v w s h e u =
     each_member ◌||◌ refl (record { low = w; high = 0 }) s (record { low = bit_or w s.low; high = s.high }) (or_digit w s.low)
     (λ i. ap (λ (b : Bool). b || odd s.high i) (sym (odd_none i))) u
-    ∙ ap (λ (b : Bool). b || holds s u) (lone-low v w h e u)
+    ∙ ap (λ (b : Bool). b || holds s u) (lone_low v w h e u)
 
 pub plus_high : (v w : ℕ) (s : Set) → 64 ≤ v → v < room → ((j : ℕ) → odd w j ≡ eqb j (v - 64)) → (u : ℕ) → holds (record { low = s.low; high = bit_or w s.high }) u ≡ (eqb u v || holds s u)
 plus_high v w s g h e u =
     each_member ◌||◌ refl (record { low = 0; high = w }) s (record { low = s.low; high = bit_or w s.high })
     (λ i. ap (λ (b : Bool). b || odd s.low i) (sym (odd_none i))) (or_digit w s.high) u
-    ∙ ap (λ (b : Bool). b || holds s u) (lone-high v w g h e u)
+    ∙ ap (λ (b : Bool). b || holds s u) (lone_high v w g h e u)
 
 kept : (a b : Bool) → b ≡ false → a ≡ (a && not b)
 kept true b e = sym (ap not e)
@@ -108,13 +108,13 @@ pub minus_low : (v w : ℕ) (s : Set) → v < 64 → ((j : ℕ) → odd w j ≡ 
     → (u : ℕ) → holds (record { low = bit_xor s.low (bit_and s.low w); high = s.high }) u ≡ (holds s u && not (eqb u v))
 minus_low v w s h e u =
     each_member but refl s (record { low = w; high = 0 }) (record { low = bit_xor s.low (bit_and s.low w); high = s.high }) (but_digit s.low w) (but_none s.high) u
-    ∙ ap (λ (b : Bool). holds s u && not b) (lone-low v w h e u)
+    ∙ ap (λ (b : Bool). holds s u && not b) (lone_low v w h e u)
 
 pub minus_high : (v w : ℕ) (s : Set) → 64 ≤ v → v < room → ((j : ℕ) → odd w j ≡ eqb j (v - 64))
     → (u : ℕ) → holds (record { low = s.low; high = bit_xor s.high (bit_and s.high w) }) u ≡ (holds s u && not (eqb u v))
 minus_high v w s g h e u =
     each_member but refl s (record { low = 0; high = w }) (record { low = s.low; high = bit_xor s.high (bit_and s.high w) }) (but_none s.low) (but_digit s.high w) u
-    ∙ ap (λ (b : Bool). holds s u && not b) (lone-high v w g h e u)
+    ∙ ap (λ (b : Bool). holds s u && not b) (lone_high v w g h e u)
 
 -- ---- whether there is a member, and one of them
 
@@ -123,8 +123,8 @@ abbrev pub Fit : Set → Type 0
 Fit s = Fits w64 s.low × (Fits w64 s.high × Unit {0})
 
 module _ (s : Set) where
-  words-none : s.low ≡ 0 → s.high ≡ 0 → (u : ℕ) → holds s u ≡ false
-  words-none e h u = ap₂ (λ (x y : ℕ). holds (record { low = x; high = y }) u) e h ∙ empty-member u
+  words_none : s.low ≡ 0 → s.high ≡ 0 → (u : ℕ) → holds s u ≡ false
+  words_none e h u = ap₂ (λ (x y : ℕ). holds (record { low = x; high = y }) u) e h ∙ empty-member u
 
   -- digit i of a word as a member
   pub from_low : (i : ℕ) → i < 64 → odd s.low i ≡ true → T (holds s i)
@@ -137,11 +137,11 @@ module _ (s : Set) where
   high_left u t e = go (ℕ_discrete s.high 0)
     where
       go : Dec (s.high ≡ 0) → 0 < s.high
-      go (yes h) = absurd (subst T (words-none e h u) t)
+      go (yes h) = absurd (subst T (words_none e h u) t)
       go (no h) = omega arith
 
   pub empty_none : eqb (bit_or s.low s.high) 0 ≡ true → (u : ℕ) → holds s u ≡ false
-  empty_none t = words-none (omega (arith, both, or_add_and s.low s.high, and_le_r s.low s.high)) (omega (arith, both, or_add_and s.low s.high, and_le_l s.low s.high))
+  empty_none t = words_none (omega (arith, both, or_add_and s.low s.high, and_le_r s.low s.high)) (omega (arith, both, or_add_and s.low s.high, and_le_l s.low s.high))
     where
       both : bit_or s.low s.high ≡ 0
       both = eqb→eq (bit_or s.low s.high) 0 (true_is t)

@@ -36,13 +36,13 @@ digit P x p q = go (x % 2) (mod-lt x (lit< tt))
 -- an operation that works digit by digit, f on digits and g on truth values
 module _ (op f : ℕ → ℕ → ℕ) (g : Bool → Bool → Bool) (step : (a b : ℕ) → op a b ≡ op (a / 2) (b / 2) * 2 + f (a % 2) (b % 2))
     (same : (x y : ℕ) → (f (x % 2) (y % 2) < 2) × (eqb (f (x % 2) (y % 2)) 1 ≡ g (eqb (x % 2) 1) (eqb (y % 2) 1))) where
-  op-digit : (i a b : ℕ) → odd (op a b) i ≡ g (odd a i) (odd b i)
-  op-digit zero a b =
+  op_digit : (i a b : ℕ) → odd (op a b) i ≡ g (odd a i) (odd b i)
+  op_digit zero a b =
       odd_zero (op a b) ∙ ap (λ (z : ℕ). eqb (z % 2) 1) (step a b) ∙ ap (λ (z : ℕ). eqb z 1) (digits_mod (op (a / 2) (b / 2)) (same a b).0)
       ∙ (same a b).1 ∙ sym (ap₂ g (odd_zero a) (odd_zero b))
-  op-digit (suc i) a b =
+  op_digit (suc i) a b =
       odd_suc (op a b) i ∙ ap (λ (z : ℕ). odd (z / 2) i) (step a b) ∙ ap (λ (z : ℕ). odd z i) (digits_div (op (a / 2) (b / 2)) (same a b).0)
-      ∙ op-digit i (a / 2) (b / 2) ∙ sym (ap₂ g (odd_suc a i) (odd_suc b i))
+      ∙ op_digit i (a / 2) (b / 2) ∙ sym (ap₂ g (odd_suc a i) (odd_suc b i))
 
 module _ (f : ℕ → ℕ → ℕ) (g : Bool → Bool → Bool) where
   abbrev Fit : ℕ → ℕ → Type 0
@@ -52,17 +52,17 @@ module _ (f : ℕ → ℕ → ℕ) (g : Bool → Bool → Bool) where
   table a b c d x y = digit (λ z. Fit z (y % 2)) x (digit (λ z. Fit 0 z) y a b) (digit (λ z. Fit 1 z) y c d)
 
 pub or_digit : (a b i : ℕ) → odd (bit_or a b) i ≡ (odd a i || odd b i)
-or_digit a b i = op-digit bit_or max ◌||◌ or_step (table max ◌||◌ (lit< tt, refl) (lit< tt, refl) (lit< tt, refl) (lit< tt, refl)) i a b
+or_digit a b i = op_digit bit_or max ◌||◌ or_step (table max ◌||◌ (lit< tt, refl) (lit< tt, refl) (lit< tt, refl) (lit< tt, refl)) i a b
 
 pub and_digit : (a b i : ℕ) → odd (bit_and a b) i ≡ (odd a i && odd b i)
-and_digit a b i = op-digit bit_and min ◌&&◌ and_step (table min ◌&&◌ (lit< tt, refl) (lit< tt, refl) (lit< tt, refl) (lit< tt, refl)) i a b
+and_digit a b i = op_digit bit_and min ◌&&◌ and_step (table min ◌&&◌ (lit< tt, refl) (lit< tt, refl) (lit< tt, refl) (lit< tt, refl)) i a b
 
 abbrev xor : Bool → Bool → Bool
 xor true b = not b
 xor false b = b
 
 xor_digit : (a b i : ℕ) → odd (bit_xor a b) i ≡ xor (odd a i) (odd b i)
-xor_digit a b i = op-digit bit_xor differ xor xor_step (table differ xor (lit< tt, refl) (lit< tt, refl) (lit< tt, refl) (lit< tt, refl)) i a b
+xor_digit a b i = op_digit bit_xor differ xor xor_step (table differ xor (lit< tt, refl) (lit< tt, refl) (lit< tt, refl) (lit< tt, refl)) i a b
 
 -- x ^ (x & y), which is x & !y
 pub but_digit : (a b i : ℕ) → odd (bit_xor a (bit_and a b)) i ≡ (odd a i && not (odd b i))

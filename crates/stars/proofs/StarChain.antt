@@ -67,48 +67,48 @@ module _ (m n N : ℕ) (S Ts : List ℕ) (k : ℕ) (g : Graph) where
     pub centre_below : k < N
     centre_below = ltb→lt k N (and_e (below N S && below N Ts) (ltb k N) (true_is a)).1
 
-    refused-9 : sets ≡ false → refused 9 ≡ verdict
+    refused_9 : sets ≡ false → refused 9 ≡ verdict
     unfolding star_verdict below
-    refused-9 b = λ i. chain (sym a i) (sym b i) free joined saves near
+    refused_9 b = λ i. chain (sym a i) (sym b i) free joined saves near
 
     pub no_sources : is_set S ≡ false → refused 9 ≡ verdict
-    no_sources b = refused-9 (by_set (non_empty S) (non_empty Ts) (distinct S) (distinct Ts) ∙ no_first (is_set S) (is_set Ts) b)
+    no_sources b = refused_9 (by_set (non_empty S) (non_empty Ts) (distinct S) (distinct Ts) ∙ no_first (is_set S) (is_set Ts) b)
 
     pub no_targets : is_set Ts ≡ false → refused 9 ≡ verdict
-    no_targets b = refused-9 (by_set (non_empty S) (non_empty Ts) (distinct S) (distinct Ts) ∙ no_second (is_set S) (is_set Ts) b)
+    no_targets b = refused_9 (by_set (non_empty S) (non_empty Ts) (distinct S) (distinct Ts) ∙ no_second (is_set S) (is_set Ts) b)
 
     module _ (bS : is_set S ≡ true) (bT : is_set Ts ≡ true) where
-      both-sets : sets ≡ true
-      both-sets = by_set (non_empty S) (non_empty Ts) (distinct S) (distinct Ts) ∙ both (is_set S) (is_set Ts) bS bT
+      both_sets : sets ≡ true
+      both_sets = by_set (non_empty S) (non_empty Ts) (distinct S) (distinct Ts) ∙ both (is_set S) (is_set Ts) bS bT
 
       pub refused_8 : free ≡ false → refused 8 ≡ verdict
       unfolding star_verdict below
-      refused_8 c = λ i. chain (sym a i) (sym both-sets i) (sym c i) joined saves near
+      refused_8 c = λ i. chain (sym a i) (sym both_sets i) (sym c i) joined saves near
 
       module _ (c : free ≡ true) where
         pub refused_10 : joined ≡ false → refused 10 ≡ verdict
         unfolding star_verdict below
-        refused_10 d = λ i. chain (sym a i) (sym both-sets i) (sym c i) (sym d i) saves near
+        refused_10 d = λ i. chain (sym a i) (sym both_sets i) (sym c i) (sym d i) saves near
 
         module _ (d : joined ≡ true) where
-          set-of : (xs : List ℕ) → T (below N xs) → is_set xs ≡ true → VertexSet N xs
-          set-of xs l b = let p = and_e (non_empty xs) (distinct xs) (true_is b) in record { under = l; some = p.0; apart = p.1 }
+          set_of : (xs : List ℕ) → T (below N xs) → is_set xs ≡ true → VertexSet N xs
+          set_of xs l b = let p = and_e (non_empty xs) (distinct xs) (true_is b) in record { under = l; some = p.0; apart = p.1 }
 
           pub bundle_of : Bundle N S Ts g
-          bundle_of = record { sources = set-of S sources_below bS; targets = set-of Ts targets_below bT; joined = true_is d }
+          bundle_of = record { sources = set_of S sources_below bS; targets = set_of Ts targets_below bT; joined = true_is d }
 
           pub refused_13 : saves ≡ false → refused 13 ≡ verdict
           unfolding star_verdict below
-          refused_13 e = λ i. chain (sym a i) (sym both-sets i) (sym c i) (sym d i) (sym e i) near
+          refused_13 e = λ i. chain (sym a i) (sym both_sets i) (sym c i) (sym d i) (sym e i) near
 
           module _ (e : saves ≡ true) where
             pub refused_14 : near ≡ false → refused 14 ≡ verdict
             unfolding star_verdict below
-            refused_14 f = λ i. chain (sym a i) (sym both-sets i) (sym c i) (sym d i) (sym e i) (sym f i)
+            refused_14 f = λ i. chain (sym a i) (sym both_sets i) (sym c i) (sym d i) (sym e i) (sym f i)
 
             pub accepted_all : near ≡ true → accepted tt ≡ verdict
             unfolding star_verdict below
-            accepted_all f = λ i. chain (sym a i) (sym both-sets i) (sym c i) (sym d i) (sym e i) (sym f i)
+            accepted_all f = λ i. chain (sym a i) (sym both_sets i) (sym c i) (sym d i) (sym e i) (sym f i)
 
 -- what an accepted verdict gives
 pub star_ready : (m n N : ℕ) (S Ts : List ℕ) (k : ℕ) (g : Graph) (x : Unit {0}) → ((u v : ℕ) → T (fits delay_limit (g u v))) → star_verdict m n N S Ts k g ≡ accepted x → StarReady m n N S Ts k g

@@ -36,17 +36,17 @@ module _ (S Ts : List ℕ) (k : ℕ) (g : Graph) (u v : ℕ) where
   abbrev cell : Bool → Bool → Bool → Delay
   cell a b c = cond a (from_centre S Ts g v) (cond b (to_centre S Ts g u) (cond c absent (g u v)))
 
-  starred-centre : eqb u k ≡ true → starred S Ts k g u v ≡ from_centre S Ts g v
+  starred_centre : eqb u k ≡ true → starred S Ts k g u v ≡ from_centre S Ts g v
   unfolding starred
-  starred-centre a = λ i. cell (a i) (eqb v k) (covered S Ts g u v)
+  starred_centre a = λ i. cell (a i) (eqb v k) (covered S Ts g u v)
 
-  starred-into : eqb u k ≡ false → eqb v k ≡ true → starred S Ts k g u v ≡ to_centre S Ts g u
+  starred_into : eqb u k ≡ false → eqb v k ≡ true → starred S Ts k g u v ≡ to_centre S Ts g u
   unfolding starred
-  starred-into a b = λ i. cell (a i) (b i) (covered S Ts g u v)
+  starred_into a b = λ i. cell (a i) (b i) (covered S Ts g u v)
 
-  starred-beside : (c : Bool) → eqb u k ≡ false → eqb v k ≡ false → covered S Ts g u v ≡ c → starred S Ts k g u v ≡ cond c absent (g u v)
+  starred_beside : (c : Bool) → eqb u k ≡ false → eqb v k ≡ false → covered S Ts g u v ≡ c → starred S Ts k g u v ≡ cond c absent (g u v)
   unfolding starred
-  starred-beside c a b q = λ i. cell (a i) (b i) (q i)
+  starred_beside c a b q = λ i. cell (a i) (b i) (q i)
 
   outside : member u S ≡ false → to_centre S Ts g u ≡ absent
   unfolding to_centre
@@ -62,8 +62,8 @@ module _ {m n N : ℕ} {S Ts : List ℕ} {k : ℕ} {g : Graph} (r : StarReady m 
   written : (v : ℕ) → v < N → get_or row v (pos 0) ≡ write (g u v)
   written v l = sym (written_read absent_cell (get_or row v (pos 0))) ∙ ap write (cells v l)
 
-  centre-row : (v : ℕ) → v < N → u ≡ k → centre_cell row first Ts v ≡ write (from_centre S Ts g v)
-  centre-row v l e = cases (member v Ts)
+  centre_row : (v : ℕ) → v < N → u ≡ k → centre_cell row first Ts v ≡ write (from_centre S Ts g v)
+  centre_row v l e = cases (member v Ts)
       (λ t. centre_target row first Ts v t ∙ ap write (sym (from_first r.bundle first head v (true_is t))))
       (λ f. centre_other row first Ts v f ∙ written v l ∙ ap (λ (x : ℕ). write (g x v)) e ∙ ap write (unused_out w k r.free v) ∙ ap write (sym (untargeted S Ts k g u v f)))
 
@@ -72,26 +72,26 @@ module _ {m n N : ℕ} {S Ts : List ℕ} {k : ℕ} {g : Graph} (r : StarReady m 
     where
       go : Dec (v ≡ k) → get_or row v (pos 0) ≡ write (starred S Ts k g u v)
       go (yes e) =
-          written v l ∙ ap (λ (x : ℕ). write (g u x)) e ∙ ap write (unused_in w k r.free u ∙ sym (outside S Ts k g u v f) ∙ sym (starred-into S Ts k g u v a (ap (λ (x : ℕ). eqb x k) e ∙ eqb_same k)))
-      go (no q) = written v l ∙ ap write (sym (starred-beside S Ts k g u v false a (eqb_other v k q) (no_source S Ts g u v f)))
+          written v l ∙ ap (λ (x : ℕ). write (g u x)) e ∙ ap write (unused_in w k r.free u ∙ sym (outside S Ts k g u v f) ∙ sym (starred_into S Ts k g u v a (ap (λ (x : ℕ). eqb x k) e ∙ eqb_same k)))
+      go (no q) = written v l ∙ ap write (sym (starred_beside S Ts k g u v false a (eqb_other v k q) (no_source S Ts g u v f)))
 
   module _ (ms : T (member u S)) where
     abbrev e : ℤ
     e = ticks (least_gap row first Ts)
 
-    covered-by : (v : ℕ) → (member v Ts && meets row first e v) ≡ covered S Ts g u v
-    covered-by v = cases (member v Ts)
+    covered_by : (v : ℕ) → (member v Ts && meets row first e v) ≡ covered S Ts g u v
+    covered_by v = cases (member v Ts)
         (λ t. yes_first (member v Ts) (meets row first e v) t ∙ sym (covered_is r.bundle first head u ms row cells v (true_is t)))
         (λ f. no_first (member v Ts) (meets row first e v) f ∙ sym (no_target S Ts g u v f))
 
-    cleared-row : (v : ℕ) → v < N → cleared_cell row first Ts e v ≡ write (cond (covered S Ts g u v) absent (g u v))
+    cleared_row : (v : ℕ) → v < N → cleared_cell row first Ts e v ≡ write (cond (covered S Ts g u v) absent (g u v))
     unfolding cleared_cell
-    cleared-row v l = (λ i. cond (covered-by v i) absent_cell (written v l i)) ∙ sym (write_cond (covered S Ts g u v) (g u v))
+    cleared_row v l = (λ i. cond (covered_by v i) absent_cell (written v l i)) ∙ sym (write_cond (covered S Ts g u v) (g u v))
 
     source_row : (v : ℕ) → v < N → eqb u k ≡ false → source_cell row first Ts k e v ≡ write (starred S Ts k g u v)
     source_row v l a = cases (eqb v k)
-        (λ t. at_centre row first Ts k e v t ∙ ap write (sym (starred-into S Ts k g u v a t ∙ to_centre_lem r.bundle first head u ms row cells)))
-        (λ f. beside_centre row first Ts k e v f ∙ cleared-row v l ∙ ap write (sym (starred-beside S Ts k g u v (covered S Ts g u v) a f refl)))
+        (λ t. at_centre row first Ts k e v t ∙ ap write (sym (starred_into S Ts k g u v a t ∙ to_centre_lem r.bundle first head u ms row cells)))
+        (λ f. beside_centre row first Ts k e v f ∙ cleared_row v l ∙ ap write (sym (starred_beside S Ts k g u v (covered S Ts g u v) a f refl)))
 
   pub row_made : (v : ℕ) → v < N → (b : Bool) → b ≡ member u S → cell_after row first Ts k u b v ≡ write (starred S Ts k g u v)
   row_made v l b q = go (ℕ_discrete u k)
@@ -99,7 +99,7 @@ module _ {m n N : ℕ} {S Ts : List ℕ} {k : ℕ} {g : Graph} (r : StarReady m 
       go : Dec (u ≡ k) → cell_after row first Ts k u b v ≡ write (starred S Ts k g u v)
       go (yes e) =
           let a : eqb u k ≡ true = ap (λ (x : ℕ). eqb x k) e ∙ eqb_same k in
-          of_centre row first Ts k u b v a ∙ centre-row v l e ∙ ap write (sym (starred-centre S Ts k g u v a))
+          of_centre row first Ts k u b v a ∙ centre_row v l e ∙ ap write (sym (starred_centre S Ts k g u v a))
       go (no p) = let a = eqb_other u k p in cases (member u S)
           (λ t. of_source row first Ts k u b v a (q ∙ t) ∙ source_row (true_is t) v l a)
           (λ f. of_other row first Ts k u b v a (q ∙ f) ∙ other_row v l a f)

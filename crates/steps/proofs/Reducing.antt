@@ -41,13 +41,13 @@ module _ (N : ℕ) where
   abbrev count : List ℤ → Verdict Reduced
   count x = accepted (record { table = x; steps = 1; arcs_left = arcs N (graph_of N x) })
 
-  counted-means : (r : Fit) (after : List ℤ) → reduced_meaning (counted N r after) after ≡ (fit_table r after then count)
-  counted-means F.Accepted after = refl
-  counted-means (F.Refused x) after = refl
+  counted_means : (r : Fit) (after : List ℤ) → reduced_meaning (counted N r after) after ≡ (fit_table r after then count)
+  counted_means F.Accepted after = refl
+  counted_means (F.Refused x) after = refl
 
-  count-leaves : (v : Verdict (List ℤ)) (t : List ℤ) → left_by (λ x. x) v t ≡ left_by (λ (x : Reduced). x.table) (v then count) t
-  count-leaves (refused x) t = refl
-  count-leaves (accepted x) t = refl
+  count_leaves : (v : Verdict (List ℤ)) (t : List ℤ) → left_by (λ x. x) v t ≡ left_by (λ (x : Reduced). x.table) (v then count) t
+  count_leaves (refused x) t = refl
+  count_leaves (accepted x) t = refl
 
 -- the arcs of the new table are those of the new graph
 counted_step : (b : Board) (t : List ℤ) (q : Step) → Checked b t
@@ -66,8 +66,8 @@ step-counted b t q c after r h x k =
     let v = table_by b q t in
     let whole = counted_step b t q c in
     record {
-      answer = ap (λ (y : Answer). reduced_meaning y after) k ∙ counted-means N r after ∙ ap (λ (y : Verdict (List ℤ)). y then count N) h.answer ∙ whole;
-      left = h.left ∙ count-leaves N v t ∙ ap (λ (y : Verdict Reduced). left_by (λ (x : Reduced). x.table) y t) whole;
+      answer = ap (λ (y : Answer). reduced_meaning y after) k ∙ counted_means N r after ∙ ap (λ (y : Verdict (List ℤ)). y then count N) h.answer ∙ whole;
+      left = h.left ∙ count_leaves N v t ∙ ap (λ (y : Verdict Reduced). left_by (λ (x : Reduced). x.table) y t) whole;
     }
 
 module _ {m n N s : ℕ} {t : List ℤ} {o : List ℕ} {made : Made} (c : Checking m n N s t o made) (q : Step) where

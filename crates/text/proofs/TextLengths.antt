@@ -116,10 +116,10 @@ module _ (N : ℕ) (g : Graph) (few : N ≤ 100) where
   short_row u v zero h k = short_none
   short_row u v (suc c) h k = short_more (arc_in u v (g u v)) (row_arcs g u (suc v) c) (short_cell u v (g u v) h (omega arith)) (short_row u (suc v) c h (omega arith))
 
-  short-rows : (u c : ℕ) → u + c ≤ N → Short (arcs_between N g u c)
+  short_rows : (u c : ℕ) → u + c ≤ N → Short (arcs_between N g u c)
   unfolding arcs_between
-  short-rows u zero k = short_none
-  short-rows u (suc c) k = short_more (row_arcs g u 0 N) (arcs_between N g (suc u) c) (short_row u 0 N (omega arith) (omega arith)) (short-rows (suc u) c (omega arith))
+  short_rows u zero k = short_none
+  short_rows u (suc c) k = short_more (row_arcs g u 0 N) (arcs_between N g (suc u) c) (short_row u 0 N (omega arith) (omega arith)) (short_rows (suc u) c (omega arith))
 
   pub lines_most : length (arc_lines (arcs_of N g)) ≤ 22 * arcs N g
-  lines_most = omega (arith, (short-rows 0 N (omega arith)).most, arcs_count N g)
+  lines_most = omega (arith, (short_rows 0 N (omega arith)).most, arcs_count N g)

@@ -20,27 +20,27 @@ use Rattle.text.proofs.Offsets.{StopsBy, read_stops}
 -- ---- the blank table
 
 module _ {A : Type 0} (x : A) where
-  alike-more : (a b : ℕ) → tabulate a (λ _. x) ++ tabulate b (λ _. x) ≡ tabulate (a + b) (λ _. x)
+  alike_more : (a b : ℕ) → tabulate a (λ _. x) ++ tabulate b (λ _. x) ≡ tabulate (a + b) (λ _. x)
   unfolding tabulate
-  alike-more a zero = let e : a ≡ a + 0 = omega arith in append-nil (tabulate a (λ _. x)) ∙ ap (λ (k : ℕ). tabulate k (λ _. x)) e
-  alike-more a (suc b) =
+  alike_more a zero = let e : a ≡ a + 0 = omega arith in append-nil (tabulate a (λ _. x)) ∙ ap (λ (k : ℕ). tabulate k (λ _. x)) e
+  alike_more a (suc b) =
       let e : suc (a + b) ≡ a + suc b = omega arith in
       sym (append_assoc (tabulate a (λ _. x)) (tabulate b (λ _. x)) (tabulate 1 (λ _. x)))
-      ∙ ap (λ (l : List A). l ++ tabulate 1 (λ _. x)) (alike-more a b)
+      ∙ ap (λ (l : List A). l ++ tabulate 1 (λ _. x)) (alike_more a b)
       ∙ ap (λ (k : ℕ). tabulate k (λ _. x)) e
 
-  alike-rows : (n r : ℕ) → rows n r (λ _ _. x) ≡ tabulate (n * r) (λ _. x)
+  alike_rows : (n r : ℕ) → rows n r (λ _ _. x) ≡ tabulate (n * r) (λ _. x)
   unfolding tabulate rows
-  alike-rows n zero = let e : 0 ≡ n * 0 = omega arith in ap (λ (k : ℕ). tabulate k (λ _. x)) e
-  alike-rows n (suc r) =
+  alike_rows n zero = let e : 0 ≡ n * 0 = omega arith in ap (λ (k : ℕ). tabulate k (λ _. x)) e
+  alike_rows n (suc r) =
       let e : n * r + n ≡ n * suc r = omega arith in
-      ap (λ (l : List A). l ++ tabulate n (λ _. x)) (alike-rows n r) ∙ alike-more (n * r) n ∙ ap (λ (k : ℕ). tabulate k (λ _. x)) e
+      ap (λ (l : List A). l ++ tabulate n (λ _. x)) (alike_rows n r) ∙ alike_more (n * r) n ∙ ap (λ (k : ℕ). tabulate k (λ _. x)) e
 
 pub blank-table : (t : List ℤ) → length t ≡ most_cells → with_graph max_vertices no_arcs t ≡ blank
 unfolding with_graph
 blank-table t e =
     let short : length t ≤ most_cells = omega (arith, e) in
-    ap₂ (λ (a b : List ℤ). a ++ b) (alike-rows absent_cell max_vertices max_vertices) (drop_of_length-le t short)
+    ap₂ (λ (a b : List ℤ). a ++ b) (alike_rows absent_cell max_vertices max_vertices) (drop_of_length-le t short)
     ∙ append-nil blank
 
 -- ---- the call's answer

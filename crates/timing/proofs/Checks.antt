@@ -65,7 +65,7 @@ sound_of m n N g w sizes cells inputs cycle = record { legal = legal; acyclic = 
     legal u v t = record {
       from_below = u<N;
       to_below = v<N;
-      not_input = not-input;
+      not_input = not_input_lem;
       in_range = every_at N (λ v. fits delay_limit (g u v)) (every_at N (λ u. every N (λ v. fits delay_limit (g u v))) cells u u<N) v v<N;
     }
       where
@@ -78,8 +78,8 @@ sound_of m n N g w sizes cells inputs cycle = record { legal = legal; acyclic = 
         clash : v < m → ⊥
         clash l = T_not (present (g u v)) (every_at m (λ i. not (present (g u i))) (every_at N (λ u. every m (λ i. not (present (g u i)))) inputs u u<N) v l) t
 
-        not-input : m ≤ v
-        not-input = leb→le m v (go (leb m v) (λ b. clash (omega (arith, nleb→lt m v b))))
+        not_input_lem : m ≤ v
+        not_input_lem = leb→le m v (go (leb m v) (λ b. clash (omega (arith, nleb→lt m v b))))
           where
             go : (b : Bool) → (T (not b) → ⊥) → T b
             go true h = tt

@@ -41,8 +41,8 @@ swap q y a = ⊕-assoc q y a ∙ ap (λ (d : Delay). q ⊕ d) (⊕-comm y a) ∙
 
 module _ {m n N : ℕ} {g : Graph} (s : Sound m n N g) (r : ℕ → Delay) where
   -- by cases of the required time at v: none, its own, or another output's
-  required-cases : (v : ℕ) (P : Delay → Type 0) → P absent → ((j : ℕ) → j < n → v ≡ m + j → P (mirror (r j))) → ((j : ℕ) → j < n → P (mirror (r j) ⊕ longest g N v (m + j))) → P (mirror (required_at m n N g r v))
-  required-cases v P none own far = rw (mirror_required s r v) (⋓-elim P (mirror (own_time m n r v)) (greatest n (λ j. mirror (r j) ⊕ longest g N v (m + j))) (mine (dec_lt v m) (dec_lt v (m + n))) (theirs (greatest_hit n (λ j. mirror (r j) ⊕ longest g N v (m + j)))))
+  required_cases : (v : ℕ) (P : Delay → Type 0) → P absent → ((j : ℕ) → j < n → v ≡ m + j → P (mirror (r j))) → ((j : ℕ) → j < n → P (mirror (r j) ⊕ longest g N v (m + j))) → P (mirror (required_at m n N g r v))
+  required_cases v P none own far = rw (mirror_required s r v) (⋓-elim P (mirror (own_time m n r v)) (greatest n (λ j. mirror (r j) ⊕ longest g N v (m + j))) (mine (dec_lt v m) (dec_lt v (m + n))) (theirs (greatest_hit n (λ j. mirror (r j) ⊕ longest g N v (m + j)))))
     where
       mine : Dec (v < m) → Dec (v < m + n) → P (mirror (own_time m n r v))
       mine (yes p) _ = rw (own_low m n r v p) none
@@ -72,28 +72,28 @@ module _ {m n N : ℕ} {g : Graph} (s : Sound m n N g) (a r : ℕ → Delay) whe
   abbrev pairs : Delay
   pairs = greatest m (λ i. greatest n (λ j. pair i j))
 
-  pair-⊑ : (i j : ℕ) → i < m → j < n → pair i j ⊑ pairs
-  pair-⊑ i j hi hj = ⊑_trans (greatest_ge n (λ j. pair i j) j hj) (greatest_ge m (λ i. greatest n (λ j. pair i j)) i hi)
+  pair_⊑ : (i j : ℕ) → i < m → j < n → pair i j ⊑ pairs
+  pair_⊑ i j hi hj = ⊑_trans (greatest_ge n (λ j. pair i j) j hj) (greatest_ge m (λ i. greatest n (λ j. pair i j)) i hi)
 
-  late-⊑ : (v : ℕ) → v < N → late v ⊑ pairs
-  late-⊑ v hv = go (dec_lt v m)
+  late_⊑ : (v : ℕ) → v < N → late v ⊑ pairs
+  late_⊑ v hv = go (dec_lt v m)
     where
       through : (i : ℕ) → i < m → mirror (required_at m n N g r v) ⊕ (a i ⊕ L i v) ⊑ pairs
-      through i hi = required-cases s r v (λ (d : Delay). d ⊕ (a i ⊕ L i v) ⊑ pairs) (none_l (a i ⊕ L i v) refl)
-          (λ j hj e. ⊑_trans (⊑-eq (sym (⊕-assoc (mirror (r j)) (a i) (L i v)) ∙ ap (λ (x : ℕ). (mirror (r j) ⊕ a i) ⊕ L i x) e)) (pair-⊑ i j hi hj))
-          (λ j hj. ⊑_trans (⊑-eq (shuffle (mirror (r j)) (L v (m + j)) (a i) (L i v))) (⊑_trans (⊕-left (mirror (r j) ⊕ a i) (closed l i v (m + j))) (pair-⊑ i j hi hj)))
+      through i hi = required_cases s r v (λ (d : Delay). d ⊕ (a i ⊕ L i v) ⊑ pairs) (none_l (a i ⊕ L i v) refl)
+          (λ j hj e. ⊑_trans (⊑-eq (sym (⊕-assoc (mirror (r j)) (a i) (L i v)) ∙ ap (λ (x : ℕ). (mirror (r j) ⊕ a i) ⊕ L i x) e)) (pair_⊑ i j hi hj))
+          (λ j hj. ⊑_trans (⊑-eq (shuffle (mirror (r j)) (L v (m + j)) (a i) (L i v))) (⊑_trans (⊕-left (mirror (r j) ⊕ a i) (closed l i v (m + j))) (pair_⊑ i j hi hj)))
 
       go : Dec (v < m) → late v ⊑ pairs
-      go (yes p) = rw (input_arrival s a v p) (required-cases s r v (λ (d : Delay). d ⊕ a v ⊑ pairs) (none_l (a v) refl) (λ j hj e. absurd (omega arith))
-          (λ j hj. ⊑_trans (⊑-eq (swap (mirror (r j)) (L v (m + j)) (a v))) (pair-⊑ v j p hj)))
+      go (yes p) = rw (input_arrival s a v p) (required_cases s r v (λ (d : Delay). d ⊕ a v ⊑ pairs) (none_l (a v) refl) (λ j hj e. absurd (omega arith))
+          (λ j hj. ⊑_trans (⊑-eq (swap (mirror (r j)) (L v (m + j)) (a v))) (pair_⊑ v j p hj)))
       go (no p) = rw (other_arrival s a v (omega arith)) (pick (greatest_hit m (λ i. a i ⊕ L i v)))
         where
           pick : (greatest m (λ i. a i ⊕ L i v) ≡ absent) ⊎ ((i : ℕ) × (i < m) × (greatest m (λ i. a i ⊕ L i v) ≡ a i ⊕ L i v)) → mirror (required_at m n N g r v) ⊕ greatest m (λ i. a i ⊕ L i v) ⊑ pairs
           pick (inl e) = none_r (mirror (required_at m n N g r v)) e
           pick (inr (i, hi, e)) = rw e (through i hi)
 
-  pair-late : (i j : ℕ) → i < m → j < n → pair i j ⊑ greatest N late
-  pair-late i j hi hj =
+  pair_late : (i j : ℕ) → i < m → j < n → pair i j ⊑ greatest N late
+  pair_late i j hi hj =
       ⊑_trans (⊑-eq (sym (swap (mirror (r j)) (L i (m + j)) (a i))))
       (⊑_trans (⊕-mono (⊑_trans (⊑_trans (greatest_ge n (λ j. mirror (r j) ⊕ L i (m + j)) j hj) (⋓-r (mirror (own_time m n r i)) _)) (⊑-eq (sym (mirror_required s r i)))) (⊑-eq (sym (input_arrival s a i hi))))
       (greatest_ge N late i (omega (arith, s.room))))
@@ -103,7 +103,7 @@ module _ {m n N : ℕ} {g : Graph} (s : Sound m n N g) (a r : ℕ → Delay) whe
   least_of_pairs = same_mirror (
       mirror-smallest N (λ v. required_at m n N g r v ⊖ arrival_at m N g a v)
       ∙ greatest_ext N (λ v. mirror (required_at m n N g r v ⊖ arrival_at m N g a v)) late (λ v _. mirror-⊖ (required_at m n N g r v) (arrival_at m N g a v))
-      ∙ ⊑-antisym (greatest_lub N late pairs late-⊑) (greatest_lub m (λ i. greatest n (λ j. pair i j)) (greatest N late) (λ i hi. greatest_lub n (λ j. pair i j) (greatest N late) (λ j hj. pair-late i j hi hj)))
+      ∙ ⊑-antisym (greatest_lub N late pairs late_⊑) (greatest_lub m (λ i. greatest n (λ j. pair i j)) (greatest N late) (λ i hi. greatest_lub n (λ j. pair i j) (greatest N late) (λ j hj. pair_late i j hi hj)))
       ∙ sym (mirror-smallest m (λ i. smallest n (λ j. (r j ⊖ a i) ⊖ L i (m + j)))
       ∙ greatest_ext m (λ i. mirror (smallest n (λ j. (r j ⊖ a i) ⊖ L i (m + j)))) (λ i. greatest n (λ j. pair i j)) (λ i _. mirror-smallest n (λ j. (r j ⊖ a i) ⊖ L i (m + j))
       ∙ greatest_ext n (λ j. mirror ((r j ⊖ a i) ⊖ L i (m + j))) (λ j. pair i j) (λ j _. mirror-⊖ (r j ⊖ a i) (L i (m + j)) ∙ ap (λ (d : Delay). d ⊕ L i (m + j)) (mirror-⊖ (r j) (a i)))))
@@ -129,7 +129,7 @@ module _ {m n N : ℕ} {g : Graph} (s : Sound m n N g) where
 
   module _ (r : ℕ → Delay) (c : ℕ) (near : (j : ℕ) → j < n → InSpan c (r j)) where
     pub mirrored_span : (v : ℕ) → InSpan (c + N * delay_limit) (mirror (required_at m n N g r v))
-    mirrored_span v = required-cases s r v (InSpan (c + N * delay_limit)) tt
+    mirrored_span v = required_cases s r v (InSpan (c + N * delay_limit)) tt
         (λ j hj _. span_le c (c + N * delay_limit) (mirror (r j)) (omega arith) (mirror_span c (r j) (near j hj)))
         (λ j hj. span_⊕ c (N * delay_limit) (mirror (r j)) (longest g N v (m + j)) (mirror_span c (r j) (near j hj)) (path v (m + j)))
 
@@ -137,9 +137,9 @@ module _ {m n N : ℕ} {g : Graph} (s : Sound m n N g) where
     required_span v = subst (InSpan (c + N * delay_limit)) (mirror_twice (required_at m n N g r v)) (mirror_span (c + N * delay_limit) (mirror (required_at m n N g r v)) (mirrored_span v))
 
   module _ (a r : ℕ → Delay) (c : ℕ) (near-a : (i : ℕ) → i < m → InSpan c (a i)) (near-r : (j : ℕ) → j < n → InSpan c (r j)) where
-    margin-span : (v : ℕ) → InSpan (c + N * delay_limit + (c + N * delay_limit)) (margin_at m n N g a r v)
+    margin_span : (v : ℕ) → InSpan (c + N * delay_limit + (c + N * delay_limit)) (margin_at m n N g a r v)
     unfolding margin_at
-    margin-span v =
+    margin_span v =
         let k = c + N * delay_limit in
         let x = required_at m n N g r v ⊖ arrival_at m N g a v in
         subst (InSpan (k + k)) (mirror_twice x) (mirror_span (k + k) (mirror x) (subst (InSpan (k + k)) (sym (mirror-⊖ (required_at m n N g r v) (arrival_at m N g a v))) (span_⊕ k k (mirror (required_at m n N g r v)) (arrival_at m N g a v) (mirrored_span r c near-r v) (arrival_span a c near-a v))))
@@ -161,7 +161,7 @@ module _ {m n N : ℕ} {g : Graph} (s : Sound m n N g) (few : N ≤ max_vertices
   pub least_cell_lem : least_cell (times m n N g a r).margin ≡ least_margin m n N g (arrival_in a) (arrival_in r)
   unfolding times least_margin
   least_cell_lem = least-cells N (margin_at m n N g (arrival_in a) (arrival_in r)) (λ v _. read_held _ (omega (arith, few)) (margin_at m n N g (arrival_in a) (arrival_in r) v)
-      (margin-span s (arrival_in a) (arrival_in r) arrival_limit (given_span m a fa) (given_span n r fr) v))
+      (margin_span s (arrival_in a) (arrival_in r) arrival_limit (given_span m a fa) (given_span n r fr) v))
 
 -- two graphs with the same matrix have the same least margin
 pub same_margins : {m n N : ℕ} {g g' : Graph} → Sound m n N g → Sound m n N g' → N ≤ max_vertices → ((i j : ℕ) → i < m → j < n → matrix m N g' i j ≡ matrix m N g i j)

@@ -33,14 +33,14 @@ module _ (m n : ℕ) (r : ℕ → Delay) where
       ap (λ (b : Bool). cond b (r (m + j - m)) absent) (T_true {b = leb m (m + j) && ltb (m + j) (m + n)} (and_i (leb m (m + j)) (ltb (m + j) (m + n)) (le→leb m (m + j) (omega arith)) (lt→ltb (m + j) (m + n) (omega arith))))
       ∙ ap r e
 
-  own-none : (v : ℕ) → (m ≤ v → v < m + n → ⊥) → own_time m n r v ≡ absent
-  own-none v h = ap (λ (b : Bool). cond b (r (v - m)) absent) (is_false (leb m v && ltb v (m + n)) (λ t. let p = and_e (leb m v) (ltb v (m + n)) t in h (leb→le m v p.0) (ltb→lt v (m + n) p.1)))
+  own_none : (v : ℕ) → (m ≤ v → v < m + n → ⊥) → own_time m n r v ≡ absent
+  own_none v h = ap (λ (b : Bool). cond b (r (v - m)) absent) (is_false (leb m v && ltb v (m + n)) (λ t. let p = and_e (leb m v) (ltb v (m + n)) t in h (leb→le m v p.0) (ltb→lt v (m + n) p.1)))
 
   pub own_low : (v : ℕ) → v < m → own_time m n r v ≡ absent
-  own_low v l = own-none v (λ h _. omega arith)
+  own_low v l = own_none v (λ h _. omega arith)
 
   pub own_high : (v : ℕ) → m + n ≤ v → own_time m n r v ≡ absent
-  own_high v l = own-none v (λ _ h. omega arith)
+  own_high v l = own_none v (λ _ h. omega arith)
 
 -- the smaller of x and of differences, mirrored: the greater of sums
 mirror-least : (x : Delay) (n : ℕ) (f d : ℕ → Delay) → mirror (x ⋏ smallest n (λ i. f i ⊖ d i)) ≡ mirror x ⋓ greatest n (λ i. mirror (f i) ⊕ d i)
@@ -141,7 +141,7 @@ module _ {m n N : ℕ} {g : Graph} (s : Sound m n N g) where
 
   pub required_recursion : (r : ℕ → Delay) → Only (RequiredTimes m n N g r) N (required_at m n N g r)
   required_recursion r = record {
-    meets = record { each = λ v hv. same_mirror (sym (is v hv) ∙ propagated_equation (within_reversed w) back F v ∙ greatest-on v ∙ sym (mirror-least (own_time m n r v) N (required_at m n N g r) (g v))) };
+    meets = record { each = λ v hv. same_mirror (sym (is v hv) ∙ propagated_equation (within_reversed w) back F v ∙ greatest_on v ∙ sym (mirror-least (own_time m n r v) N (required_at m n N g r) (g v))) };
     only = λ h H v hv. same_mirror (equation_is (within_reversed w) back F (λ v. mirror (h v)) (λ v k. ap mirror (H.each v k) ∙ mirror-least (own_time m n r v) N h (g v)) v hv ∙ is v hv);
   }
     where
@@ -151,5 +151,5 @@ module _ {m n N : ℕ} {g : Graph} (s : Sound m n N g) where
       is : (v : ℕ) → v < N → propagated N (reversed g) F v ≡ mirror (required_at m n N g r v)
       is = required_propagated r F (λ v _. refl)
 
-      greatest-on : (v : ℕ) → F v ⋓ greatest N (λ u. propagated N (reversed g) F u ⊕ g v u) ≡ F v ⋓ greatest N (λ u. mirror (required_at m n N g r u) ⊕ g v u)
-      greatest-on v = ap (λ (d : Delay). F v ⋓ d) (greatest_ext N (λ u. propagated N (reversed g) F u ⊕ g v u) (λ u. mirror (required_at m n N g r u) ⊕ g v u) (λ u k. ap (λ (d : Delay). d ⊕ g v u) (is u k)))
+      greatest_on : (v : ℕ) → F v ⋓ greatest N (λ u. propagated N (reversed g) F u ⊕ g v u) ≡ F v ⋓ greatest N (λ u. mirror (required_at m n N g r u) ⊕ g v u)
+      greatest_on v = ap (λ (d : Delay). F v ⋓ d) (greatest_ext N (λ u. propagated N (reversed g) F u ⊕ g v u) (λ u. mirror (required_at m n N g r u) ⊕ g v u) (λ u k. ap (λ (d : Delay). d ⊕ g v u) (is u k)))

@@ -43,11 +43,11 @@ line board side table v = line_of side board.inputs board.vertices (graph_of boa
 abbrev last : Board → Side → ℕ
 last board side = first_of side board.inputs + count_of side board.inputs board.outputs
 
-abbrev atFirst : Board → Side → ℕ → ℕ → List Try
-atFirst board side a s = firsts_left (try_share board.inputs board.outputs board.vertices side s) (first_of side board.inputs) (count_of side board.inputs board.outputs) a
+abbrev at_first : Board → Side → ℕ → ℕ → List Try
+at_first board side a s = firsts_left (try_share board.inputs board.outputs board.vertices side s) (first_of side board.inputs) (count_of side board.inputs board.outputs) a
 
-abbrev atSecond : Board → Side → ℕ → ℕ → ℕ → List Try
-atSecond board side a b s = seconds_left (try_share board.inputs board.outputs board.vertices side s) (first_of side board.inputs) (count_of side board.inputs board.outputs) a b
+abbrev at_second : Board → Side → ℕ → ℕ → ℕ → List Try
+at_second board side a b s = seconds_left (try_share board.inputs board.outputs board.vertices side s) (first_of side board.inputs) (count_of side board.inputs board.outputs) a b
 
 abbrev entry : Board → Side → ℕ → ℕ → ℕ
 entry board side v j = place_of side board.inputs board.outputs v j
@@ -61,14 +61,14 @@ decreases-compare board table order matrix side sorted steps from end across str
 
 abbrev invariant-seconds : tie.invariant-seconds
 invariant-seconds board table₀ order matrix side sorted steps from end across stride tally₀ rich₀ words₀ a b₀ table tally rich words b =
-    (first_of side board.inputs ≤ b) × (b ≤ last board side) × Sharing board matrix side order (atSecond board side a (first_of side board.inputs)) table₀ tally₀.steps (atSecond board side a b) table words rich tally
+    (first_of side board.inputs ≤ b) × (b ≤ last board side) × Sharing board matrix side order (at_second board side a (first_of side board.inputs)) table₀ tally₀.steps (at_second board side a b) table words rich tally
 
 abbrev decreases-seconds : tie.decreases-seconds
 decreases-seconds board table₀ order matrix side sorted steps from end across stride tally₀ rich₀ words₀ a b₀ table tally rich words b = last board side - b
 
 abbrev invariant-firsts : tie.invariant-firsts
 invariant-firsts board table₀ order matrix side sorted steps from end across stride tally₀ rich₀ words₀ a₀ table tally rich words a =
-    (first_of side board.inputs ≤ a) × (a ≤ last board side) × Sharing board matrix side order (share_tries board.inputs board.outputs board.vertices side) table₀ steps (atFirst board side a) table words rich tally
+    (first_of side board.inputs ≤ a) × (a ≤ last board side) × Sharing board matrix side order (share_tries board.inputs board.outputs board.vertices side) table₀ steps (at_first board side a) table words rich tally
 
 abbrev decreases-firsts : tie.decreases-firsts
 decreases-firsts board table₀ order matrix side sorted steps from end across stride tally₀ rich₀ words₀ a₀ table tally rich words a = last board side - a
@@ -141,7 +141,7 @@ firsts-init c =
     let unmade : RowsKept (side r.before) (board r.before) s.args.table.now c.words-words.result false = record { long = c.words-words.ensures; outputs = λ q. absurd (never q); sets = λ q. absurd (never q) } in (
       omega (arith, from_is r.before),
       omega (arith, from_is r.before),
-      sharing_none (record { steps = s.args.steps; fresh = (renewed r.before).renew.result; sorted = s.args.sorted; made = false }) (share_tries (m r.before) (n r.before) s.args.board.vertices (side r.before)) (atFirst (board r.before) (side r.before) (renewed r.before).first-from.result) (λ q. firsts_all (try_share (m r.before) (n r.before) s.args.board.vertices (side r.before) q) (first_of (side r.before) (m r.before)) (count_of (side r.before) (m r.before) (n r.before)) ∙ ap (λ (x : ℕ). atFirst (board r.before) (side r.before) x q) (sym (from_is r.before))) s.requires.0 s.requires.1.0 (ready (renewed r.before)) r.rich_ones-rich.ensures unmade,
+      sharing_none (record { steps = s.args.steps; fresh = (renewed r.before).renew.result; sorted = s.args.sorted; made = false }) (share_tries (m r.before) (n r.before) s.args.board.vertices (side r.before)) (at_first (board r.before) (side r.before) (renewed r.before).first-from.result) (λ q. firsts_all (try_share (m r.before) (n r.before) s.args.board.vertices (side r.before) q) (first_of (side r.before) (m r.before)) (count_of (side r.before) (m r.before) (n r.before)) ∙ ap (λ (x : ℕ). at_first (board r.before) (side r.before) x q) (sym (from_is r.before))) s.requires.0 s.requires.1.0 (ready (renewed r.before)) r.rich_ones-rich.ensures unmade,
     )
   where
     never : false ≡ true → ⊥
@@ -167,7 +167,7 @@ seconds-init c =
     let h = (firsts c).firsts.invariant.2 in (
       omega (arith, from_is r),
       omega (arith, from_is r),
-      sharing_none (firsts c).firsts.tally (atSecond (board r) (side r) (a c) (first_of (side r) (m r))) (atSecond (board r) (side r) (a c) (renewed r).first-from.result) (λ q. ap (λ (x : ℕ). atSecond (board r) (side r) (a c) x q) (sym (from_is r))) h.running h.held h.ready h.counted h.rows,
+      sharing_none (firsts c).firsts.tally (at_second (board r) (side r) (a c) (first_of (side r) (m r))) (at_second (board r) (side r) (a c) (renewed r).first-from.result) (λ q. ap (λ (x : ℕ). at_second (board r) (side r) (a c) x q) (sym (from_is r))) h.running h.held h.ready h.counted h.rows,
     )
 
 -- in a turn over b
@@ -193,7 +193,7 @@ module _ (k : tie.In-seconds invariant-compare decreases-compare invariant-secon
   on_b : OnSide the_board the_side b
   on_b = record { from = seconds.seconds.invariant.0; below = omega (arith, k.seconds-test.true, end_is (counted turn)) }
 
-  another : a turn ≢ b → (q : ℕ) → atSecond the_board the_side (a turn) b q ≡ try_share the_board.inputs the_board.outputs the_board.vertices the_side q (a turn) b ∷ atSecond the_board the_side (a turn) (b + 1) q
+  another : a turn ≢ b → (q : ℕ) → at_second the_board the_side (a turn) b q ≡ try_share the_board.inputs the_board.outputs the_board.vertices the_side q (a turn) b ∷ at_second the_board the_side (a turn) (b + 1) q
   another ne q = seconds_other (try_share the_board.inputs the_board.outputs the_board.vertices the_side q) (first_of the_side the_board.inputs) (count_of the_side the_board.inputs the_board.outputs) (a turn) b on_b.below ne
 
   -- the rows or columns that are compared
@@ -370,8 +370,8 @@ seconds-preserved c =
     let r = counted (turn k.before) in
     let x = (seconds k.before).seconds in
     let h = x.invariant.2 in
-    let old = atSecond (board r) (side r) (a (turn k.before)) (b k.before) in
-    let new = atSecond (board r) (side r) (a (turn k.before)) (b k.before + 1) in (
+    let old = at_second (board r) (side r) (a (turn k.before)) (b k.before) in
+    let new = at_second (board r) (side r) (a (turn k.before)) (b k.before + 1) in (
       omega (arith, (on_b k.before).from),
       omega (arith, (on_b k.before).below),
       split c.if-a-b.branch-raw
@@ -402,8 +402,8 @@ firsts-preserved c =
     let r = counted f.before.before in
     let h = (firsts f.before.before).firsts.invariant.2 in
     let k = l.seconds.invariant.2 in
-    let begun = sharing_none (firsts f.before.before).firsts.tally (atFirst (board r) (side r) (a f.before.before)) (atSecond (board r) (side r) (a f.before.before) (first_of (side r) (m r))) (λ q. seconds_all (try_share (m r) (n r) (board r).vertices (side r) q) (first_of (side r) (m r)) (count_of (side r) (m r) (n r)) (a f.before.before) (on_a f.before.before).below) h.running h.held h.ready h.counted h.rows in
-    let ended = sharing_none l.seconds.tally (atSecond (board r) (side r) (a f.before.before) l.seconds.b) (atFirst (board r) (side r) (a f.before.before + 1)) (λ q. seconds_done (try_share (m r) (n r) (board r).vertices (side r) q) (first_of (side r) (m r)) (count_of (side r) (m r) (n r)) (a f.before.before) l.seconds.b (omega (arith, c.seconds-test.false, end_is r))) k.running k.held k.ready k.counted k.rows in
+    let begun = sharing_none (firsts f.before.before).firsts.tally (at_first (board r) (side r) (a f.before.before)) (at_second (board r) (side r) (a f.before.before) (first_of (side r) (m r))) (λ q. seconds_all (try_share (m r) (n r) (board r).vertices (side r) q) (first_of (side r) (m r)) (count_of (side r) (m r) (n r)) (a f.before.before) (on_a f.before.before).below) h.running h.held h.ready h.counted h.rows in
+    let ended = sharing_none l.seconds.tally (at_second (board r) (side r) (a f.before.before) l.seconds.b) (at_first (board r) (side r) (a f.before.before + 1)) (λ q. seconds_done (try_share (m r) (n r) (board r).vertices (side r) q) (first_of (side r) (m r)) (count_of (side r) (m r) (n r)) (a f.before.before) l.seconds.b (omega (arith, c.seconds-test.false, end_is r))) k.running k.held k.ready k.counted k.rows in
     (omega (arith, (on_a f.before.before).from), omega (arith, (on_a f.before.before).below), sharing_on (sharing_on (sharing_on h begun) k) ended)
 
 shape_of-table : tie.Need-shape_of-table invariant-compare decreases-compare invariant-seconds decreases-seconds invariant-firsts decreases-firsts
@@ -415,7 +415,7 @@ returns c =
     let h = c.firsts.invariant.2 in
     let r = c in
     let l = c.firsts in
-    let none : (q : ℕ) → atFirst (board r.before.before.before) (side r.before.before.before) l.a q ≡ [] = λ q. firsts_done (try_share (m r.before.before.before) (n r.before.before.before) (board r.before.before.before).vertices (side r.before.before.before) q) (first_of (side r.before.before.before) (m r.before.before.before)) (count_of (side r.before.before.before) (m r.before.before.before) (n r.before.before.before)) l.a (omega (arith, c.firsts-test.false, end_is r.before.before.before)) in
+    let none : (q : ℕ) → at_first (board r.before.before.before) (side r.before.before.before) l.a q ≡ [] = λ q. firsts_done (try_share (m r.before.before.before) (n r.before.before.before) (board r.before.before.before).vertices (side r.before.before.before) q) (first_of (side r.before.before.before) (m r.before.before.before)) (count_of (side r.before.before.before) (m r.before.before.before) (n r.before.before.before)) l.a (omega (arith, c.firsts-test.false, end_is r.before.before.before)) in
     (λ q room. sym (h.way q room) ∙ ap (λ (qs : List Try). round qs (progress l.table l.tally.steps)) (none q), h.ready.order)
 
 pub shares_spec : {M : Type 1} → statement M

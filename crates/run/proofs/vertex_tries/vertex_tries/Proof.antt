@@ -18,8 +18,8 @@ use Rattle.run.proofs.vertex_tries.vertex_tries.Statement.{statement}
 use Rattle.run.proofs.vertex_tries.vertex_tries.Tie as tie
 
 -- the try of vertex v
-abbrev tryOf : Board → VertexStep → ℕ → ℕ → Try
-tryOf b kind s v = try_step b.inputs b.outputs b.vertices s (vertex_step kind v)
+abbrev try_of : Board → VertexStep → ℕ → ℕ → Try
+try_of b kind s v = try_step b.inputs b.outputs b.vertices s (vertex_step kind v)
 
 abbrev from : Board → VertexStep → ℕ
 from b kind = first_vertex kind b.inputs b.outputs
@@ -34,7 +34,7 @@ end_below b MergeBack z = omega (arith, z.roles)
 
 abbrev invariant-loop : tie.invariant-loop-v
 invariant-loop board table₀ kind steps end done₀ v₀ table done v =
-    (length table ≡ length table₀) × Running board (progress table done) × LeanOn board table × Swept board.vertices (tryOf board kind) (from board kind) (times board kind) (progress table₀ steps) v (progress table done)
+    (length table ≡ length table₀) × Running board (progress table done) × LeanOn board table × Swept board.vertices (try_of board kind) (from board kind) (times board kind) (progress table₀ steps) v (progress table done)
 
 abbrev decreases-loop : tie.decreases-loop-v
 decreases-loop board table₀ kind steps end done₀ v₀ table done v = end - v
@@ -51,7 +51,7 @@ loop-v-init c =
     let b = s.args.board in
     let k = s.args.kind in
     let p = progress s.args.table.now s.args.steps in
-    (refl, s.requires.0, s.requires.1, subst (λ (v : ℕ). Swept b.vertices (tryOf b k) (from b k) (times b k) p v p) (sym c.first-v.ensures) (swept_none b.vertices (tryOf b k) (from b k) (times b k) p))
+    (refl, s.requires.0, s.requires.1, subst (λ (v : ℕ). Swept b.vertices (try_of b k) (from b k) (times b k) p v p) (sym c.first-v.ensures) (swept_none b.vertices (try_of b k) (from b k) (times b k) p))
 
 try_vertex-requires : tie.Need-try_vertex-requires invariant-loop decreases-loop
 try_vertex-requires c κs =
@@ -78,7 +78,7 @@ loop-v-preserved c =
       w.try_vertex.auto.table ∙ l.loop-v.invariant.0,
       try_runs l.loop-v.invariant.1 q after w.try_vertex.result w.try_vertex.ensures c.if-try_vertex.done e,
       lean_tried b k l.loop-v.v (progress l.loop-v.table l.loop-v.done) (progress after c.if-try_vertex.done) (try_reaches l.loop-v.invariant.1 q after w.try_vertex.result w.try_vertex.ensures c.if-try_vertex.done e) l.loop-v.invariant.2,
-      swept_next b.vertices (tryOf b k) (from b k) (times b k) (progress s.args.table.now s.args.steps) l.loop-v.v (progress l.loop-v.table l.loop-v.done) (progress after c.if-try_vertex.done)
+      swept_next b.vertices (try_of b k) (from b k) (times b k) (progress s.args.table.now s.args.steps) l.loop-v.v (progress l.loop-v.table l.loop-v.done) (progress after c.if-try_vertex.done)
           (omega (arith, l.end-end.ensures, i.loop-v-test.true))
           (try_reaches l.loop-v.invariant.1 q after w.try_vertex.result w.try_vertex.ensures c.if-try_vertex.done e)
           l.loop-v.invariant.3,
@@ -93,7 +93,7 @@ returns c =
     let s = l in
     let b = s.args.board in
     let k = s.args.kind in
-    swept_all b.vertices (tryOf b k) (from b k) (times b k) (progress s.args.table.now s.args.steps) l.loop-v.v (progress l.loop-v.table l.loop-v.done) (omega (arith, l.end-end.ensures, c.loop-v-test.false)) l.loop-v.invariant.3
+    swept_all b.vertices (try_of b k) (from b k) (times b k) (progress s.args.table.now s.args.steps) l.loop-v.v (progress l.loop-v.table l.loop-v.done) (omega (arith, l.end-end.ensures, c.loop-v-test.false)) l.loop-v.invariant.3
 
 pub vertex_tries_spec : {M : Type 1} → statement M
 vertex_tries_spec =

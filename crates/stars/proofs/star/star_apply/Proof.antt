@@ -29,8 +29,8 @@ use Rattle.stars.proofs.CentreCells.{first_row, gap_is}
 use Rattle.stars.proofs.StarTable.{row_made}
 
 -- what stands at u → v in the end
-abbrev newCell : List ℤ → List ℕ → List ℕ → ℕ → ℕ → ℕ → ℕ → ℤ
-newCell t S Ts k N u v = write_cell absent_cell (starred S Ts k (graph_of N t) u v)
+abbrev new_cell : List ℤ → List ℕ → List ℕ → ℕ → ℕ → ℕ → ℕ → ℤ
+new_cell t S Ts k N u v = write_cell absent_cell (starred S Ts k (graph_of N t) u v)
 
 -- what `row_after` asks of a row, and what it makes of it
 abbrev Asked : List ℤ → List ℤ → List ℕ → ℕ → Bool → Type 0
@@ -40,7 +40,7 @@ abbrev made : List ℤ → List ℤ → List ℕ → ℕ → ℕ → Bool → Li
 made row first Ts k u source = tabulate (length row) (cell_after row first Ts k u source)
 
 abbrev invariant-loop : tie.invariant-loop-u
-invariant-loop table₀ sources targets k n first is-source u₀ table u = (u ≤ n) × (length table ≡ length table₀) × (table ≡ rows n u (newCell table₀ sources targets k n) ++ drop (n * u) table₀)
+invariant-loop table₀ sources targets k n first is-source u₀ table u = (u ≤ n) × (length table ≡ length table₀) × (table ≡ rows n u (new_cell table₀ sources targets k n) ++ drop (n * u) table₀)
 
 abbrev decreases-loop : tie.decreases-loop-u
 decreases-loop table₀ sources targets k n first is-source u₀ table u = n - u
@@ -141,13 +141,13 @@ module _ (c : tie.In-loop-u invariant-loop decreases-loop) where
   asked : Asked row first (Ts start) (k start) source
   asked = (subst (λ (n : ℕ). VertexSet n (Ts start)) (sym wide) (ready start).bundle.targets, (omega (arith, wide, few start), (omega (arith, wide, centre start), near)))
 
-  row_made_of : made row first (Ts start) (k start) u source ≡ tabulate (N start) (newCell (t start) (S start) (Ts start) (k start) (N start) u)
+  row_made_of : made row first (Ts start) (k start) u source ≡ tabulate (N start) (new_cell (t start) (S start) (Ts start) (k start) (N start) u)
   row_made_of =
       ap (λ (n : ℕ). tabulate n (cell_after row first (Ts start) (k start) u source)) wide
       ∙ tabulate_same (N start) _ _ (λ v l. row_made (ready start) (graph_of_within (N start) (t start)) first first_is u row row_is v l source source_is)
 
   lent : take (N start * u + N start - N start * u) (drop (N start * u) head.loop-u.table) ≡ row
-  lent = row_lent (N start) (newCell (t start) (S start) (Ts start) (k start) (N start)) (t start) head.loop-u.table u head.loop-u.invariant.2
+  lent = row_lent (N start) (new_cell (t start) (S start) (Ts start) (k start) (N start)) (t start) head.loop-u.table u head.loop-u.invariant.2
 
 overflow_mul-at : tie.Need-overflow_mul-at invariant-loop decreases-loop
 overflow_mul-at c = omega (arith, inside c)
@@ -180,7 +180,7 @@ loop-u-preserved c =
     let l = (head i.before.before.before.before).loop-u in (
       omega (arith, i.loop-u-test.true),
       c.table-1.given.1 ∙ l.invariant.1,
-      row_back (N s) (newCell (t s) (S s) (Ts s) (k s) (N s)) (t s) l.table l.u l.invariant.2 c.row_after.new.row
+      row_back (N s) (new_cell (t s) (S s) (Ts s) (k s) (N s)) (t s) l.table l.u l.invariant.2 c.row_after.new.row
           (c.row_after.ensures ∙ ap (λ (x : List ℤ). made x (first i.before.before.before.before) (Ts s) (k s) (u i.before.before.before.before) (source i.before.before.before.before)) (lent i.before.before.before.before) ∙ row_made_of i.before.before.before.before),
     )
 

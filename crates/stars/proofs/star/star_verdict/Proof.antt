@@ -79,11 +79,11 @@ module _ (c : tie.Else-not-is_set-2) where
   abbrev st : tie.Start
   st = start seven
 
-  past_9S : Star.is_set (m st) (n st) (N st) (S st) (Ts st) (k st) (g st) (S st) ≡ true
-  past_9S = sym c.is_set.ensures ∙ not-false _ c.if-not-is_set.false-raw
+  past_9_s : Star.is_set (m st) (n st) (N st) (S st) (Ts st) (k st) (g st) (S st) ≡ true
+  past_9_s = sym c.is_set.ensures ∙ not-false _ c.if-not-is_set.false-raw
 
-  past_9T : Star.is_set (m st) (n st) (N st) (S st) (Ts st) (k st) (g st) (Ts st) ≡ true
-  past_9T = sym c.is_set-2.ensures ∙ not-false _ c.if-not-is_set-2.false-raw
+  past_9_t : Star.is_set (m st) (n st) (N st) (S st) (Ts st) (k st) (g st) (Ts st) ≡ true
+  past_9_t = sym c.is_set-2.ensures ∙ not-false _ c.if-not-is_set-2.false-raw
 
 is_free-requires : tie.Need-is_free-requires
 is_free-requires c κs = let s = st c in (s.requires.0, Star.centre_below (m s) (n s) (N s) (S s) (Ts s) (k s) (g s) (past_7 (seven c)))
@@ -92,7 +92,7 @@ returns-then-not-is_free : tie.Need-returns-then-not-is_free
 returns-then-not-is_free c =
     let h = c in
     let s = st h.before.before in
-    Star.refused_8 (m s) (n s) (N s) (S s) (Ts s) (k s) (g s) (past_7 (seven h.before.before)) (past_9S h.before.before) (past_9T h.before.before) (sym c.is_free.ensures ∙ not-true _ c.if-not-is_free.true-raw)
+    Star.refused_8 (m s) (n s) (N s) (S s) (Ts s) (k s) (g s) (past_7 (seven h.before.before)) (past_9_s h.before.before) (past_9_t h.before.before) (sym c.is_free.ensures ∙ not-true _ c.if-not-is_free.true-raw)
 
 all_joined-requires : tie.Need-all_joined-requires
 all_joined-requires c κs = let h = c in ((st h.before.before).requires.0, (low_sources (seven h.before.before), low_targets (seven h.before.before)))
@@ -102,7 +102,7 @@ returns-then-not-all_joined c =
     let f = c in
     let h = f in
     let s = st h.before.before.before.before in
-    Star.refused_10 (m s) (n s) (N s) (S s) (Ts s) (k s) (g s) (past_7 (seven h.before.before.before.before)) (past_9S h.before.before.before.before) (past_9T h.before.before.before.before) (sym f.is_free.ensures ∙ not-false _ f.if-not-is_free.false-raw)
+    Star.refused_10 (m s) (n s) (N s) (S s) (Ts s) (k s) (g s) (past_7 (seven h.before.before.before.before)) (past_9_s h.before.before.before.before) (past_9_t h.before.before.before.before) (sym f.is_free.ensures ∙ not-false _ f.if-not-is_free.false-raw)
     (sym c.all_joined.ensures ∙ not-true _ c.if-not-all_joined.true-raw)
 
 -- past 8 and 10
@@ -120,7 +120,7 @@ module _ (c : tie.Else-not-all_joined) where
   past_10 = sym c.all_joined.ensures ∙ not-false _ c.if-not-all_joined.false-raw
 
   bundle : Bundle (N s₀) (S s₀) (Ts s₀) (g s₀)
-  bundle = Star.bundle_of (m s₀) (n s₀) (N s₀) (S s₀) (Ts s₀) (k s₀) (g s₀) (past_7 (seven nine)) (past_9S nine) (past_9T nine) past_8 past_10
+  bundle = Star.bundle_of (m s₀) (n s₀) (N s₀) (S s₀) (Ts s₀) (k s₀) (g s₀) (past_7 (seven nine)) (past_9_s nine) (past_9_t nine) past_8 past_10
 
 weigh_all-weight-requires : tie.Need-weigh_all-weight-requires
 weigh_all-weight-requires c κs = ((s₀ c).requires.0, bundle c)
@@ -144,7 +144,7 @@ returns-then-weight-sources c =
     let w = c in
     let h = nine (ten w.before.before) in
     let s = s₁ w.before.before in
-    Star.refused_13 (m s) (n s) (N s) (S s) (Ts s) (k s) (g s) (past_7 (seven h)) (past_9S h) (past_9T h) (past_8 (ten w.before.before)) (past_10 (ten w.before.before)) (saves_by w.before.before false (not-below _ _ c.if-weight-sources.true))
+    Star.refused_13 (m s) (n s) (N s) (S s) (Ts s) (k s) (g s) (past_7 (seven h)) (past_9_s h) (past_9_t h) (past_8 (ten w.before.before)) (past_10 (ten w.before.before)) (saves_by w.before.before false (not-below _ _ c.if-weight-sources.true))
 
 past_13 : (c : tie.Else-weight-sources) → let s = s₁ c.before.before in Star.saves (m s) (n s) (N s) (S s) (Ts s) (k s) (g s) ≡ true
 past_13 c = saves_by c.before.before true (is_below _ _ c.if-weight-sources.false)
@@ -154,14 +154,14 @@ returns-then-not-weight c =
     let w = c in
     let h = nine (ten w.before.before.before.before) in
     let s = s₁ w.before.before.before.before in
-    Star.refused_14 (m s) (n s) (N s) (S s) (Ts s) (k s) (g s) (past_7 (seven h)) (past_9S h) (past_9T h) (past_8 (ten w.before.before.before.before)) (past_10 (ten w.before.before.before.before)) (past_13 c.before.before) (near_is w.before.before.before.before ∙ not-true _ c.if-not-weight.true)
+    Star.refused_14 (m s) (n s) (N s) (S s) (Ts s) (k s) (g s) (past_7 (seven h)) (past_9_s h) (past_9_t h) (past_8 (ten w.before.before.before.before)) (past_10 (ten w.before.before.before.before)) (past_13 c.before.before) (near_is w.before.before.before.before ∙ not-true _ c.if-not-weight.true)
 
 returns : tie.Need-returns
 returns c =
     let w = c in
     let h = nine (ten w.before.before.before.before) in
     let s = s₁ w.before.before.before.before in
-    Star.accepted_all (m s) (n s) (N s) (S s) (Ts s) (k s) (g s) (past_7 (seven h)) (past_9S h) (past_9T h) (past_8 (ten w.before.before.before.before)) (past_10 (ten w.before.before.before.before)) (past_13 c.before.before) (near_is w.before.before.before.before ∙ not-false _ c.if-not-weight.false)
+    Star.accepted_all (m s) (n s) (N s) (S s) (Ts s) (k s) (g s) (past_7 (seven h)) (past_9_s h) (past_9_t h) (past_8 (ten w.before.before.before.before)) (past_10 (ten w.before.before.before.before)) (past_13 c.before.before) (near_is w.before.before.before.before ∙ not-false _ c.if-not-weight.false)
 
 pub star_verdict_spec : {M : Type 1} → statement M
 star_verdict_spec =
