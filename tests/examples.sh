@@ -1,5 +1,5 @@
 #!/usr/bin/env bash
-# After `rt ci`: README's first command. The reduced board was worked out by hand (examples/README.md).
+# README's first command. The reduced board was worked out by hand (examples/README.md).
 set -u
 cd "$(dirname "$0")/.." || exit 1
 work=$(mktemp -d)
@@ -27,22 +27,25 @@ expect 'a second time' $? 0 "$board" ''
 # what it shows on a fresh machine, with stand-ins for `rt` and for the `thin` that it builds
 mkdir "$work/examples" "$work/bin"
 cp examples/run examples/late-card-reader.bd "$work/examples"
+mkdir -p "$work/tools" "$work/crates/thin/src"
+cp tools/build "$work/tools"
+cp crates/thin/src/main.rt "$work/crates/thin/src"
 cat > "$work/bin/rt" << 'END'
 #!/bin/sh
-echo 'rt: laws proved (unchanged since it was last proved)'
+echo 'rt: laws: begins with what a check kept in /tmp/laws'
 echo 'Proof.antt:1:1: note: a large term'
-echo 'rt: graph proved (3 s)'
-mkdir -p target/bin
-printf '#!/bin/sh\necho the board\n' > target/bin/thin
-chmod +x target/bin/thin
-echo 'rt: thin proved (1 s)'
-echo 'rt: ok, 3 crates proved'
+echo 'rt: chose --jobs 2 for graph'
+mkdir -p out
+printf '#!/bin/sh\necho the board\n' > out/thin
+chmod +x out/thin
+echo 'rt: chose --jobs 2 for thin'
+echo 'logic=proved functions=1'
 END
 chmod +x "$work/bin/rt"
 PATH=$work/bin:$PATH bash "$work/examples/run" > "$work/out" 2> "$work/err"
-expect 'on a fresh machine' $? 0 $'the board\n' 'proving and building thin and what it rests on, some five minutes:
-rt: graph proved (3 s)
-rt: thin proved (1 s)
+expect 'on a fresh machine' $? 0 $'the board\n' 'proving and building thin and what it rests on, some ten minutes:
+checking graph
+checking thin
 '
 printf '#!/bin/sh\necho rt: thin NOT PROVED\nexit 1\n' > "$work/bin/rt"
 PATH=$work/bin:$PATH bash "$work/examples/run" > "$work/out" 2> "$work/err"

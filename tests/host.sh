@@ -7,8 +7,7 @@ work=$(mktemp -d)
 trap 'rm -rf "$work"' EXIT
 bad=0
 
-# after `rt ci` the proofs are there, and only the archive is written
-rt staticlib host > "$work/log" 2>&1 || { cat "$work/log"; exit 1; }
+tools/build host 2> "$work/log" || { cat "$work/log"; exit 1; }
 
 # a program's source, and the file that has what it must print
 expect() {

@@ -1,10 +1,11 @@
 #!/usr/bin/env bash
-# After `rt ci`: the example's board read under the mill's library, and reduced (examples/README.md); then a library that is refused at its end leaves the mill's in force.
+# The example's board read under the mill's library, and reduced (examples/README.md); then a library that is refused at its end leaves the mill's in force.
 # `replay` makes the calls. What it must print was worked out by hand.
 set -u
 cd "$(dirname "$0")/.." || exit 1
 work=$(mktemp -d)
 trap 'rm -rf "$work"' EXIT
+tools/build replay || exit 1
 
 # numbers of so many bytes, low byte first
 number() {

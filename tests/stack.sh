@@ -1,13 +1,11 @@
 #!/usr/bin/env bash
-# After `rt ci`: the deepest stack of the calls that have exports, and of `thin`. Prints a table; fails where one takes more than its limit.
+# The deepest stack of the calls that have exports, and of `thin`. Prints a table; fails where one takes more than its limit.
 set -euo pipefail
 cd "$(dirname "$0")/.."
 work=$(mktemp -d)
 trap 'rm -rf "$work"' EXIT
 
-for crate in meter host; do
-    rt staticlib "$crate" > "$work/log" 2>&1 || { cat "$work/log"; exit 1; }
-done
+tools/build meter host thin 2> "$work/log" || { cat "$work/log"; exit 1; }
 gcc -std=c11 -Wall -Wextra -Werror -O2 -Iinclude tests/stack.c target/staticlib/libmeter.a target/staticlib/libhost.a -pthread -o "$work/stack"
 
 above=0

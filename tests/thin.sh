@@ -1,11 +1,12 @@
 #!/usr/bin/env bash
-# After `rt ci`: `thin` on small files, and on one whose text no pipe holds whole. What it must print was worked out by hand from document 01.
+# `thin` on small files, and on one whose text no pipe holds whole. What it must print was worked out by hand from document 01.
 # Nothing goes to standard error, whatever is read and wherever it is written.
 set -u
 cd "$(dirname "$0")/.." || exit 1
 thin=target/bin/thin
 work=$(mktemp -d)
 trap 'rm -rf "$work"' EXIT
+tools/build thin || exit 1
 bad=0
 
 fail() {
