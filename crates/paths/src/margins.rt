@@ -24,7 +24,8 @@ fn later(best: i64, a: i64, cell: i32) -> i64
     requires t_2 { T (fits delay_limit (read_cell absent_cell cell)) }
     ensures { read_cell absent_wide result ≡ read_cell absent_wide best ⋓ (read_cell absent_wide a ⊕ read_cell absent_cell cell) }
 {
-    if a == Board::ABSENT_WIDE {
+    let missing = a == Board::ABSENT_WIDE;
+    if missing {
         return best;
     }
     if arrivals::gains(best, a, cell) {

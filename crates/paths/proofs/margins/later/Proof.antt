@@ -17,19 +17,19 @@ use Rattle.paths.proofs.Propagating.{reached}
 use Rattle.paths.proofs.margins.later.Statement.{statement}
 use Rattle.paths.proofs.margins.later.Tie as tie
 
-returns-then-a-eq-ABSENT_WIDE : tie.Need-returns-then-a-eq-ABSENT_WIDE
-returns-then-a-eq-ABSENT_WIDE c =
+returns-then-missing : tie.Need-returns-then-missing
+returns-then-missing c =
     let s = c in
-    ap (read_cell absent_wide) (to_z-of_z s.ranges.best) ∙ sym (ap (λ (d : Delay). read_cell absent_wide s.args.best ⋓ (d ⊕ read_cell absent_cell s.args.cell)) (read_absent absent_wide s.args.a (same_bits {w = w64} {b = absent_wide} s.ranges.a (sfits_lit tt) c.if-a-eq-ABSENT_WIDE.true))
+    ap (read_cell absent_wide) (to_z-of_z s.ranges.best) ∙ sym (ap (λ (d : Delay). read_cell absent_wide s.args.best ⋓ (d ⊕ read_cell absent_cell s.args.cell)) (read_absent absent_wide s.args.a (same_bits {w = w64} {b = absent_wide} s.ranges.a (sfits_lit tt) c.if-missing.true))
     ∙ ⋓-absent (read_cell absent_wide s.args.best))
 
 -- a is present
-module _ (c : tie.Else-a-eq-ABSENT_WIDE) where
+module _ (c : tie.Else-missing) where
   abbrev s : tie.Start
   s = c.before
 
   there : Reached s.args.a
-  there = reached s.args.a (other_bits w64 c.if-a-eq-ABSENT_WIDE.false) s.requires.0
+  there = reached s.args.a (other_bits w64 c.if-missing.false) s.requires.0
 
   sum : SFits w64 (s.args.a +ℤ s.args.cell)
   sum = sum_fits s.args.a s.args.cell there s.requires.1.1 s.requires.1.0
@@ -66,7 +66,7 @@ returns c = ap (read_cell absent_wide) (to_z-of_z (s c.before.before).ranges.bes
 
 pub later_spec : {M : Type 1} → statement M
 later_spec = tie.close (tie.spec
-    returns-then-a-eq-ABSENT_WIDE
+    returns-then-missing
     gains-requires
     overflow_cast-result
     overflow_add-result

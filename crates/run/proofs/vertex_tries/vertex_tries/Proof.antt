@@ -63,26 +63,25 @@ try_vertex-requires c κs =
 overflow_add-done : tie.Need-overflow_add-done invariant-loop decreases-loop
 overflow_add-done c = omega (arith, c.loop-v.invariant.1.bound)
 
-loop-v-preserved : tie.Need-loop-v-preserved invariant-loop decreases-loop
-loop-v-preserved c =
-    let w = c in
-    let i = w in
-    let l = i in
-    let s = l in
-    let b = s.args.board in
-    let k = s.args.kind in
-    let q = vertex_step k l.loop-v.v in
-    let after = w.try_vertex.new.table in
-    let e : c.if-try_vertex.done ≡ l.loop-v.done + gained w.try_vertex.result =
-    split c.if-try_vertex.branch-raw (λ y. counts l.loop-v.done y.if-try_vertex.true y.done-is) (λ y. counts l.loop-v.done y.if-try_vertex.false (omega (arith, y.done-is))) in (
-      w.try_vertex.auto.table ∙ l.loop-v.invariant.0,
-      try_runs l.loop-v.invariant.1 q after w.try_vertex.result w.try_vertex.ensures c.if-try_vertex.done e,
-      lean_tried b k l.loop-v.v (progress l.loop-v.table l.loop-v.done) (progress after c.if-try_vertex.done) (try_reaches l.loop-v.invariant.1 q after w.try_vertex.result w.try_vertex.ensures c.if-try_vertex.done e) l.loop-v.invariant.2,
-      swept_next b.vertices (try_of b k) (from b k) (times b k) (progress s.args.table.now s.args.steps) l.loop-v.v (progress l.loop-v.table l.loop-v.done) (progress after c.if-try_vertex.done)
-          (omega (arith, l.end-end.ensures, i.loop-v-test.true))
-          (try_reaches l.loop-v.invariant.1 q after w.try_vertex.result w.try_vertex.ensures c.if-try_vertex.done e)
-          l.loop-v.invariant.3,
+-- after a turn, where `done` counts what was tried
+turned : (c : tie.After-try_vertex invariant-loop decreases-loop) (done : ℕ) → done ≡ c.loop-v.done + gained c.try_vertex.result → invariant-loop c.args.board c.args.table.now c.args.kind c.args.steps c.end-end.result c.args.steps c.first-v.result c.try_vertex.new.table done (c.loop-v.v + 1)
+turned c done e =
+    let b = c.args.board in
+    let k = c.args.kind in
+    let q = vertex_step k c.loop-v.v in
+    let after = c.try_vertex.new.table in (
+      c.try_vertex.auto.table ∙ c.loop-v.invariant.0,
+      try_runs c.loop-v.invariant.1 q after c.try_vertex.result c.try_vertex.ensures done e,
+      lean_tried b k c.loop-v.v (progress c.loop-v.table c.loop-v.done) (progress after done) (try_reaches c.loop-v.invariant.1 q after c.try_vertex.result c.try_vertex.ensures done e) c.loop-v.invariant.2,
+      swept_next b.vertices (try_of b k) (from b k) (times b k) (progress c.args.table.now c.args.steps) c.loop-v.v (progress c.loop-v.table c.loop-v.done) (progress after done)
+          (omega (arith, c.end-end.ensures, c.loop-v-test.true))
+          (try_reaches c.loop-v.invariant.1 q after c.try_vertex.result c.try_vertex.ensures done e)
+          c.loop-v.invariant.3,
     )
+
+-- no name of the test: a wrong count is then refused at the number itself
+loop-v-preserved : tie.Need-loop-v-preserved invariant-loop decreases-loop
+loop-v-preserved c = turned c.before.before _ (grind (arith, counts))
 
 shape_of-table : tie.Need-shape_of-table invariant-loop decreases-loop
 shape_of-table c = c.loop-v.invariant.0
