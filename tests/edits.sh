@@ -1,117 +1,57 @@
 #!/usr/bin/env bash
-# After `rt ci`: each must-fail edit was refused because a fact no longer holds, and not because a definition's text, a name or a type's arguments went wrong or because the
-# proof file no longer fits the code. First that judgement itself is tried on made-up logs. Arguments are logs to judge alone.
+# Each must-fail edit was refused because a fact no longer holds, and not because a definition's text, a name or a type's arguments went wrong or because the proof file
+# no longer fits the code. First that judgement itself is tried on made-up lines. The argument is what `rt ci` printed: a line for each edit, with the prover's first error
+# as far as rt shows it.
 set -u
 cd "$(dirname "$0")/.." || exit 1
 bad=0
-
-# the first error on standard input, its lines joined
-first_error() {
-    awk '
-        text && !/^  / { exit }
-        text { sub(/^ */, " "); text = text $0 }
-        !text && (/: error/ || /it is not proved that/) { text = $0 }
-        END { print text }'
-}
-
-# the type of what is known, or needed, at a place in the code
-# shellcheck disable=SC2016
-place='`(tie|Rattle·[^` ]*\.(Lts|Tie))\.[^`]*`'
 
 # whether an error says that a fact does not hold
 is_fact() {
     case $1 in
     '') return 1 ;;
     # a definition that is wrong in itself
-    */specs/*': error'*) return 1 ;;
-    *'not in scope'* | *'has no `'* | *'has no field `'* | *': error: expected a'* | *'is applied to an argument'*) return 1 ;;
-    esac
+    ./specs/*': error'*) return 1 ;;
+    *'not in scope'* | *'has no `'* | *'has no field `'* | *'is not a field of record'* | *': error: expected a'* | *'is applied to an argument'*) return 1 ;;
+    # only what cites a declaration that fell
+    *' that depends on `'* | *' that depend on `'* | *' is not admitted'*) return 1 ;;
     # another place, or another need, than the proof file has there
-    ! [[ $1 =~ expected\ type\ $place,?\ but\ this\ has\ type\ $place ]]
+    *'expected type `tie.'*'but this has type `tie.'* | *'where one has `Rattle.'*'.Lts.'[A-Z]*) return 1 ;;
+    esac
 }
 
-# a word, yes or no, and on standard input a log: whether it tells of a fact
+# a word, yes or no, and an error: whether it tells of a fact
 try() {
-    local error verdict=yes
-    error=$(first_error)
-    is_fact "$error" || verdict=no
-    [ "$verdict" = "$1" ] || { echo "edits: judged $verdict: $error"; bad=1; }
+    local verdict=yes
+    is_fact "$2" || verdict=no
+    [ "$verdict" = "$1" ] || { echo "edits: judged $verdict: $2"; bad=1; }
 }
 
-try no <<'END'
-logic=not-proved
-END
-try no <<'END'
-/r/codec/e/specs/Bytes.antt:12:34: error: `numberOf`: expected type `ℕ`, but this has type `(ℕ → ℕ) → ℕ`
-END
-try no <<'END'
-/r/codec/e/proofs/Bytes.antt:12:22: error: `number-same`: `g` is not in scope
-END
-try no <<'END'
-/r/codec/e/proofs/Bytes.antt:12:22: error: `number-same`: this is applied to an argument but has type `ℕ`, which is not a function or extension (path) type
-END
-try no <<'END'
-/r/codec/e/proofs/Bytes.antt:12:22: error: expected an expression, found `=`
-END
-try no <<'END'
-/r/codec/e/proofs/number/Proof.antt:39:12: error: `add-wide`: `tie.Need-add-wide`: module `Rattle·codec·proofs.proofs.number.Tie` has no `Need-add-wide` that can be named from here
-END
-try no <<'END'
-/r/codec/e/proofs/number/Proof.antt:29:1: note: large solution
-/r/codec/e/proofs/number/Proof.antt:31:12: error: `room`: `tie.After-wide`: module `Rattle·codec·proofs.proofs.number.Tie`
-  has no `After-wide` that can be named from here
-END
-try no <<'END'
-/r/codec/e/proofs/number/Proof.antt:57:31: error: `loop-again`: record `Rattle·codec·proofs.proofs.number.Lts.At-loop` has no field `args`
-END
-try no <<'END'
-/r/codec/e/proofs/put_number/Proof.antt:28:96: error: `kept`: record `Rattle·codec·proofs.proofs.put_number.Lts.After-slice-known`
-  has no field `args`
-END
-try no <<'END'
-/r/codec/e/proofs/put_number/Proof.antt:66:5: error: `put-number-spec`: computed as far as they go, the two types first differ where one has `Rattle·codec·proofs.proofs.put_number.Lts.Then1`
-  (expected) and the other has `Rattle·codec·proofs.proofs.put_number.Lts.Else1` (found)
-  expected type `tie.Need-returns Inv-loop μ-loop`, but this has type `tie.Need-loop-holds Inv-loop μ-loop`
-END
-try no <<'END'
-/r/codec/e/proofs/number/Proof.antt:37:30: error: `mul-x`: computed as far as they go, the two types differ only where one has `Rattle·codec·proofs.proofs.number.Lts.In-loop`
-  (expected) and the other has `Rattle·codec·proofs.proofs.number.Lts.After-wide` (found)
-  expected type `tie.In-loop Inv-loop μ-loop`
-  but this has type `Rattle·codec·proofs.proofs.number.Lts.After-wide Rattle·codec·proofs.proofs.number.Reads.Pre Inv-loop μ-loop`
-END
-try yes <<'END'
-/r/codec/e/proofs/of_pattern/Proof.antt:39:5: error: `returns-2`: computed as far as they go, the two types first differ where one has `c .before .greatest .result`
-  (expected) and the other has `18446744073709551615` (found)
-  expected type `Rattle·codec·proofs.proofs.of_pattern.Reads.Post (Rattle·codec·proofs.proofs.of_pattern.Lts.dens Rattle·codec·proofs.proofs.of_pattern.Reads.Pre (c .before .args))`
-  but this has type `toZ w64 (2 ^ 64 - 1) ≡ twos (c .before .args .width) (c .before .args .x)`
-/r/codec/e/proofs/decode/Proof.antt:22:15: error: `decode-spec`: record `Rattle·codec·proofs.proofs.decode.Lts.Start` has no field `before`
-END
-try yes <<'END'
-/r/codec/e/proofs/number/Proof.antt:60:90: error: `loop-again`: `omega`: the goal does not follow from what it read
-END
-try yes <<'END'
-/r/reduction/e/proofs/Boards.antt:39:19: error: `boards-answered`: expected type `Answered boards`, but this has type `map (λ q. q .0) boards ≡ map (λ q. q .0) boards`
-END
-try yes <<'END'
-note: /r/start/src/main.rt:16:5: it is not proved that what `expect` requires holds at this call (`expect-requires`)
-END
+try no ''
+try no './specs/Bytes.antt:12:34: error: `number_of`: expected type `ℕ`, but this has type `(ℕ → ℕ) → ℕ`'
+try no './proofs/Bytes.antt:12:22: error: `number_same`: `g` is not in scope'
+try no './proofs/Bytes.antt:12:22: error: `number_same`: this is applied to an argument but has type `ℕ`, which is not a function or extension (path) type'
+try no './proofs/Bytes.antt:12:22: error: expected an expression, found `=`'
+try no './proofs/number/Proof.antt:39:12: error: `overflow_add-at`: `tie.Need-overflow_add-at`: module `Rattle.codec.proofs.number.Tie` has no `Need-overflow_add-at` that can be named from here'
+try no './proofs/number/Proof.antt:31:12: error: `room`: `tie.After-wide`: module `Rattle.codec.proofs.number.Tie` has no `After-wide` that can be named from here'
+try no './proofs/number/Proof.antt:57:31: error: `loop-i-preserved`: record `Rattle.codec.proofs.number.Lts.At-loop-i` has no field `args`'
+try no './proofs/put_number/Proof.antt:28:96: error: `kept`: record `Rattle.codec.proofs.put_number.Lts.After-slice_known-1` has no field `args`'
+try no './proofs/put_number/Proof.antt:66:5: error: `put_number_spec`: computed as far as they go, the two types first differ where one has `Rattle.codec.proofs.put_number.Lts.Then-x`'
+try no './proofs/put_number/Proof.antt:66:5: error: `put_number_spec`: expected type `tie.Need-returns invariant decreases`, but this has type `tie.Need-loop-i-init invariant decreases`'
+try no './proofs/number/Proof.antt:37:30: error: `overflow_mul-x`: expected type `tie.In-loop-i invariant decreases`, but this has type `tie.After-wide invariant decreases`'
+try no './proofs/shrink_row/Proof.antt:22:5: error: 1 declaration that depends on `returns-then-u-k`, which was rejected, was not checked: shrink_row_spec'
+try no './proofs/later/Proof.antt:31:3: error: `there` is not admitted: rejected'
+try yes './proofs/of_pattern/Proof.antt:39:5: error: `returns`: computed as far as they go, the two types first differ where one has `c.greatest.result` (expected) and the other has `18446744073709551615`'
+try yes './proofs/number/Proof.antt:60:90: error: `loop-i-preserved`: `omega`: the goal does not follow from what it read'
+try yes './proofs/Boards.antt:39:19: error: `boards_answered`: expected type `Answered boards`, but this has type `map (λ q. q.0) boards ≡ map (λ q. q.0) boards`'
+try yes 'note: src/main.rt:16:5: it is not proved that what `expect` requires holds at this call (`expect-requires`)'
 
-# logs: each must tell of a fact
-judge() {
-    local log error
-    for log in "$@"; do
-        error=$(first_error < "$log")
-        is_fact "$error" || { echo "$log: not refused at a fact: ${error:0:1000}"; bad=1; }
-    done
-}
-
-if [ $# -gt 0 ]; then
-    judge "$@"
-    exit $bad
-fi
-shopt -s nullglob
-logs=(target/must-fail/*/*/.log)
-judge "${logs[@]}"
-edits=$(find crates -name '*.edit' | wc -l)
-[ "${#logs[@]}" -eq "$edits" ] || { echo "${#logs[@]} logs for $edits edits"; bad=1; }
+[ $# -eq 1 ] || { echo 'edits: give the file of what rt ci printed'; exit 1; }
+for edit in crates/*/must-fail/*.edit; do
+    crate=${edit#crates/}
+    label="must-fail ${crate%%/*}/${edit##*/}: refused, as it must be"
+    line=$(grep -F -m 1 -- "$label" "$1") || { echo "$edit: not refused"; bad=1; continue; }
+    error=${line#*"$label"}
+    is_fact "${error#: }" || { echo "$edit: not refused at a fact: ${error:0:1000}"; bad=1; }
+done
 exit $bad
