@@ -2,7 +2,7 @@
  * A marking host. The board is a jacquard loom controller whose card reader's line is late: a candidate may reduce the
  * board as he likes, but no greatest delay from an input to an output may change.
  *
- *     rt staticlib host
+ *     tools/build host
  *     gcc -O2 -Iinclude examples/host.c target/staticlib/libhost.a -o host
  */
 #include <inttypes.h>

@@ -1,6 +1,6 @@
 /*
  * Timing models of controller boards, for a host in C: the delay matrix, shrink and prune.
- * Link with target/staticlib/libhost.a, which `rt staticlib host` writes (x86-64).
+ * Link with target/staticlib/libhost.a, which `tools/build host` writes (x86-64).
  *
  * A board has m inputs, n outputs and N vertices: m and n are at least 1, and m + n <= N <= 90. Vertices 0 to m - 1 are
  * inputs, the next n outputs, the others inner.

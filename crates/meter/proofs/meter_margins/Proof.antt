@@ -5,13 +5,11 @@ use Rattle.meter.proofs.meter_margins.Statement.{statement}
 use Rattle.meter.proofs.meter_margins.Tie as tie
 
 returns-in-Done : tie.Need-returns-in-Done
-returns-in-Done c = let d = c in measured d.margins-answer.ensures c.in-Done.is refl
+returns-in-Done c = measured c.margins-answer.ensures c.in-Done.is refl
 
 returns-in-Refused : tie.Need-returns-in-Refused
 returns-in-Refused c =
-    let k = c in
-    let d = k in
-    measured d.margins-answer.ensures k.in-Refused.is c.number.ensures.0
+    measured c.margins-answer.ensures c.in-Refused.is c.number.ensures.0
 
 pub meter_margins_spec : {M : Type 1} → statement M
 meter_margins_spec =

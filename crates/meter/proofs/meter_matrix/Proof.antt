@@ -5,13 +5,11 @@ use Rattle.meter.proofs.meter_matrix.Statement.{statement}
 use Rattle.meter.proofs.meter_matrix.Tie as tie
 
 returns-in-Done : tie.Need-returns-in-Done
-returns-in-Done c = let d = c in (measured d.delay_matrix-answer.ensures.0 c.in-Done.is refl, d.delay_matrix-answer.ensures.1)
+returns-in-Done c = (measured c.delay_matrix-answer.ensures.0 c.in-Done.is refl, c.delay_matrix-answer.ensures.1)
 
 returns-in-Refused : tie.Need-returns-in-Refused
 returns-in-Refused c =
-    let k = c in
-    let d = k in
-    (measured d.delay_matrix-answer.ensures.0 k.in-Refused.is c.number.ensures.0, d.delay_matrix-answer.ensures.1)
+    (measured c.delay_matrix-answer.ensures.0 c.in-Refused.is c.number.ensures.0, c.delay_matrix-answer.ensures.1)
 
 pub meter_matrix_spec : {M : Type 1} → statement M
 meter_matrix_spec =

@@ -6,13 +6,11 @@ use Rattle.meter.proofs.meter_read.Statement.{statement}
 use Rattle.meter.proofs.meter_read.Tie as tie
 
 returns-in-Board : tie.Need-returns-in-Board
-returns-in-Board c = let d = c in (ap read_number (sym (ap read_meaning c.in-Board.is) ∙ d.read-answer.ensures.0), d.read-answer.ensures.1)
+returns-in-Board c = (ap read_number (sym (ap read_meaning c.in-Board.is) ∙ c.read-answer.ensures.0), c.read-answer.ensures.1)
 
 returns-in-Refused : tie.Need-returns-in-Refused
 returns-in-Refused c =
-    let k = c in
-    let d = k in
-    (c.number.ensures.0 ∙ ap read_number (sym (ap read_meaning k.in-Refused.is) ∙ d.read-answer.ensures.0), d.read-answer.ensures.1)
+    (c.number.ensures.0 ∙ ap read_number (sym (ap read_meaning c.in-Refused.is) ∙ c.read-answer.ensures.0), c.read-answer.ensures.1)
 
 pub meter_read_spec : {M : Type 1} → statement M
 meter_read_spec = tie.close (tie.spec

@@ -5,13 +5,11 @@ use Rattle.meter.proofs.meter_run.Statement.{statement}
 use Rattle.meter.proofs.meter_run.Tie as tie
 
 returns-in-Accepted : tie.Need-returns-in-Accepted
-returns-in-Accepted c = let d = c in (measured d.run-answer.ensures.0 c.in-Accepted.is refl, d.run-answer.ensures.1)
+returns-in-Accepted c = (measured c.run-answer.ensures.0 c.in-Accepted.is refl, c.run-answer.ensures.1)
 
 returns-in-Refused : tie.Need-returns-in-Refused
 returns-in-Refused c =
-    let k = c in
-    let d = k in
-    (measured d.run-answer.ensures.0 k.in-Refused.is c.number.ensures.0, d.run-answer.ensures.1)
+    (measured c.run-answer.ensures.0 c.in-Refused.is c.number.ensures.0, c.run-answer.ensures.1)
 
 pub meter_run_spec : {M : Type 1} → statement M
 meter_run_spec =

@@ -27,28 +27,21 @@ abbrev decreases-loop : tie.decreases-loop-met
 decreases-loop words n v u met₀ done₀ met done = left_out done
 
 at-met-requires : tie.Need-at-met-requires invariant-loop decreases-loop
-at-met-requires c κs = let s = c in omega (arith, s.requires.1.0, s.requires.1.1.1.1.sets.long)
+at-met-requires c κs = omega (arith, c.requires.1.0, c.requires.1.1.1.1.sets.long)
 
 loop-met-init : tie.Need-loop-met-init invariant-loop decreases-loop
 loop-met-init c g r =
-    let a = c in
-    let s = a in
-    walked_start s.args.n g (within r) s.args.words.now r.sets s.args.v s.requires.1.0 a.at-met.result c.empty-done.result a.at-met.ensures c.empty-done.ensures
+    walked_start c.args.n g (within r) c.args.words.now r.sets c.args.v c.requires.1.0 c.at-met.result c.empty-done.result c.at-met.ensures c.empty-done.ensures
 
 has-requires : tie.Need-has-requires invariant-loop decreases-loop
-has-requires c κs = let s = c in omega (arith, s.requires.1.1.0, s.requires.0)
+has-requires c κs = omega (arith, c.requires.1.1.0, c.requires.0)
 
 -- none is left
 returns-then-is_empty : tie.Need-returns-then-is_empty invariant-loop decreases-loop
 returns-then-is_empty c g r =
-    let e = c in
-    let w = e in
-    let h = w in
-    let l = h in
-    let s = l in
-    walked_all s.args.n g (within r) s.args.v l.loop-met.met l.loop-met.done (l.loop-met.invariant g r) s.args.u (sym h.has.ensures ∙ not-true _ w.loop-met-test.true-raw)
-    (λ x t. split (true_or-not (holds l.loop-met.done x)) (λ k. k)
-    (λ k. absurd (subst T (e.is_empty.ensures.0 c.if-is_empty.true x) (subst T (sym (w.without-left.ensures x)) (and_i (holds l.loop-met.met x) (not (holds l.loop-met.done x)) t k)))))
+    walked_all c.args.n g (within r) c.args.v c.loop-met.met c.loop-met.done (c.loop-met.invariant g r) c.args.u (sym c.has.ensures ∙ not-true _ c.loop-met-test.true-raw)
+    (λ x t. split (true_or-not (holds c.loop-met.done x)) (λ k. k)
+    (λ k. absurd (subst T (c.is_empty.ensures.0 c.if-is_empty.true x) (subst T (sym (c.without-left.ensures x)) (and_i (holds c.loop-met.met x) (not (holds c.loop-met.done x)) t k)))))
 
 first-x-requires : tie.Need-first-x-requires invariant-loop decreases-loop
 first-x-requires c κs = c.is_empty.ensures.1 c.if-is_empty.false
@@ -76,31 +69,23 @@ plus-done-requires : tie.Need-plus-done-requires invariant-loop decreases-loop
 plus-done-requires c κs = omega (arith, below c, (start c).requires.0)
 
 at-requires : tie.Need-at-requires invariant-loop decreases-loop
-at-requires c κs = let f = c in omega (arith, below f.before, (start f.before).requires.1.1.1.1.sets.long)
+at-requires c κs = omega (arith, below c.before, (start c.before).requires.1.1.1.1.sets.long)
 
 loop-met-smaller : tie.Need-loop-met-smaller invariant-loop decreases-loop
 loop-met-smaller c =
-    let p = c in
-    let f = p in
-    plus_fewer (x f.before.before.before) (head f.before.before.before).loop-met.done p.plus-done.result (omega (arith, below f.before.before.before, (start f.before.before.before).requires.0)) (T-not-false (is_left f.before.before.before).1) p.plus-done.ensures
+    plus_fewer (x c.before.before.before) (head c.before.before.before).loop-met.done c.plus-done.result (omega (arith, below c.before.before.before, (start c.before.before.before).requires.0)) (T-not-false (is_left c.before.before.before).1) c.plus-done.ensures
 
 loop-met-preserved : tie.Need-loop-met-preserved invariant-loop decreases-loop
 loop-met-preserved c g r =
-    let a = c in
-    let p = a in
-    let f = p in
-    let s = start f.before.before.before in
-    let l = (head f.before.before.before).loop-met in
-    walked_turn s.args.n g (within r) s.args.words.now r.sets s.args.v l.met l.done (l.invariant g r) (x f.before.before.before) (is_left f.before.before.before).0
-    a.at.result c.or-met.result p.plus-done.result a.at.ensures c.or-met.ensures p.plus-done.ensures
+    let s = start c.before.before.before in
+    let l = (head c.before.before.before).loop-met in
+    walked_turn s.args.n g (within r) s.args.words.now r.sets s.args.v l.met l.done (l.invariant g r) (x c.before.before.before) (is_left c.before.before.before).0
+    c.at.result c.or-met.result c.plus-done.result c.at.ensures c.or-met.ensures c.plus-done.ensures
 
 -- u is met
 returns : tie.Need-returns invariant-loop decreases-loop
 returns c g r =
-    let h = c in
-    let l = h in
-    let s = l in
-    walked_there s.args.n g (within r) s.args.v l.loop-met.met l.loop-met.done (l.loop-met.invariant g r) s.args.u (sym h.has.ensures ∙ not-false _ c.loop-met-test.false-raw)
+    walked_there c.args.n g (within r) c.args.v c.loop-met.met c.loop-met.done (c.loop-met.invariant g r) c.args.u (sym c.has.ensures ∙ not-false _ c.loop-met-test.false-raw)
 
 pub leads_spec : {M : Type 1} → statement M
 leads_spec =

@@ -36,18 +36,14 @@ put-requires : tie.Need-put-requires invariant-loop decreases-loop
 put-requires c κs = inside c.before.before.before
 
 overflow_add-u : tie.Need-overflow_add-u invariant-loop decreases-loop
-overflow_add-u c = let i = c in omega (arith, i.loop-u-test.true, (start i.before.before.before.before.before.before).requires.0)
+overflow_add-u c = omega (arith, c.loop-u-test.true, (start c.before.before.before.before.before.before).requires.0)
 
 loop-u-smaller : tie.Need-loop-u-smaller invariant-loop decreases-loop
 loop-u-smaller c = omega (arith, c.loop-u-test.true)
 
 loop-u-preserved : tie.Need-loop-u-preserved invariant-loop decreases-loop
 loop-u-preserved c =
-    let p = c in
-    let m = p in
-    let a = m in
-    let i = a in
-    left_turn (loop i.before.before.before.before.before.before).loop-u.invariant i.loop-u-test.true a.at.result m.minus-rest.result a.at.ensures m.minus-rest.ensures p.put.new.words p.put.ensures
+    left_turn (loop c.before.before.before.before.before.before).loop-u.invariant c.loop-u-test.true c.at.result c.minus-rest.result c.at.ensures c.minus-rest.ensures c.put.new.words c.put.ensures
 
 -- after the turns
 module _ (c : tie.After-loop-u invariant-loop decreases-loop) where
@@ -67,15 +63,11 @@ put-requires-2 : tie.Need-put-requires-2 invariant-loop decreases-loop
 put-requires-2 c κs = inside_a c.before.before.before
 
 shape_of-words : tie.Need-shape_of-words invariant-loop decreases-loop
-shape_of-words c = let p = c in p.put-2.ensures.long ∙ p.loop-u.invariant.long
+shape_of-words c = c.put-2.ensures.long ∙ c.loop-u.invariant.long
 
 returns : tie.Need-returns invariant-loop decreases-loop
 returns c =
-    let p = c in
-    let m = p in
-    let a = m in
-    let l = a in
-    left_one l.loop-u.invariant l.loop-u-test.false (before l.before.before.before.before.before.before).args.a (before l.before.before.before.before.before.before).requires.1.1.0 a.at-2.result m.plus-with.result a.at-2.ensures m.plus-with.ensures p.put-2.new.words p.put-2.ensures
+    left_one c.loop-u.invariant c.loop-u-test.false (before c.before.before.before.before.before.before).args.a (before c.before.before.before.before.before.before).requires.1.1.0 c.at-2.result c.plus-with.result c.at-2.ensures c.plus-with.ensures c.put-2.new.words c.put-2.ensures
 
 pub one_source_spec : {M : Type 1} → statement M
 one_source_spec =

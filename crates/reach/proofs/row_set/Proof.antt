@@ -30,15 +30,14 @@ said c = sym (c.is_arc.ensures ∙ ap (λ (z : ℤ). present (read_cell absent_c
 
 loop-v-preserved : tie.Need-loop-v-preserved invariant-loop decreases-loop
 loop-v-preserved c =
-    let a = c in
-    let f : ℕ → Bool = λ u. present (cell_at a.args.row.now u) in
-    let v = a.loop-v.v in
-    let s = a.loop-v.s in
-    let h = a.loop-v.invariant.1 in (
+    let f : ℕ → Bool = λ u. present (cell_at c.args.row.now u) in
+    let v = c.loop-v.v in
+    let s = c.loop-v.s in
+    let h = c.loop-v.invariant.1 in (
       omega arith,
       split c.if-is_arc.branch-raw
-          (λ w. subst (λ (z : Set). Below f (v + 1) z) (sym w.s-is) (below_more f v s w.plus-s.result h (said a.before ∙ w.if-is_arc.true) w.plus-s.ensures))
-          (λ w. subst (λ (z : Set). Below f (v + 1) z) (sym w.s-is) (below_same f v s h (said a.before ∙ w.if-is_arc.false))),
+          (λ w. subst (λ (z : Set). Below f (v + 1) z) (sym w.s-is) (below_more f v s w.plus-s.result h (said c.before ∙ w.if-is_arc.true) w.plus-s.ensures))
+          (λ w. subst (λ (z : Set). Below f (v + 1) z) (sym w.s-is) (below_same f v s h (said c.before ∙ w.if-is_arc.false))),
     )
 
 returns : tie.Need-returns invariant-loop decreases-loop

@@ -23,34 +23,27 @@ targets-requires c κs = (c.requires.0, c.loop-u-test.true)
 
 put-requires : tie.Need-put-requires invariant-loop decreases-loop
 put-requires c κs =
-    let i = c in
-    let h : 2 * i.loop-u.u + 1 < length i.loop-u.words = omega (arith, i.loop-u-test.true, i.loop-u.invariant.1, i.requires.1) in h
+    let h : 2 * c.loop-u.u + 1 < length c.loop-u.words = omega (arith, c.loop-u-test.true, c.loop-u.invariant.1, c.requires.1) in h
 
 overflow_add-u : tie.Need-overflow_add-u invariant-loop decreases-loop
-overflow_add-u c = let i = c in omega (arith, i.loop-u-test.true, i.requires.0.sized.few)
+overflow_add-u c = omega (arith, c.loop-u-test.true, c.requires.0.sized.few)
 
 loop-u-smaller : tie.Need-loop-u-smaller invariant-loop decreases-loop
-loop-u-smaller c = let i = c in omega (arith, i.loop-u-test.true)
+loop-u-smaller c = omega (arith, c.loop-u-test.true)
 
 loop-u-preserved : tie.Need-loop-u-preserved invariant-loop decreases-loop
-loop-u-preserved c =
-    let p = c in
-    let i = p in
-    let l = i in
-    let s = l in (
-      omega (arith, i.loop-u-test.true),
-      p.put.ensures.long ∙ l.loop-u.invariant.1,
-      rows_turn (graph_of s.args.board.vertices s.args.table.now) l.loop-u.words p.put.new.words l.loop-u.u p.targets.result l.loop-u.invariant.2 p.targets.ensures p.put.ensures,
-    )
+loop-u-preserved c = (
+  omega (arith, c.loop-u-test.true),
+  c.put.ensures.long ∙ c.loop-u.invariant.1,
+  rows_turn (graph_of c.args.board.vertices c.args.table.now) c.loop-u.words c.put.new.words c.loop-u.u c.targets.result c.loop-u.invariant.2 c.targets.ensures c.put.ensures,
+)
 
 shape_of-words : tie.Need-shape_of-words invariant-loop decreases-loop
 shape_of-words c = c.loop-u.invariant.1
 
 returns : tie.Need-returns invariant-loop decreases-loop
 returns c =
-    let l = c in
-    let s = l in
-    record { long = omega (arith, s.requires.1, l.loop-u.invariant.1); row = λ u h. l.loop-u.invariant.2 u (omega (arith, c.loop-u-test.false)) }
+    record { long = omega (arith, c.requires.1, c.loop-u.invariant.1); row = λ u h. c.loop-u.invariant.2 u (omega (arith, c.loop-u-test.false)) }
 
 pub row_sets_spec : {M : Type 1} → statement M
 row_sets_spec =

@@ -35,13 +35,12 @@ slice_bounds-row_set-start : tie.Need-slice_bounds-row_set-start
 slice_bounds-row_set-start c = omega (arith, row c, c.requires.0.room)
 
 row_set-requires : tie.Need-row_set-requires
-row_set-requires c κs = let s = c in (s.requires.0.sized.few, lent_long (n s.before) (t s.before) s.args.u s.requires.0.room s.requires.1)
+row_set-requires c κs = (c.requires.0.sized.few, lent_long (n c.before) (t c.before) c.args.u c.requires.0.room c.requires.1)
 
 returns : tie.Need-returns
 returns c =
-    let s = c in
-    row_targets (n s.before.before) (graph_of (n s.before.before) (t s.before.before)) (graph_of_within (n s.before.before) (t s.before.before)) s.args.u (cell_at (lent (n s.before.before) (t s.before.before) s.args.u s.requires.0.room s.requires.1)) c.row_set.result
-    (lent_cell (n s.before.before) (t s.before.before) s.args.u s.requires.0.room s.requires.1) c.row_set.ensures
+    row_targets (n c.before.before) (graph_of (n c.before.before) (t c.before.before)) (graph_of_within (n c.before.before) (t c.before.before)) c.args.u (cell_at (lent (n c.before.before) (t c.before.before) c.args.u c.requires.0.room c.requires.1)) c.row_set.result
+    (lent_cell (n c.before.before) (t c.before.before) c.args.u c.requires.0.room c.requires.1) c.row_set.ensures
 
 pub targets_spec : {M : Type 1} → statement M
 targets_spec =

@@ -32,55 +32,45 @@ module _ (s : tie.Start) where
 
 board_line-first-requires : tie.Need-board_line-first-requires
 board_line-first-requires c κs =
-    let s = c in
-    let z = s.requires.0.lent.sized in
-    (omega (arith, z.roles, z.few), (omega (arith, z.roles, z.few), (omega (arith, z.few), omega (arith, s.requires.1.1.1, size s.before.before))))
+    let z = c.requires.0.lent.sized in
+    (omega (arith, z.roles, z.few), (omega (arith, z.roles, z.few), (omega (arith, z.few), omega (arith, c.requires.1.1.1, size c.before.before))))
 
 put_arcs-last-requires : tie.Need-put_arcs-last-requires
 put_arcs-last-requires c κs =
-    let first = c in
-    let s = first in
-    (s.requires.0, omega (arith, s.requires.1.1.1, size s.before.before.before.before.before.before, few s.before.before.before.before.before.before, first.board_line-first.ensures.end, first.board_line-first.auto.out))
+    (c.requires.0, omega (arith, c.requires.1.1.1, size c.before.before.before.before.before.before, few c.before.before.before.before.before.before, c.board_line-first.ensures.end, c.board_line-first.auto.out))
 
 counts_line-requires : tie.Need-counts_line-requires
-counts_line-requires c κs =
-    let rows = c in
-    let first = rows in
-    let s = first in (
-      omega (arith, s.requires.1.0),
-      (
-        omega (arith, s.requires.1.1.0),
-        omega (
-          arith,
-          s.requires.1.1.1,
-          size s.before.before.before.before.before.before.before.before.before.before,
-          few s.before.before.before.before.before.before.before.before.before.before,
-          counts s.before.before.before.before.before.before.before.before.before.before,
-          first.board_line-first.ensures.end,
-          first.board_line-first.auto.out,
-          rows.put_arcs-last.ensures.end,
-          rows.put_arcs-last.auto.out,
-        ),
-      ),
-    )
+counts_line-requires c κs = (
+  omega (arith, c.requires.1.0),
+  (
+    omega (arith, c.requires.1.1.0),
+    omega (
+      arith,
+      c.requires.1.1.1,
+      size c.before.before.before.before.before.before.before.before.before.before,
+      few c.before.before.before.before.before.before.before.before.before.before,
+      counts c.before.before.before.before.before.before.before.before.before.before,
+      c.board_line-first.ensures.end,
+      c.board_line-first.auto.out,
+      c.put_arcs-last.ensures.end,
+      c.put_arcs-last.auto.out,
+    ),
+  ),
+)
 
 returns : tie.Need-returns
-returns c =
-    let last = c in
-    let rows = last in
-    let first = rows in
-    let s = first in (
-      appends_more (appends_more first.board_line-first.ensures rows.put_arcs-last.ensures) last.counts_line.ensures,
-      omega (
-        arith,
-        size s.before.before.before.before.before.before.before.before.before.before.before.before.before,
-        few s.before.before.before.before.before.before.before.before.before.before.before.before.before,
-        counts s.before.before.before.before.before.before.before.before.before.before.before.before.before,
-        first.board_line-first.ensures.end,
-        rows.put_arcs-last.ensures.end,
-        last.counts_line.ensures.end,
-      ),
-    )
+returns c = (
+  appends_more (appends_more c.board_line-first.ensures c.put_arcs-last.ensures) c.counts_line.ensures,
+  omega (
+    arith,
+    size c.before.before.before.before.before.before.before.before.before.before.before.before.before,
+    few c.before.before.before.before.before.before.before.before.before.before.before.before.before,
+    counts c.before.before.before.before.before.before.before.before.before.before.before.before.before,
+    c.board_line-first.ensures.end,
+    c.put_arcs-last.ensures.end,
+    c.counts_line.ensures.end,
+  ),
+)
 
 pub reduced_text_spec : {M : Type 1} → statement M
 reduced_text_spec =

@@ -11,15 +11,12 @@ use Rattle.text.proofs.refused_text.Tie as tie
 refused_line-requires : tie.Need-refused_line-requires
 refused_line-requires c κs =
     let n = c.number-number in
-    let s = c in
-    (omega (arith, n.ensures.1), (s.requires.0, omega (arith, s.requires.1, refused_most n.result s.args.offset)))
+    (omega (arith, n.ensures.1), (c.requires.0, omega (arith, c.requires.1, refused_most n.result c.args.offset)))
 
 returns : tie.Need-returns
 returns c =
-    let l = c in
-    let n = l in
-    let offset = n.args.offset in
-    (appends_same (ap (λ (k : ℕ). refused_line k offset) n.number-number.ensures.0) l.refused_line.ensures, omega (arith, l.refused_line.ensures.end, refused_most n.number-number.result offset))
+    let offset = c.args.offset in
+    (appends_same (ap (λ (k : ℕ). refused_line k offset) c.number-number.ensures.0) c.refused_line.ensures, omega (arith, c.refused_line.ensures.end, refused_most c.number-number.result offset))
 
 pub refused_text_spec : {M : Type 1} → statement M
 refused_text_spec = tie.close (tie.spec

@@ -21,23 +21,17 @@ module _ (c : tie.After-run-ran) where
 
 reduced_text-requires : tie.Need-reduced_text-requires
 reduced_text-requires c κs =
-    let k = c in
-    let call = k in
-    let a = (s call.before.before.before.before).args in
-    let h = ran_checked a.board.inputs a.board.outputs a.board.vertices (length a.scratch.now) a.table.now call.run-ran.ensures.0 _ _ k.in-Accepted.is in
-    (h.0, (h.1, (h.2, (s call.before.before.before.before).requires.1)))
+    let a = (s c.before.before.before.before).args in
+    let h = ran_checked a.board.inputs a.board.outputs a.board.vertices (length a.scratch.now) a.table.now c.run-ran.ensures.0 _ _ c.in-Accepted.is in
+    (h.0, (h.1, (h.2, (s c.before.before.before.before).requires.1)))
 
 returns-in-Accepted : tie.Need-returns-in-Accepted
 returns-in-Accepted c =
-    let t = c in
-    let k = t in
-    (appends_same (text k.before.before.before.before.before.before.before _ k.in-Accepted.is) t.reduced_text.ensures.0, t.reduced_text.ensures.1)
+    (appends_same (text c.before.before.before.before.before.before.before _ c.in-Accepted.is) c.reduced_text.ensures.0, c.reduced_text.ensures.1)
 
 returns-in-Refused : tie.Need-returns-in-Refused
 returns-in-Refused c =
-    let t = c in
-    let k = t in
-    (appends_same (text k.before.before.before.before.before.before.before _ k.in-Refused.is) t.refused_text.ensures.0, t.refused_text.ensures.1)
+    (appends_same (text c.before.before.before.before.before.before.before _ c.in-Refused.is) c.refused_text.ensures.0, c.refused_text.ensures.1)
 
 pub run_text_spec : {M : Type 1} → statement M
 run_text_spec =

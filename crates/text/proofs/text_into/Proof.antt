@@ -25,22 +25,16 @@ module _ (c : tie.After-read-found) where
 
 refused_text-requires : tie.Need-refused_text-requires
 refused_text-requires c κs =
-    let k = c in
-    let x = k in
-    let s = start x.before.before.before in
-    (omega (arith, s.requires.0, stops_inside s.args.input.now s.requires.1.0 (table_blank x.before.before.before) s.requires.1.1.1.0 x.read-found.ensures.0 _ _ k.in-Refused.is), s.requires.1.1.1.1)
+    let s = start c.before.before.before in
+    (omega (arith, s.requires.0, stops_inside s.args.input.now s.requires.1.0 (table_blank c.before.before.before) s.requires.1.1.1.0 c.read-found.ensures.0 _ _ c.in-Refused.is), s.requires.1.1.1.1)
 
 returns-in-Board : tie.Need-returns-in-Board
 returns-in-Board c =
-    let t = c in
-    let k = t in
-    (appends_same (text k.before.before.before.before.before.before.before.before.before.before _ k.in-Board.is) t.run_text.ensures.0, t.run_text.ensures.1)
+    (appends_same (text c.before.before.before.before.before.before.before.before.before.before _ c.in-Board.is) c.run_text.ensures.0, c.run_text.ensures.1)
 
 returns-in-Refused : tie.Need-returns-in-Refused
 returns-in-Refused c =
-    let t = c in
-    let k = t in
-    (appends_same (text k.before.before.before.before.before.before _ k.in-Refused.is) t.refused_text.ensures.0, t.refused_text.ensures.1)
+    (appends_same (text c.before.before.before.before.before.before _ c.in-Refused.is) c.refused_text.ensures.0, c.refused_text.ensures.1)
 
 pub text_into_spec : {M : Type 1} → statement M
 text_into_spec =

@@ -6,12 +6,7 @@ use Rattle.text.proofs.thin_text.Tie as tie
 
 text_into-requires : tie.Need-text_into-requires
 text_into-requires c κs =
-    let w = c in
-    let r = w in
-    let b = r in
-    let n = b in
-    let s = n in
-    (s.requires.0, (b.built_in.ensures ∙ ap built_in_cells n.none-library.ensures, (r.cells-table.ensures, (w.wide_cells-scratch.ensures, s.requires.1))))
+    (c.requires.0, (c.built_in.ensures ∙ ap built_in_cells c.none-library.ensures, (c.cells-table.ensures, (c.wide_cells-scratch.ensures, c.requires.1))))
 
 pub thin_text_spec : {M : Type 1} → statement M
 thin_text_spec =

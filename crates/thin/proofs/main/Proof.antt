@@ -6,9 +6,7 @@ use Rattle.thin.proofs.main.Tie as tie
 
 slice_bounds-write_all-end : tie.Need-slice_bounds-write_all-end
 slice_bounds-write_all-end c =
-    let t = c in
-    let p = t in
-    simp length-take (omega (arith, t.thin_text-length.ensures.1, t.thin_text-length.auto.out, p.page-out.ensures))
+    simp length-take (omega (arith, c.thin_text-length.ensures.1, c.thin_text-length.auto.out, c.page-out.ensures))
 
 pub main_spec : {M : Type 1} → statement M
 main_spec =

@@ -29,9 +29,8 @@ loop-code-init c = (omega arith, refl, fill_none _ _)
 
 loop-code-preserved : tie.Need-loop-code-preserved invariant-loop decreases-loop
 loop-code-preserved c =
-    let l = c in
-    let i = l.loop-code.invariant in
-    (omega (arith, c.loop-code-test, i.1), simp length-set i.1, fill_turn cell l.args.library.now l.loop-code.library l.loop-code.code _ (omega (arith, c.loop-code-test, i.1)) i.2 (back w32 _ c.built_in_cell.type_inv ∙ c.built_in_cell.ensures))
+    let i = c.loop-code.invariant in
+    (omega (arith, c.loop-code-test, i.1), simp length-set i.1, fill_turn cell c.args.library.now c.loop-code.library c.loop-code.code _ (omega (arith, c.loop-code-test, i.1)) i.2 (back w32 _ c.built_in_cell.type_inv ∙ c.built_in_cell.ensures))
 
 shape_of-library : tie.Need-shape_of-library invariant-loop decreases-loop
 shape_of-library c = c.loop-code.invariant.1

@@ -26,9 +26,8 @@ found c x e = said ticks_meaning c.cell_ticks-ticks.ensures e
 
 returns-in-Of : tie.Need-returns-in-Of
 returns-in-Of c =
-    let t = c in
-    let held : to_z w32 (of_z w32 t.in-Of.d) ≡ t.in-Of.d = search rules in
-    held ∙ sym (ap cell (found t.before _ t.in-Of.is))
+    let held : to_z w32 (of_z w32 c.in-Of.d) ≡ c.in-Of.d = search rules in
+    held ∙ sym (ap cell (found c.before _ c.in-Of.is))
 
 returns-in-Refused : tie.Need-returns-in-Refused
 returns-in-Refused c = sym (ap cell (found c.before _ c.in-Refused.is))

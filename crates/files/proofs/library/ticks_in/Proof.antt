@@ -40,10 +40,10 @@ module _ (k : tie.After-is_arc) where
   found d q = simp (lt-ltb start.args.code (length start.args.library.now) e.if-at-library.false) (ap found_in q)
 
 returns-then-is_arc : tie.Need-returns-then-is_arc
-returns-then-is_arc c = let k = c in ap accepted (held k.before) ∙ sym (found k.before (at (z k.before)) (arc_cell (z k.before) (is_arc k.before ∙ c.if-is_arc.true)))
+returns-then-is_arc c = ap accepted (held c.before) ∙ sym (found c.before (at (z c.before)) (arc_cell (z c.before) (is_arc c.before ∙ c.if-is_arc.true)))
 
 returns : tie.Need-returns
-returns c = let k = c in sym (found k.before absent (absent_cell_lem (z k.before) (is_arc k.before ∙ c.if-is_arc.false)))
+returns c = sym (found c.before absent (absent_cell_lem (z c.before) (is_arc c.before ∙ c.if-is_arc.false)))
 
 pub ticks_in_spec : {M : Type 1} → statement M
 ticks_in_spec =

@@ -42,9 +42,8 @@ under_load-requires c κs = subst Loadable (sym (held c)) (ticks_loadable _ (ask
 
 returns-in-Of : tie.Need-returns-in-Of
 returns-in-Of c =
-    let k = c in
-    let a = (asked k.before).args in
-    back w32 _ c.under_load.type_inv ∙ c.under_load.ensures ∙ ap (λ (z : ℤ). under_load z a.load) (held k.before) ∙ sym (ap cell (delay_from a.library.now a.code a.load (known k.before)))
+    let a = (asked c.before).args in
+    back w32 _ c.under_load.type_inv ∙ c.under_load.ensures ∙ ap (λ (z : ℤ). under_load z a.load) (held c.before) ∙ sym (ap cell (delay_from a.library.now a.code a.load (known c.before)))
 
 returns-in-Refused : tie.Need-returns-in-Refused
 returns-in-Refused c =

@@ -12,13 +12,12 @@ use Rattle.files.proofs.place.blank.Statement.{statement}
 use Rattle.files.proofs.place.blank.Tie as tie
 
 slice_bounds-clear-end-2 : tie.Need-slice_bounds-clear-end-2
-slice_bounds-clear-end-2 c = let s = c in sym (length-take-le _ _ s.requires.1)
+slice_bounds-clear-end-2 c = sym (length-take-le _ _ c.requires.1)
 
 returns : tie.Need-returns
 returns c =
-    let s = c in
-    let e : c.clear.new.row ≡ tabulate (s.args.n * s.args.n) (λ _. absent_cell) = c.clear.ensures ∙ ap (λ (k : ℕ). tabulate k (λ _. absent_cell)) (length-take-le _ _ s.requires.1) in
-    ap (λ (l : List ℤ). l ++ drop (s.args.n * s.args.n) s.args.table.now) e ∙ blanked s.args.n s.args.table.now s.requires.1
+    let e : c.clear.new.row ≡ tabulate (c.args.n * c.args.n) (λ _. absent_cell) = c.clear.ensures ∙ ap (λ (k : ℕ). tabulate k (λ _. absent_cell)) (length-take-le _ _ c.requires.1) in
+    ap (λ (l : List ℤ). l ++ drop (c.args.n * c.args.n) c.args.table.now) e ∙ blanked c.args.n c.args.table.now c.requires.1
 
 pub blank_spec : {M : Type 1} → statement M
 blank_spec =

@@ -35,9 +35,8 @@ module _ (c : tie.In-Cell) where
 
 bounds-loads-v : tie.Need-bounds-loads-v
 bounds-loads-v c =
-    let i = c in
-    let ends = legal _ _ _ _ (cell_is i.before) in
-    omega (arith, ends.1, ends.2, (start (f i.before)).requires.1.1)
+    let ends = legal _ _ _ _ (cell_is c.before) in
+    omega (arith, ends.1, ends.2, (start (f c.before)).requires.1.1)
 
 -- an arc's delay, as the code has it
 arc_is : (c : tie.In-Arc) → to_z w32 (of_z w32 c.in-Arc.d) ≡ c.in-Arc.d

@@ -27,8 +27,7 @@ loop-u-init c = placing_start _ _ _ _ _ c.requires.0
 
 next_arc-found-requires : tie.Need-next_arc-found-requires invariant-loop decreases-loop
 next_arc-found-requires c κs =
-    let s = c in
-    (c.loop-u.invariant.inside, (s.requires.1.1.0, s.requires.1.1.1.0))
+    (c.loop-u.invariant.inside, (c.requires.1.1.0, c.requires.1.1.1.0))
 
 -- what the record does
 module _ (c : tie.After-next_arc-found invariant-loop decreases-loop) where
@@ -43,9 +42,8 @@ shape_of-table-in_default c = c.loop-u.invariant.size
 
 returns-in_default : tie.Need-returns-in_default invariant-loop decreases-loop
 returns-in_default c =
-    let a = c in
-    let h = steps a.before _ c.in_default.is in
-    (placing_graph _ _ _ _ _ _ _ a.loop-u.invariant h, placing_table _ _ _ _ _ _ _ a.loop-u.invariant (start a.before).requires.1.1.1.1 h)
+    let h = steps c.before _ c.in_default.is in
+    (placing_graph _ _ _ _ _ _ _ c.loop-u.invariant h, placing_table _ _ _ _ _ _ _ c.loop-u.invariant (start c.before).requires.1.1.1.1 h)
 
 -- the record is an arc
 module _ (c : tie.In-Arc invariant-loop decreases-loop) where
@@ -80,7 +78,7 @@ cell_of-requires : tie.Need-cell_of-requires invariant-loop decreases-loop
 cell_of-requires c κs = ((start (asked c)).requires.1.0, ((arc c).1.0, (arc c).1.1))
 
 offset_bounds-table-cell_of : tie.Need-offset_bounds-table-cell_of invariant-loop decreases-loop
-offset_bounds-table-cell_of o = let c = o in omega (arith, o.cell_of.ensures.1, area (n c.before) max_vertices (start (asked c.before)).requires.1.0)
+offset_bounds-table-cell_of o = omega (arith, o.cell_of.ensures.1, area (n o.before) max_vertices (start (asked o.before)).requires.1.0)
 
 bounds-table-cell_of : tie.Need-bounds-table-cell_of invariant-loop decreases-loop
 bounds-table-cell_of o = omega (arith, o.cell_of.ensures.1, room o.before)
@@ -90,9 +88,8 @@ loop-u-smaller o = let a = arc o.before in omega (arith, a.1.2, a.1.3)
 
 loop-u-preserved : tie.Need-loop-u-preserved invariant-loop decreases-loop
 loop-u-preserved o =
-    let c = o in
-    let l = (asked c.before).before in
-    simp (o.cell_of.ensures.0, delay_is c.before) (placing_turn _ _ _ _ _ l.loop-u.table l.loop-u.at l.loop-u.invariant (start (asked c.before)).requires.1.1.1.1 (u c.before) (v c.before) (after c.before) (d c.before) (arc c.before))
+    let l = (asked o.before).before in
+    simp (o.cell_of.ensures.0, delay_is o.before) (placing_turn _ _ _ _ _ l.loop-u.table l.loop-u.at l.loop-u.invariant (start (asked o.before)).requires.1.1.1.1 (u o.before) (v o.before) (after o.before) (d o.before) (arc o.before))
 
 pub place_spec : {M : Type 1} → statement M
 place_spec =

@@ -34,21 +34,17 @@ returns-then-bytes-lt2 c = sym (simp (lt-leb 2 (length c.args.bytes.now) c.if-by
 returns-in_default : tie.Need-returns-in_default
 unfolding header
 returns-in_default c =
-    let a = c in
-    sym (simp (two a.before, mark_is a.before false (other_mark a.mark_at-mark.result c.in_default.in_default-own.keys2)))
+    sym (simp (two c.before, mark_is c.before false (other_mark c.mark_at-mark.result c.in_default.in_default-own.keys2)))
 
 returns-then-bytes-lt5 : tie.Need-returns-then-bytes-lt5
 unfolding header
 returns-then-bytes-lt5 c =
-    let a = c in
-    sym (simp (two a.before.before, mark_is a.before.before true (ap is_board c.in-Board.is), lt-leb 5 (length (s a.before.before)) c.if-bytes-lt5.true))
+    sym (simp (two c.before.before, mark_is c.before.before true (ap is_board c.in-Board.is), lt-leb 5 (length (s c.before.before)) c.if-bytes-lt5.true))
 
 returns : tie.Need-returns
 unfolding header
 returns c =
-    let e = c in
-    let a = e in
-    sym (simp (two a.before.before.before.before.before, mark_is a.before.before.before.before.before true (ap is_board e.in-Board.is), le-leb 5 (length (s a.before.before.before.before.before)) e.if-bytes-lt5.false, c.byte-inputs.ensures.0, c.byte-outputs.ensures.0, c.byte-vertices.ensures.0))
+    sym (simp (two c.before.before.before.before.before, mark_is c.before.before.before.before.before true (ap is_board c.in-Board.is), le-leb 5 (length (s c.before.before.before.before.before)) c.if-bytes-lt5.false, c.byte-inputs.ensures.0, c.byte-outputs.ensures.0, c.byte-vertices.ensures.0))
 
 pub first_record_spec : {M : Type 1} → statement M
 first_record_spec =

@@ -9,9 +9,7 @@ use Rattle.files.proofs.read.load.Tie as tie
 
 scan-scanned-requires : tie.Need-scan-scanned-requires
 scan-scanned-requires c κs =
-    let n = c in
-    let s = n in
-    (s.requires.1.0, (s.requires.0.sized.few, (omega (arith, s.requires.0.sized.few, n.none-loads.ensures.0), n.none-loads.ensures.1)))
+    (c.requires.1.0, (c.requires.0.sized.few, (omega (arith, c.requires.0.sized.few, c.none-loads.ensures.0), c.none-loads.ensures.1)))
 
 module _ (k : tie.After-scan-scanned) where
   abbrev b : tie.After-blank
@@ -22,19 +20,17 @@ module _ (k : tie.After-scan-scanned) where
 
 fill-requires : tie.Need-fill-requires
 fill-requires c κs =
-    let a = c in
-    let k = a in
-    let s = start k.before.before.before.before in (
-      blank_lent _ _ _ s.requires.0 (b k.before.before.before.before).blank.ensures,
+    let s = start c.before.before.before.before in (
+      blank_lent _ _ _ s.requires.0 (b c.before.before.before.before).blank.ensures,
       (
         s.requires.1.0,
         (
           s.requires.1.1,
           (
-            omega (arith, s.requires.0.sized.few, k.none-loads.ensures.0, k.scan-scanned.auto.loads),
+            omega (arith, s.requires.0.sized.few, c.none-loads.ensures.0, c.scan-scanned.auto.loads),
             (
-              k.scan-scanned.ensures.counted a.in-Done.is,
-              ap (graph_of s.args.board.vertices) (b k.before.before.before.before).blank.ensures ∙ blank_graph _ _,
+              c.scan-scanned.ensures.counted c.in-Done.is,
+              ap (graph_of s.args.board.vertices) (b c.before.before.before.before).blank.ensures ∙ blank_graph _ _,
             ),
           ),
         ),
@@ -43,14 +39,11 @@ fill-requires c κs =
 
 returns-in-Done : tie.Need-returns-in-Done
 returns-in-Done c =
-    let a = c in
-    let k = a in
-    loaded _ (sizes_of (start k.before.before.before.before.before.before).args.board) _ _ _ (b k.before.before.before.before.before.before).blank.ensures _ k.scan-scanned.ensures.answer a.in-Done.is _ _ c.fill.ensures
+    loaded _ (sizes_of (start c.before.before.before.before.before.before).args.board) _ _ _ (b c.before.before.before.before.before.before).blank.ensures _ c.scan-scanned.ensures.answer c.in-Done.is _ _ c.fill.ensures
 
 returns : tie.Need-returns
 returns c =
-    let k = c in
-    not-loaded _ (sizes_of (start k.before.before).args.board) _ _ _ (b k.before.before).blank.ensures _ k.scan-scanned.ensures.answer _ _ c.in_default.is
+    not-loaded _ (sizes_of (start c.before.before).args.board) _ _ _ (b c.before.before).blank.ensures _ c.scan-scanned.ensures.answer _ _ c.in_default.is
 
 pub load_spec : {M : Type 1} → statement M
 load_spec =

@@ -23,13 +23,11 @@ module _ (c : tie.After-first_record-header) where
 
 returns-in-Sizes : tie.Need-returns-in-Sizes
 returns-in-Sizes c =
-    let a = c in
-    opened_on _ _ _ _ (in_force a.before.before) _ _ _ (header_is a.before.before _ c.in-Sizes.is) _ c.memory_checked.ensures
+    opened_on _ _ _ _ (in_force c.before.before) _ _ _ (header_is c.before.before _ c.in-Sizes.is) _ c.memory_checked.ensures
 
 returns-in-Refused : tie.Need-returns-in-Refused
 returns-in-Refused c =
-    let a = c in
-    refusal _ (opened_off _ _ _ _ (in_force a.before) _ _ (header_is a.before _ c.in-Refused.is))
+    refusal _ (opened_off _ _ _ _ (in_force c.before) _ _ (header_is c.before _ c.in-Refused.is))
 
 pub open_spec : {M : Type 1} → statement M
 open_spec =

@@ -15,22 +15,17 @@ said c r e = sym c.open-opened.ensures.answer ∙ ap open_meaning e
 
 load-loaded-requires : tie.Need-load-loaded-requires
 load-loaded-requires c κs =
-    let a = c in
-    ((a.open-opened.ensures.lent _ c.in-Board.is).0, (opened_long _ _ _ _ _ (said a.before.before _ c.in-Board.is), (a.open-opened.ensures.lent _ c.in-Board.is).1))
+    ((c.open-opened.ensures.lent _ c.in-Board.is).0, (opened_long _ _ _ _ _ (said c.before.before _ c.in-Board.is), (c.open-opened.ensures.lent _ c.in-Board.is).1))
 
 returns-in-Done : tie.Need-returns-in-Done
 returns-in-Done c =
-    let l = c in
-    let b = l in
-    let e = said b.before.before.before.before.before _ b.in-Board.is in
-    (call_done _ _ _ _ _ e _ _ l.load-loaded.ensures c.in-Done.is, call_table _ _ _ _ _ e _ _ l.load-loaded.ensures)
+    let e = said c.before.before.before.before.before _ c.in-Board.is in
+    (call_done _ _ _ _ _ e _ _ c.load-loaded.ensures c.in-Done.is, call_table _ _ _ _ _ e _ _ c.load-loaded.ensures)
 
 returns-in-Refused-loaded : tie.Need-returns-in-Refused-loaded
 returns-in-Refused-loaded c =
-    let l = c in
-    let b = l in
-    let e = said b.before.before.before.before.before _ b.in-Board.is in
-    (call_refused _ _ _ _ _ e _ _ l.load-loaded.ensures _ _ c.in-Refused-loaded.is, call_table _ _ _ _ _ e _ _ l.load-loaded.ensures)
+    let e = said c.before.before.before.before.before _ c.in-Board.is in
+    (call_refused _ _ _ _ _ e _ _ c.load-loaded.ensures _ _ c.in-Refused-loaded.is, call_table _ _ _ _ _ e _ _ c.load-loaded.ensures)
 
 returns-in-Refused : tie.Need-returns-in-Refused
 returns-in-Refused c =

@@ -13,25 +13,19 @@ known c x e = subst (LegalEntry c.args.bytes.now c.args.cursor.at) e c.requires.
 
 entry_turn-requires : tie.Need-entry_turn-requires
 entry_turn-requires c κs =
-    let i = c in
-    let s = i in
-    let l = known s.before.before.before _ i.in-Ticks.is in
-    (omega (arith, l.1), (omega arith, s.requires.0.few))
+    let l = known c.before.before.before _ c.in-Ticks.is in
+    (omega (arith, l.1), (omega arith, c.requires.0.few))
 
 end_turn-requires : tie.Need-end_turn-requires
-end_turn-requires c κs = let i = c in known i.before.before _ i.in-End.is
+end_turn-requires c κs = known c.before.before _ c.in-End.is
 
 returns-in-Ticks : tie.Need-returns-in-Ticks
 returns-in-Ticks c =
-    let i = c in
-    let s = i in
-    record_is entry_shape s.args.bytes.now i.in-Ticks.is (known s.before.before.before.before _ i.in-Ticks.is).0 c.entry_turn.ensures
+    record_is entry_shape c.args.bytes.now c.in-Ticks.is (known c.before.before.before.before _ c.in-Ticks.is).0 c.entry_turn.ensures
 
 returns-in-End : tie.Need-returns-in-End
 returns-in-End c =
-    let i = c in
-    let s = i in
-    record_is entry_shape s.args.bytes.now i.in-End.is (omega arith) c.end_turn.ensures
+    record_is entry_shape c.args.bytes.now c.in-End.is (omega arith) c.end_turn.ensures
 
 pub item_turn_spec : {M : Type 1} → statement M
 item_turn_spec =

@@ -28,9 +28,7 @@ decreases-loop bytes library₀ at₀ library at = length bytes - at
 
 loop-item-init : tie.Need-loop-item-init invariant-loop decreases-loop
 loop-item-init c =
-    let k = c in
-    let s = k in
-    placing_start _ _ (k.clear.ensures ∙ ap (λ (n : ℕ). tabulate n (λ _. absent_cell)) s.requires)
+    placing_start _ _ (c.clear.ensures ∙ ap (λ (n : ℕ). tabulate n (λ _. absent_cell)) c.requires)
 
 entry_at-found-requires : tie.Need-entry_at-found-requires invariant-loop decreases-loop
 entry_at-found-requires c κs = c.loop-item.invariant.inside
@@ -47,7 +45,7 @@ module _ (c : tie.After-entry_at-found invariant-loop decreases-loop) where
   found x e = said entry_meaning c.entry_at-found.ensures e
 
 returns-in_default : tie.Need-returns-in_default invariant-loop decreases-loop
-returns-in_default c = let k = c in placing_stop _ _ _ (l k.before).loop-item.invariant _ (found k.before _ c.in_default.is)
+returns-in_default c = placing_stop _ _ _ (l c.before).loop-item.invariant _ (found c.before _ c.in_default.is)
 
 -- an entry does
 module _ (c : tie.In-Entry invariant-loop decreases-loop) where
@@ -58,7 +56,7 @@ module _ (c : tie.In-Entry invariant-loop decreases-loop) where
   is x e = found k _ c.in-Entry.is ∙ ap accepted e
 
 returns-in_default-item : tie.Need-returns-in_default-item invariant-loop decreases-loop
-returns-in_default-item c = let o = c in placing_end _ _ _ (l (k o.before)).loop-item.invariant _ (is o.before _ c.in_default-item.is)
+returns-in_default-item c = placing_end _ _ _ (l (k c.before)).loop-item.invariant _ (is c.before _ c.in_default-item.is)
 
 -- with ticks
 module _ (c : tie.In-Ticks invariant-loop decreases-loop) where
@@ -94,11 +92,10 @@ loop-item-preserved c = simp (held c) (placing_turn _ _ _ (l (k (o c))).loop-ite
 
 shape_of-library-in_default : tie.Need-shape_of-library-in_default invariant-loop decreases-loop
 shape_of-library-in_default c =
-    let h = c in
-    placing_length _ _ _ h.loop-item.invariant ∙ sym (start c.before).requires
+    placing_length _ _ _ c.loop-item.invariant ∙ sym (start c.before).requires
 
 shape_of-library-in_default-item : tie.Need-shape_of-library-in_default-item invariant-loop decreases-loop
-shape_of-library-in_default-item c = let o = c in placing_length _ _ _ (l (k o.before)).loop-item.invariant ∙ sym (start (k o.before)).requires
+shape_of-library-in_default-item c = placing_length _ _ _ (l (k c.before)).loop-item.invariant ∙ sym (start (k c.before)).requires
 
 pub place_entries_spec : {M : Type 1} → statement M
 place_entries_spec =

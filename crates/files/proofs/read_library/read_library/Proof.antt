@@ -30,10 +30,8 @@ place_entries-requires c κs = c.if-library-ne-CODES.false
 
 returns-in-Done : tie.Need-returns-in-Done
 returns-in-Done c =
-    let p = c in
-    let t = p in
-    let e = call t.before.before.before.before _ t.in-Done.is in
-    (ap scan_meaning t.in-Done.is ∙ sym e, p.place_entries.ensures ∙ sym (simp e))
+    let e = call c.before.before.before.before _ c.in-Done.is in
+    (ap scan_meaning c.in-Done.is ∙ sym e, c.place_entries.ensures ∙ sym (simp e))
 
 returns-in_default : tie.Need-returns-in_default
 returns-in_default c =

@@ -23,25 +23,20 @@ turn-turned-requires c κs = c.records.invariant.within
 
 records-smaller : tie.Need-records-smaller invariant-records decreases-records
 records-smaller c =
-    let u = c in
-    let f = u.turn-turned.ensures.further _ c.in-On.is in
+    let f = c.turn-turned.ensures.further _ c.in-On.is in
     omega (arith, f.0, f.1.inside)
 
 records-preserved : tie.Need-records-preserved invariant-records decreases-records
 records-preserved c =
-    let u = c in
-    still_left entry_shape _ _ (entry_short _) u.records.invariant u.turn-turned.ensures _ c.in-On.is
+    still_left entry_shape _ _ (entry_short _) c.records.invariant c.turn-turned.ensures _ c.in-On.is
 
 returns-in-Done : tie.Need-returns-in-Done invariant-records decreases-records
 returns-in-Done c =
-    let u = c in
-    turn_says entry_shape _ _ (entry_short _) u.records.invariant u.turn-turned.ensures c.in-Done.is
+    turn_says entry_shape _ _ (entry_short _) c.records.invariant c.turn-turned.ensures c.in-Done.is
 
 returns-in-Refused : tie.Need-returns-in-Refused invariant-records decreases-records
 returns-in-Refused c =
-    let k = c in
-    let u = k in
-    turn_says entry_shape _ _ (entry_short _) u.records.invariant u.turn-turned.ensures k.in-Refused.is
+    turn_says entry_shape _ _ (entry_short _) c.records.invariant c.turn-turned.ensures c.in-Refused.is
 
 pub scan_entries_spec : {M : Type 1} → statement M
 scan_entries_spec =

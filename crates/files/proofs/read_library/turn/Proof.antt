@@ -14,23 +14,15 @@ found c x e = said entry_meaning c.entry_at-found.ensures e
 
 item_turn-requires : tie.Need-item_turn-requires
 item_turn-requires c κs =
-    let f = c in
-    let r = f in
-    let s = r in
-    (s.requires, legal_entry s.args.bytes.now s.args.cursor.at _ (found r.before _ f.in-Entry.is))
+    (c.requires, legal_entry c.args.bytes.now c.args.cursor.at _ (found c.before _ c.in-Entry.is))
 
 returns-in-Entry : tie.Need-returns-in-Entry
 returns-in-Entry c =
-    let f = c in
-    let r = f in
-    found_is entry_shape r.args.bytes.now (found r.before.before _ f.in-Entry.is) c.item_turn.ensures
+    found_is entry_shape c.args.bytes.now (found c.before.before _ c.in-Entry.is) c.item_turn.ensures
 
 returns-in-Refused : tie.Need-returns-in-Refused
 returns-in-Refused c =
-    let f = c in
-    let r = f in
-    let s = r in
-    found_is entry_shape s.args.bytes.now (found r.before _ f.in-Refused.is) (refuses _ s.args.cursor.at (λ onward. refl))
+    found_is entry_shape c.args.bytes.now (found c.before _ c.in-Refused.is) (refuses _ c.args.cursor.at (λ onward. refl))
 
 pub turn_spec : {M : Type 1} → statement M
 turn_spec =

@@ -14,15 +14,13 @@ returns-then-count-cursor c =
 
 returns-then-end-bytes : tie.Need-returns-then-end-bytes
 returns-then-end-bytes c =
-    let e = c in
-    let a = e.args in
-    refuses FileGoesOn (a.cursor.at + 4) (λ onward. simp (eq-eqb a.count a.cursor.count e.if-count-cursor.false, ne_eqb (a.cursor.at + 4) (length a.bytes.now) c.if-end-bytes.true))
+    let a = c.args in
+    refuses FileGoesOn (a.cursor.at + 4) (λ onward. simp (eq-eqb a.count a.cursor.count c.if-count-cursor.false, ne_eqb (a.cursor.at + 4) (length a.bytes.now) c.if-end-bytes.true))
 
 returns : tie.Need-returns
 returns c =
-    let e = c in
-    let a = e.args in
-    ends (λ onward. simp (eq-eqb a.count a.cursor.count e.if-count-cursor.false, eq-eqb (a.cursor.at + 4) (length a.bytes.now) c.if-end-bytes.false))
+    let a = c.args in
+    ends (λ onward. simp (eq-eqb a.count a.cursor.count c.if-count-cursor.false, eq-eqb (a.cursor.at + 4) (length a.bytes.now) c.if-end-bytes.false))
 
 pub end_turn_spec : {M : Type 1} → statement M
 end_turn_spec = tie.close (tie.spec

@@ -15,12 +15,10 @@ returns-then-place-cursor c =
 
 returns : tie.Need-returns
 returns c =
-    let e = c in
-    let s = e in
-    let a = s.args in
+    let a = c.args in
     goes_on (record { at = a.after; low = a.place + 1; count = a.cursor.count + 1 })
-    (λ onward. simp (le-leb a.cursor.low a.place e.if-place-cursor.false, add-one a.place, add-one a.cursor.count))
-    s.requires.1.0
+    (λ onward. simp (le-leb a.cursor.low a.place c.if-place-cursor.false, add-one a.place, add-one a.cursor.count))
+    c.requires.1.0
     (record { inside = omega arith; few = omega arith })
 
 pub entry_turn_spec : {M : Type 1} → statement M

@@ -19,8 +19,7 @@ arc_is c = search rules
 
 returns-in-Arc : tie.Need-returns-in-Arc
 returns-in-Arc c =
-    let i = c in
-    (λ k. accepted (R.Arc i.in-Arc.u i.in-Arc.v (arc_is c k))) ∙ sym (ap (format.known i.args.library.now) i.in-Arc.is)
+    (λ k. accepted (R.Arc c.in-Arc.u c.in-Arc.v (arc_is c k))) ∙ sym (ap (format.known c.args.library.now) c.in-Arc.is)
 
 -- a cell, once its ticks are asked
 module _ (t : tie.After-ticks_in-ticks) where
@@ -40,10 +39,10 @@ returns-in-Of : tie.Need-returns-in-Of
 returns-in-Of c = sym (ticks c.before _ c.in-Of.is)
 
 returns-in-Refused : tie.Need-returns-in-Refused
-returns-in-Refused c = let o = c in sym (ticks o.before _ o.in-Refused.is)
+returns-in-Refused c = sym (ticks c.before _ c.in-Refused.is)
 
 returns-in-End : tie.Need-returns-in-End
-returns-in-End c = let i = c in sym (ap (format.known i.args.library.now) i.in-End.is)
+returns-in-End c = sym (ap (format.known c.args.library.now) c.in-End.is)
 
 pub known_spec : {M : Type 1} → statement M
 known_spec =

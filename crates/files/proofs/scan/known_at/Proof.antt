@@ -15,11 +15,10 @@ found c x e = let a = c.args in ap (λ (v : Verdict Record). v then known a.libr
 
 returns-in-Record : tie.Need-returns-in-Record
 returns-in-Record c =
-    let f = c in
-    c.known.ensures ∙ sym (found f.before.before _ f.in-Record.is)
+    c.known.ensures ∙ sym (found c.before.before _ c.in-Record.is)
 
 returns-in-Refused : tie.Need-returns-in-Refused
-returns-in-Refused c = let f = c in sym (found f.before _ f.in-Refused.is)
+returns-in-Refused c = sym (found c.before _ c.in-Refused.is)
 
 pub known_at_spec : {M : Type 1} → statement M
 known_at_spec =

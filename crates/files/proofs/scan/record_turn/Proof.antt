@@ -28,48 +28,36 @@ placed_at {c} {after = after} {r = r} e t = subst (λ (z : ℕ). Turns after c (
 
 cell_of-requires : tie.Need-cell_of-requires
 cell_of-requires c κs =
-    let i = c in
-    let s = i in
-    let l = known s.before.before _ i.in-Arc.is in
-    (s.requires.0, (l.1, l.2))
+    let l = known c.before.before _ c.in-Arc.is in
+    (c.requires.0, (l.1, l.2))
 
 entry_turn-requires : tie.Need-entry_turn-requires
 entry_turn-requires c κs =
-    let s = c in
-    (in_board _ _ s.requires.0 c.cell_of.ensures.1, (omega arith, s.requires.1.0.few))
+    (in_board _ _ c.requires.0 c.cell_of.ensures.1, (omega arith, c.requires.1.0.few))
 
 cell_of-requires-in-Cell : tie.Need-cell_of-requires-in-Cell
 cell_of-requires-in-Cell c κs =
-    let i = c in
-    let s = i in
-    let l = known s.before.before _ i.in-Cell.is in
-    (s.requires.0, (l.1, l.2))
+    let l = known c.before.before _ c.in-Cell.is in
+    (c.requires.0, (l.1, l.2))
 
 entry_turn-requires-in-Cell : tie.Need-entry_turn-requires-in-Cell
 entry_turn-requires-in-Cell c κs =
-    let s = c in
-    (in_board _ _ s.requires.0 c.cell_of-in-Cell.ensures.1, (omega arith, s.requires.1.0.few))
+    (in_board _ _ c.requires.0 c.cell_of-in-Cell.ensures.1, (omega arith, c.requires.1.0.few))
 
 end_turn-requires : tie.Need-end_turn-requires
-end_turn-requires c κs = let i = c in known i.before.before _ i.in-End.is
+end_turn-requires c κs = known c.before.before _ c.in-End.is
 
 returns-in-Arc : tie.Need-returns-in-Arc
 returns-in-Arc c =
-    let i = c in
-    let s = i in
-    record_is (board_shape s.args.n) s.args.bytes.now i.in-Arc.is (known s.before.before.before.before.before _ i.in-Arc.is).0 (placed_at c.cell_of.ensures.0 c.entry_turn.ensures)
+    record_is (board_shape c.args.n) c.args.bytes.now c.in-Arc.is (known c.before.before.before.before.before _ c.in-Arc.is).0 (placed_at c.cell_of.ensures.0 c.entry_turn.ensures)
 
 returns-in-Cell : tie.Need-returns-in-Cell
 returns-in-Cell c =
-    let i = c in
-    let s = i in
-    record_is (board_shape s.args.n) s.args.bytes.now i.in-Cell.is (known s.before.before.before.before.before _ i.in-Cell.is).0 (placed_at c.cell_of-in-Cell.ensures.0 c.entry_turn-in-Cell.ensures)
+    record_is (board_shape c.args.n) c.args.bytes.now c.in-Cell.is (known c.before.before.before.before.before _ c.in-Cell.is).0 (placed_at c.cell_of-in-Cell.ensures.0 c.entry_turn-in-Cell.ensures)
 
 returns-in-End : tie.Need-returns-in-End
 returns-in-End c =
-    let i = c in
-    let s = i in
-    record_is (board_shape s.args.n) s.args.bytes.now i.in-End.is (omega arith) c.end_turn.ensures
+    record_is (board_shape c.args.n) c.args.bytes.now c.in-End.is (omega arith) c.end_turn.ensures
 
 pub record_turn_spec : {M : Type 1} → statement M
 record_turn_spec =

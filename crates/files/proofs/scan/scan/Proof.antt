@@ -21,8 +21,7 @@ decreases-records bytes n library loads₀ cursor₀ loads cursor = length bytes
 records-init : tie.Need-records-init invariant-records decreases-records
 unfolding board_records
 records-init c =
-    let s = c in
-    (all_left (board_shape s.args.n) _ s.args.bytes.now (known_short s.args.library.now s.args.n s.args.bytes.now) 5 s.requires.0, refl, counting_start s.args.n s.args.bytes.now s.args.loads.now s.requires.1.1.1)
+    (all_left (board_shape c.args.n) _ c.args.bytes.now (known_short c.args.library.now c.args.n c.args.bytes.now) 5 c.requires.0, refl, counting_start c.args.n c.args.bytes.now c.args.loads.now c.requires.1.1.1)
 
 turn-turned-requires : tie.Need-turn-turned-requires invariant-records decreases-records
 turn-turned-requires c κs = (c.requires.1.0, c.records.invariant.0.within)
@@ -101,11 +100,10 @@ shape_of-loads-in-Done c = c.records.invariant.1
 
 returns-in-Done : tie.Need-returns-in-Done invariant-records decreases-records
 returns-in-Done c =
-    let u = c in
-    let i = u.records.invariant in
+    let i = c.records.invariant in
     record {
-      answer = turn_says _ _ _ (known_short u.args.library.now _ _) i.0 u.turn-turned.ensures c.in-Done.is;
-      counted = λ _. counting_done _ _ _ _ i.2 (is_done _ _ _ _ u.turn-turned.ensures c.in-Done.is);
+      answer = turn_says _ _ _ (known_short c.args.library.now _ _) i.0 c.turn-turned.ensures c.in-Done.is;
+      counted = λ _. counting_done _ _ _ _ i.2 (is_done _ _ _ _ c.turn-turned.ensures c.in-Done.is);
     }
 
 shape_of-loads-in-Refused : tie.Need-shape_of-loads-in-Refused invariant-records decreases-records
@@ -113,9 +111,7 @@ shape_of-loads-in-Refused c = c.records.invariant.1
 
 returns-in-Refused : tie.Need-returns-in-Refused invariant-records decreases-records
 returns-in-Refused c =
-    let k = c in
-    let u = k in
-    refused_scan (turn_says _ _ _ (known_short _ _ _) u.records.invariant.0 u.turn-turned.ensures k.in-Refused.is)
+    refused_scan (turn_says _ _ _ (known_short _ _ _) c.records.invariant.0 c.turn-turned.ensures c.in-Refused.is)
 
 pub scan_spec : {M : Type 1} → statement M
 scan_spec =

@@ -15,24 +15,15 @@ found c x e = said found_meaning c.known_at-found.ensures e
 
 record_turn-requires : tie.Need-record_turn-requires
 record_turn-requires c κs =
-    let f = c in
-    let r = f in
-    let s = r in
-    (s.requires.0, (s.requires.1, legal s.args.n s.args.bytes.now s.args.cursor.at _ (stands s.args.library.now _ _ _ _ (found r.before _ f.in-Record.is))))
+    (c.requires.0, (c.requires.1, legal c.args.n c.args.bytes.now c.args.cursor.at _ (stands c.args.library.now _ _ _ _ (found c.before _ c.in-Record.is))))
 
 returns-in-Record : tie.Need-returns-in-Record
 returns-in-Record c =
-    let f = c in
-    let r = f in
-    let s = r in
-    found_is (board_shape s.args.n) s.args.bytes.now (found r.before.before _ f.in-Record.is) c.record_turn.ensures
+    found_is (board_shape c.args.n) c.args.bytes.now (found c.before.before _ c.in-Record.is) c.record_turn.ensures
 
 returns-in-Refused : tie.Need-returns-in-Refused
 returns-in-Refused c =
-    let f = c in
-    let r = f in
-    let s = r in
-    found_is (board_shape s.args.n) s.args.bytes.now (found r.before _ f.in-Refused.is) (refuses _ s.args.cursor.at (λ onward. refl))
+    found_is (board_shape c.args.n) c.args.bytes.now (found c.before _ c.in-Refused.is) (refuses _ c.args.cursor.at (λ onward. refl))
 
 pub turn_spec : {M : Type 1} → statement M
 turn_spec =

@@ -26,7 +26,7 @@ module _ (c : tie.Start) where
   long = file_length b.vertices g b.inputs b.outputs
 
 few : (c : tie.After-arcs-count) → c.arcs-count.result ≤ 8100
-few c = let s = c in omega (arith, c.arcs-count.ensures, arcs_few (b s.before.before).vertices (g s.before.before), board_area (b s.before.before) s.requires.lent.sized)
+few c = omega (arith, c.arcs-count.ensures, arcs_few (b c.before.before).vertices (g c.before.before), board_area (b c.before.before) c.requires.lent.sized)
 
 overflow_mul-count : tie.Need-overflow_mul-count
 overflow_mul-count c = omega (arith, few c)
@@ -36,24 +36,15 @@ overflow_add-count c = omega (arith, few c)
 
 returns-then-destination-count : tie.Need-returns-then-destination-count
 returns-then-destination-count c =
-    let a = c in
-    let s = a in
-    file_short (b s.before.before.before).inputs (b s.before.before.before).outputs (b s.before.before.before).vertices (g s.before.before.before) s.args.destination.now (omega (arith, c.if-destination-count.true, a.arcs-count.ensures, long s.before.before.before))
+    file_short (b c.before.before.before).inputs (b c.before.before.before).outputs (b c.before.before.before).vertices (g c.before.before.before) c.args.destination.now (omega (arith, c.if-destination-count.true, c.arcs-count.ensures, long c.before.before.before))
 
 put_file-requires : tie.Need-put_file-requires
 put_file-requires c κs =
-    let e = c in
-    let a = e in
-    let s = a in
-    (s.requires, (a.arcs-count.ensures, omega (arith, e.if-destination-count.false, a.arcs-count.ensures, long s.before.before.before.before)))
+    (c.requires, (c.arcs-count.ensures, omega (arith, c.if-destination-count.false, c.arcs-count.ensures, long c.before.before.before.before)))
 
 returns : tie.Need-returns
 returns c =
-    let p = c in
-    let e = p in
-    let a = e in
-    let s = a in
-    file_done (b s.before.before.before.before.before.before.before).inputs (b s.before.before.before.before.before.before.before).outputs (b s.before.before.before.before.before.before.before).vertices (g s.before.before.before.before.before.before.before) s.args.destination.now (omega (arith, e.if-destination-count.false, a.arcs-count.ensures, long s.before.before.before.before.before.before.before)) p.put_file.ensures
+    file_done (b c.before.before.before.before.before.before.before).inputs (b c.before.before.before.before.before.before.before).outputs (b c.before.before.before.before.before.before.before).vertices (g c.before.before.before.before.before.before.before) c.args.destination.now (omega (arith, c.if-destination-count.false, c.arcs-count.ensures, long c.before.before.before.before.before.before.before)) c.put_file.ensures
 
 pub file_answer_spec : {M : Type 1} → statement M
 file_answer_spec =

@@ -47,10 +47,8 @@ put_signed-requires c κs = (
 
 returns : tie.Need-returns
 returns c =
-    let number = c in
-    let d = number in
-    subst (λ (z : ℤ). Appends (arc_record (record { from = (start d.before.before.before).args.u; to = (start d.before.before.before).args.v; delay = z })) (start d.before.before.before).args.out.now (start d.before.before.before).args.at number.put_signed.new.out number.put_signed.result) (widened d.before.before.before)
-    (appends_more (appends_more (appends_more (mark d.before.before.before).put_mark-p.ensures (from d.before.before.before).put_small-p.ensures) (to d.before.before.before).put_small-p-2.ensures) number.put_signed.ensures)
+    subst (λ (z : ℤ). Appends (arc_record (record { from = (start c.before.before.before).args.u; to = (start c.before.before.before).args.v; delay = z })) (start c.before.before.before).args.out.now (start c.before.before.before).args.at c.put_signed.new.out c.put_signed.result) (widened c.before.before.before)
+    (appends_more (appends_more (appends_more (mark c.before.before.before).put_mark-p.ensures (from c.before.before.before).put_small-p.ensures) (to c.before.before.before).put_small-p-2.ensures) c.put_signed.ensures)
 
 pub put_arc_spec : {M : Type 1} → statement M
 put_arc_spec =

@@ -21,7 +21,7 @@ abbrev decreases-loop : tie.decreases-loop-u
 decreases-loop form board table out₀ at n next₀ u₀ out next u = n - u
 
 loop-u-init : tie.Need-loop-u-init invariant-loop decreases-loop
-loop-u-init c = let s = c in let n = s.args.board.vertices in (omega arith, remains_all (left_all (arcs_as s.args.form) (arcs_between n (graph_of n s.args.table.now)) n))
+loop-u-init c = let n = c.args.board.vertices in (omega arith, remains_all (left_all (arcs_as c.args.form) (arcs_between n (graph_of n c.args.table.now)) n))
 
 module _ (c : tie.In-loop-u invariant-loop decreases-loop) where
   abbrev head : tie.At-loop-u invariant-loop decreases-loop
@@ -48,24 +48,19 @@ module _ (c : tie.In-loop-u invariant-loop decreases-loop) where
 
 put_row-next-requires : tie.Need-put_row-next-requires invariant-loop decreases-loop
 put_row-next-requires c κs =
-    let i = c in
-    ((s i.before).requires.0, (i.loop-u-test.true, remains_fits (head i.before).loop-u.invariant.1 (s i.before).requires.1 (as_form i.before (row_arcs (g i.before) (u i.before) 0 (n i.before))) (left (as_form i.before) (arcs_between (n i.before) (g i.before)) (n i.before) (u i.before + 1)) (next_left i.before)))
+    ((s c.before).requires.0, (c.loop-u-test.true, remains_fits (head c.before).loop-u.invariant.1 (s c.before).requires.1 (as_form c.before (row_arcs (g c.before) (u c.before) 0 (n c.before))) (left (as_form c.before) (arcs_between (n c.before) (g c.before)) (n c.before) (u c.before + 1)) (next_left c.before)))
 
 loop-u-preserved : tie.Need-loop-u-preserved invariant-loop decreases-loop
 loop-u-preserved c =
-    let p = c in
-    let i = p in
-    (omega (arith, i.loop-u-test.true), remains_next (head i.before.before.before.before).loop-u.invariant.1 {xs = as_form i.before.before.before.before (row_arcs (g i.before.before.before.before) (u i.before.before.before.before) 0 (n i.before.before.before.before))} (next_left i.before.before.before.before) p.put_row-next.ensures)
+    (omega (arith, c.loop-u-test.true), remains_next (head c.before.before.before.before).loop-u.invariant.1 {xs = as_form c.before.before.before.before (row_arcs (g c.before.before.before.before) (u c.before.before.before.before) 0 (n c.before.before.before.before))} (next_left c.before.before.before.before) c.put_row-next.ensures)
 
 shape_of-out : tie.Need-shape_of-out invariant-loop decreases-loop
 shape_of-out c = remains_length c.loop-u.invariant.1
 
 returns : tie.Need-returns invariant-loop decreases-loop
 returns c =
-    let l = c in
-    let s = l in
-    let n = s.args.board.vertices in
-    remains_none l.loop-u.invariant.1 (left_none (arcs_join s.args.form) (rows_parts n (graph_of n s.args.table.now)) n l.loop-u.u (omega (arith, c.loop-u-test.false)))
+    let n = c.args.board.vertices in
+    remains_none c.loop-u.invariant.1 (left_none (arcs_join c.args.form) (rows_parts n (graph_of n c.args.table.now)) n c.loop-u.u (omega (arith, c.loop-u-test.false)))
 
 pub put_arcs_spec : {M : Type 1} → statement M
 put_arcs_spec =

@@ -5,11 +5,7 @@ use Rattle.files.proofs.write.put_board.Tie as tie
 
 returns : tie.Need-returns
 returns c =
-    let vertices = c in
-    let outputs = vertices in
-    let inputs = outputs in
-    let mark = inputs in
-    appends_more (appends_more (appends_more mark.put_mark-p.ensures inputs.put_small-p.ensures) outputs.put_small-p-2.ensures) vertices.put_small.ensures
+    appends_more (appends_more (appends_more c.put_mark-p.ensures c.put_small-p.ensures) c.put_small-p-2.ensures) c.put_small.ensures
 
 pub put_board_spec : {M : Type 1} → statement M
 put_board_spec =

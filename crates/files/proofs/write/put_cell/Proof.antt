@@ -58,27 +58,19 @@ module _ (c : tie.Then-is_arc) where
 
 put_arc-requires : tie.Need-put_arc-requires
 put_arc-requires c κs =
-    let k = c in
-    let t = k in
-    ((s t.before.before).requires.0, ((s t.before.before).requires.1.0, omega (arith, (s t.before.before).requires.1.1.1, ap length (arc_as_lem t.before.before F.Record k.in-Record.is))))
+    ((s c.before.before).requires.0, ((s c.before.before).requires.1.0, omega (arith, (s c.before.before).requires.1.1.1, ap length (arc_as_lem c.before.before F.Record c.in-Record.is))))
 
 arc_line-requires : tie.Need-arc_line-requires
 arc_line-requires c κs =
-    let k = c in
-    let t = k in
-    ((s t.before.before).requires.0, ((s t.before.before).requires.1.0, (legal t.before.before, omega (arith, (s t.before.before).requires.1.1.1, ap length (arc_as_lem t.before.before F.Line k.in-Line.is)))))
+    ((s c.before.before).requires.0, ((s c.before.before).requires.1.0, (legal c.before.before, omega (arith, (s c.before.before).requires.1.1.1, ap length (arc_as_lem c.before.before F.Line c.in-Line.is)))))
 
 returns-in-Record : tie.Need-returns-in-Record
 returns-in-Record c =
-    let a = c in
-    let k = a in
-    appends_same (arc_as_lem k.before.before.before.before.before F.Record k.in-Record.is) a.put_arc.ensures
+    appends_same (arc_as_lem c.before.before.before.before.before F.Record c.in-Record.is) c.put_arc.ensures
 
 returns-in-Line : tie.Need-returns-in-Line
 returns-in-Line c =
-    let a = c in
-    let k = a in
-    appends_same (arc_as_lem k.before.before.before.before.before F.Line k.in-Line.is) a.arc_line.ensures
+    appends_same (arc_as_lem c.before.before.before.before.before F.Line c.in-Line.is) c.arc_line.ensures
 
 returns : tie.Need-returns
 returns c = let s = start c.before in appends_same (sym (cell_none s.args.form s.args.u s.args.v s.args.cell (said c.before ∙ c.if-is_arc.false))) appends_none

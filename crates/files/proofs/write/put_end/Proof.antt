@@ -8,15 +8,11 @@ use Rattle.files.proofs.write.put_end.Tie as tie
 
 put_unsigned-requires : tie.Need-put_unsigned-requires
 put_unsigned-requires c κs =
-    let mark = c in
-    let s = mark in
-    (record { some = omega arith; few = omega arith; inside = omega (arith, s.requires.1, length-tabulate (byte_of s.args.count) 2, mark.put_mark-p.ensures.end, mark.put_mark-p.auto.out) }, s.requires.0)
+    (record { some = omega arith; few = omega arith; inside = omega (arith, c.requires.1, length-tabulate (byte_of c.args.count) 2, c.put_mark-p.ensures.end, c.put_mark-p.auto.out) }, c.requires.0)
 
 returns : tie.Need-returns
 returns c =
-    let number = c in
-    let mark = number in
-    appends_more mark.put_mark-p.ensures number.put_unsigned.ensures
+    appends_more c.put_mark-p.ensures c.put_unsigned.ensures
 
 pub put_end_spec : {M : Type 1} → statement M
 put_end_spec = tie.close (tie.spec

@@ -30,43 +30,34 @@ module _ (c : tie.Start) where
   long = file_length b.vertices g b.inputs b.outputs
 
 put_board-first-requires : tie.Need-put_board-first-requires
-put_board-first-requires c κs = let s = c in (s.requires.0.lent.sized, omega (arith, s.requires.1.1, long s.before.before))
+put_board-first-requires c κs = (c.requires.0.lent.sized, omega (arith, c.requires.1.1, long c.before.before))
 
 put_arcs-end-requires : tie.Need-put_arcs-end-requires
 put_arcs-end-requires c κs =
-    let board = c in
-    let s = board in
-    (s.requires.0, omega (arith, s.requires.1.1, long s.before.before.before.before.before.before, all_records_length (b s.before.before.before.before.before.before).vertices (g s.before.before.before.before.before.before), board.put_board-first.ensures.end, board.put_board-first.auto.out))
+    (c.requires.0, omega (arith, c.requires.1.1, long c.before.before.before.before.before.before, all_records_length (b c.before.before.before.before.before.before).vertices (g c.before.before.before.before.before.before), c.put_board-first.ensures.end, c.put_board-first.auto.out))
 
 put_end-requires : tie.Need-put_end-requires
-put_end-requires c κs =
-    let rows = c in
-    let board = rows in
-    let s = board in (
-      omega (arith, s.requires.1.0, arcs_few (b s.before.before.before.before.before.before.before.before.before.before).vertices (g s.before.before.before.before.before.before.before.before.before.before), board_area (b s.before.before.before.before.before.before.before.before.before.before) s.requires.0.lent.sized),
-      omega (
-        arith,
-        s.requires.1.0,
-        s.requires.1.1,
-        long s.before.before.before.before.before.before.before.before.before.before,
-        all_records_length (b s.before.before.before.before.before.before.before.before.before.before).vertices (g s.before.before.before.before.before.before.before.before.before.before),
-        length-tabulate (byte_of s.args.count) 2,
-        board.put_board-first.ensures.end,
-        board.put_board-first.auto.out,
-        rows.put_arcs-end.ensures.end,
-        rows.put_arcs-end.auto.out,
-      ),
-    )
+put_end-requires c κs = (
+  omega (arith, c.requires.1.0, arcs_few (b c.before.before.before.before.before.before.before.before.before.before).vertices (g c.before.before.before.before.before.before.before.before.before.before), board_area (b c.before.before.before.before.before.before.before.before.before.before) c.requires.0.lent.sized),
+  omega (
+    arith,
+    c.requires.1.0,
+    c.requires.1.1,
+    long c.before.before.before.before.before.before.before.before.before.before,
+    all_records_length (b c.before.before.before.before.before.before.before.before.before.before).vertices (g c.before.before.before.before.before.before.before.before.before.before),
+    length-tabulate (byte_of c.args.count) 2,
+    c.put_board-first.ensures.end,
+    c.put_board-first.auto.out,
+    c.put_arcs-end.ensures.end,
+    c.put_arcs-end.auto.out,
+  ),
+)
 
 returns : tie.Need-returns
 returns c =
-    let end = c in
-    let rows = end in
-    let board = rows in
-    let s = board in
     appends_same
-    (ap (λ (k : ℕ). board_record (b s.before.before.before.before.before.before.before.before.before.before.before.before.before).inputs (b s.before.before.before.before.before.before.before.before.before.before.before.before.before).outputs (b s.before.before.before.before.before.before.before.before.before.before.before.before.before).vertices ++ arc_records (arcs_of (b s.before.before.before.before.before.before.before.before.before.before.before.before.before).vertices (g s.before.before.before.before.before.before.before.before.before.before.before.before.before)) ++ end_record k) s.requires.1.0 ∙ file_parts (b s.before.before.before.before.before.before.before.before.before.before.before.before.before).vertices (g s.before.before.before.before.before.before.before.before.before.before.before.before.before) (b s.before.before.before.before.before.before.before.before.before.before.before.before.before).inputs (b s.before.before.before.before.before.before.before.before.before.before.before.before.before).outputs)
-    (appends_more (appends_more board.put_board-first.ensures rows.put_arcs-end.ensures) end.put_end.ensures)
+    (ap (λ (k : ℕ). board_record (b c.before.before.before.before.before.before.before.before.before.before.before.before.before).inputs (b c.before.before.before.before.before.before.before.before.before.before.before.before.before).outputs (b c.before.before.before.before.before.before.before.before.before.before.before.before.before).vertices ++ arc_records (arcs_of (b c.before.before.before.before.before.before.before.before.before.before.before.before.before).vertices (g c.before.before.before.before.before.before.before.before.before.before.before.before.before)) ++ end_record k) c.requires.1.0 ∙ file_parts (b c.before.before.before.before.before.before.before.before.before.before.before.before.before).vertices (g c.before.before.before.before.before.before.before.before.before.before.before.before.before) (b c.before.before.before.before.before.before.before.before.before.before.before.before.before).inputs (b c.before.before.before.before.before.before.before.before.before.before.before.before.before).outputs)
+    (appends_more (appends_more c.put_board-first.ensures c.put_arcs-end.ensures) c.put_end.ensures)
 
 pub put_file_spec : {M : Type 1} → statement M
 put_file_spec =

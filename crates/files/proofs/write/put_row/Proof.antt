@@ -33,7 +33,7 @@ abbrev decreases-loop : tie.decreases-loop-v
 decreases-loop form table u out₀ at n next₀ v₀ out next v = n - v
 
 loop-v-init : tie.Need-loop-v-init invariant-loop decreases-loop
-loop-v-init c = let s = c in let n = s.args.board.vertices in (omega arith, remains_all (left_all (arcs_as s.args.form) (row_arcs (graph_of n s.args.table.now) s.args.u) n))
+loop-v-init c = let n = c.args.board.vertices in (omega arith, remains_all (left_all (arcs_as c.args.form) (row_arcs (graph_of n c.args.table.now) c.args.u) n))
 
 module _ (c : tie.In-loop-v invariant-loop decreases-loop) where
   abbrev head : tie.At-loop-v invariant-loop decreases-loop
@@ -89,31 +89,26 @@ bounds-table-cell c = inside c.before
 
 -- the cell that is handed on is that of the table
 handed_on : (c : tie.After-put_cell-arg-in-loop-v-1 invariant-loop decreases-loop) → let i = c in as_form i.before.before (arc_in (u i.before.before) (v i.before.before) (read_cell absent_cell (to_z w32 (of_z w32 (z i.before.before))))) ≡ as_form i.before.before (arc_in (u i.before.before) (v i.before.before) (read_cell absent_cell (z i.before.before)))
-handed_on c = let i = c in ap (λ (x : ℤ). as_form i.before.before (arc_in (u i.before.before) (v i.before.before) (read_cell absent_cell x))) (back w32 (z i.before.before) c.put_cell-arg-in-loop-v-1.given)
+handed_on c = ap (λ (x : ℤ). as_form c.before.before (arc_in (u c.before.before) (v c.before.before) (read_cell absent_cell x))) (back w32 (z c.before.before) c.put_cell-arg-in-loop-v-1.given)
 
 put_cell-next-requires : tie.Need-put_cell-next-requires invariant-loop decreases-loop
 put_cell-next-requires c κs =
-    let i = c in
-    let few = (s i.before.before).requires.0.lent.sized.few in
-    let fits-handed = subst (λ (x : ℤ). T (fits delay_limit (read_cell absent_cell x))) (sym (back w32 (z i.before.before) c.put_cell-arg-in-loop-v-1.given)) (fits_cell i.before.before) in
-    let room = remains_fits (head i.before.before).loop-v.invariant.1 (s i.before.before).requires.1.1 (as_form i.before.before (arc_in (u i.before.before) (v i.before.before) (read_cell absent_cell (z i.before.before)))) (left (as_form i.before.before) (row_arcs (graph_of (n i.before.before) (t i.before.before)) (u i.before.before)) (n i.before.before) (v i.before.before + 1)) (next_left i.before.before) in
-    (omega (arith, few, (s i.before.before).requires.1.0), (omega (arith, few, i.loop-v-test.true), (fits-handed, omega (arith, room, ap length (handed_on c)))))
+    let few = (s c.before.before).requires.0.lent.sized.few in
+    let fits-handed = subst (λ (x : ℤ). T (fits delay_limit (read_cell absent_cell x))) (sym (back w32 (z c.before.before) c.put_cell-arg-in-loop-v-1.given)) (fits_cell c.before.before) in
+    let room = remains_fits (head c.before.before).loop-v.invariant.1 (s c.before.before).requires.1.1 (as_form c.before.before (arc_in (u c.before.before) (v c.before.before) (read_cell absent_cell (z c.before.before)))) (left (as_form c.before.before) (row_arcs (graph_of (n c.before.before) (t c.before.before)) (u c.before.before)) (n c.before.before) (v c.before.before + 1)) (next_left c.before.before) in
+    (omega (arith, few, (s c.before.before).requires.1.0), (omega (arith, few, c.loop-v-test.true), (fits-handed, omega (arith, room, ap length (handed_on c)))))
 
 loop-v-preserved : tie.Need-loop-v-preserved invariant-loop decreases-loop
 loop-v-preserved c =
-    let p = c in
-    let i = p in
-    (omega (arith, i.loop-v-test.true), remains_next (head i.before.before.before.before.before).loop-v.invariant.1 (next_left i.before.before.before.before.before) (appends_same (handed_on p.before.before.before) p.put_cell-next.ensures))
+    (omega (arith, c.loop-v-test.true), remains_next (head c.before.before.before.before.before).loop-v.invariant.1 (next_left c.before.before.before.before.before) (appends_same (handed_on c.before.before.before) c.put_cell-next.ensures))
 
 shape_of-out : tie.Need-shape_of-out invariant-loop decreases-loop
 shape_of-out c = remains_length c.loop-v.invariant.1
 
 returns : tie.Need-returns invariant-loop decreases-loop
 returns c =
-    let l = c in
-    let s = l in
-    let n = s.args.board.vertices in
-    remains_none l.loop-v.invariant.1 (left_none (arcs_join s.args.form) (row_parts (graph_of n s.args.table.now) s.args.u) n l.loop-v.v (omega (arith, c.loop-v-test.false)))
+    let n = c.args.board.vertices in
+    remains_none c.loop-v.invariant.1 (left_none (arcs_join c.args.form) (row_parts (graph_of n c.args.table.now) c.args.u) n c.loop-v.v (omega (arith, c.loop-v-test.false)))
 
 pub put_row_spec : {M : Type 1} → statement M
 put_row_spec =

@@ -5,18 +5,15 @@ use Rattle.files.proofs.write.write.Tie as tie
 
 file_answer-requires : tie.Need-file_answer-requires
 file_answer-requires c κs =
-    let k = c in
-    let p = (k.checked-lent.ensures.passable _ k.in-Board.is).0 in
+    let p = (c.checked-lent.ensures.passable _ c.in-Board.is).0 in
     p.checked
 
 returns-in-Board : tie.Need-returns-in-Board
 returns-in-Board c =
-    let a = c in
-    let k = a in
-    call_written k.checked-lent.ensures _ k.in-Board.is _ _ _ a.file_answer.ensures
+    call_written c.checked-lent.ensures _ c.in-Board.is _ _ _ c.file_answer.ensures
 
 returns-in-Refused : tie.Need-returns-in-Refused
-returns-in-Refused c = let k = c in call_stopped k.checked-lent.ensures _ k.in-Refused.is _
+returns-in-Refused c = call_stopped c.checked-lent.ensures _ c.in-Refused.is _
 
 pub write_spec : {M : Type 1} → statement M
 write_spec =

@@ -52,21 +52,20 @@ module _ (c : tie.After-pair_cells-delays) where
   seen x r after b p q = (b ∙ p ∙ ap matrix_answer same, q ∙ ap (λ (v : Verdict (List ℤ)). matrix_bytes v s.args.matrix.now) same)
 
 slice_bounds-matrix_in-end : tie.Need-slice_bounds-matrix_in-end
-slice_bounds-matrix_in-end c = let w = c in sym (part_long _ _ w.cells-cells.ensures (count w.before).shown-count.ensures.1)
+slice_bounds-matrix_in-end c = sym (part_long _ _ c.cells-cells.ensures (count c.before).shown-count.ensures.1)
 
 slice_bounds-matrix_in-end-2 : tie.Need-slice_bounds-matrix_in-end-2
-slice_bounds-matrix_in-end-2 c = let w = c in sym (part_long _ _ w.wide_cells-wide.ensures (room w.before.before).shown-room.ensures.1)
+slice_bounds-matrix_in-end-2 c = sym (part_long _ _ c.wide_cells-wide.ensures (room c.before.before).shown-room.ensures.1)
 
 slice_bounds-matrix_in-end-3 : tie.Need-slice_bounds-matrix_in-end-3
-slice_bounds-matrix_in-end-3 c = let w = c in sym (part_long _ _ w.pair_cells-delays.ensures (pairs w.before.before.before.before).pairs_shown-pairs.ensures.1)
+slice_bounds-matrix_in-end-3 c = sym (part_long _ _ c.pair_cells-delays.ensures (pairs c.before.before.before.before).pairs_shown-pairs.ensures.1)
 
 matrix_in-requires : tie.Need-matrix_in-requires
-matrix_in-requires c κs = let w = c in (cells_shown w.before.before.before.before, delays_shown w.before.before.before.before)
+matrix_in-requires c κs = (cells_shown c.before.before.before.before, delays_shown c.before.before.before.before)
 
 returns : tie.Need-returns
 returns c =
-    let r = c in
-    seen r.before.before.before.before.before.before.before.before.before.before _ _ _ (back w64 _ r.matrix_in.type_inv) r.matrix_in.ensures.0 r.matrix_in.ensures.1
+    seen c.before.before.before.before.before.before.before.before.before.before _ _ _ (back w64 _ c.matrix_in.type_inv) c.matrix_in.ensures.0 c.matrix_in.ensures.1
 
 pub matrix_spec : {M : Type 1} → statement M
 matrix_spec =

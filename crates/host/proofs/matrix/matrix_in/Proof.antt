@@ -28,20 +28,18 @@ module _ (c : tie.After-delay_matrix-answer) where
   room = omega (arith, c.delay_matrix-answer.auto.destination, s.requires.1, shown_le s.args.inputs s.args.outputs (whole_cells 8 s.args.matrix.now))
 
 take_table-requires : tie.Need-take_table-requires
-take_table-requires c κs = let s = c in omega (arith, s.requires.0, shown_le s.args.vertices s.args.vertices (whole_cells 4 s.args.table.now))
+take_table-requires c κs = omega (arith, c.requires.0, shown_le c.args.vertices c.args.vertices (whole_cells 4 c.args.table.now))
 
 put_matrix-requires : tie.Need-put_matrix-requires
 put_matrix-requires c κs = room c.before.before.before.before
 
 returns-in-Done : tie.Need-returns-in-Done
 returns-in-Done c =
-    let k = c in
-    done (over k.before.before.before.before.before.before.before) k.in-Done.is _ c.put_matrix.ensures
+    done (over c.before.before.before.before.before.before.before) c.in-Done.is _ c.put_matrix.ensures
 
 returns-in-Refused : tie.Need-returns-in-Refused
 returns-in-Refused c =
-    let k = c in
-    let p = refuses (over k.before.before.before.before) _ k.in-Refused.is in
+    let p = refuses (over c.before.before.before.before) _ c.in-Refused.is in
     (back w64 _ c.refused.type_inv ∙ c.refused.ensures ∙ p.0, p.1)
 
 pub matrix_in_spec : {M : Type 1} → statement M

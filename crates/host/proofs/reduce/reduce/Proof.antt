@@ -48,18 +48,17 @@ module _ (c : tie.After-wide_cells-wide) where
   seen x r after b p q = (b ∙ p ∙ ap step_answer same, q ∙ ap (λ (v : Verdict Reduced). table_bytes v s.args.table.now) same)
 
 slice_bounds-reduce_in-end : tie.Need-slice_bounds-reduce_in-end
-slice_bounds-reduce_in-end c = let w = c in sym (part_long _ _ w.cells-cells.ensures (count w.before.before).shown-count.ensures.1)
+slice_bounds-reduce_in-end c = sym (part_long _ _ c.cells-cells.ensures (count c.before.before).shown-count.ensures.1)
 
 slice_bounds-reduce_in-end-2 : tie.Need-slice_bounds-reduce_in-end-2
-slice_bounds-reduce_in-end-2 c = let w = c in sym (part_long _ _ w.wide_cells-wide.ensures (room w.before.before.before).shown-room.ensures.1)
+slice_bounds-reduce_in-end-2 c = sym (part_long _ _ c.wide_cells-wide.ensures (room c.before.before.before).shown-room.ensures.1)
 
 reduce_in-requires : tie.Need-reduce_in-requires
 reduce_in-requires c κs = cells_shown c.before.before.before
 
 returns : tie.Need-returns
 returns c =
-    let r = c in
-    seen r.before.before.before.before.before.before.before.before _ _ _ (back w64 _ r.reduce_in.type_inv) r.reduce_in.ensures.0 r.reduce_in.ensures.1
+    seen c.before.before.before.before.before.before.before.before _ _ _ (back w64 _ c.reduce_in.type_inv) c.reduce_in.ensures.0 c.reduce_in.ensures.1
 
 pub reduce_spec : {M : Type 1} → statement M
 reduce_spec =

@@ -37,30 +37,24 @@ fits : (a : ℕ) → a ≤ 8100 → SFits w64 (pos a)
 fits a h = omega zneeds
 
 take_table-requires : tie.Need-take_table-requires
-take_table-requires c κs = let s = c in omega (arith, s.requires, shown_le s.args.vertices s.args.vertices (whole_cells 4 s.args.table.now))
+take_table-requires c κs = omega (arith, c.requires, shown_le c.args.vertices c.args.vertices (whole_cells 4 c.args.table.now))
 
 put_table-requires : tie.Need-put_table-requires
 put_table-requires c κs = room c.before.before.before.before
 
 overflow_cast-result : tie.Need-overflow_cast-result
 overflow_cast-result c =
-    let k = c in
-    let r = k in
-    fits _ (arcs_small (over r.before.before.before.before.before.before.before) _ k.in-Left.is)
+    fits _ (arcs_small (over c.before.before.before.before.before.before.before) _ c.in-Left.is)
 
 returns-in-Left : tie.Need-returns-in-Left
 returns-in-Left c =
-    let k = c in
-    let r = k in
-    let h = arcs_small (over r.before.before.before.before.before.before.before) _ k.in-Left.is in
-    let p = accepts (over r.before.before.before.before.before.before.before) _ k.in-Left.is _ c.put_table.ensures in
-    (to_z_pos w64 {n = k.in-Left.arcs} (omega (arith, h)) ∙ p.0, p.1)
+    let h = arcs_small (over c.before.before.before.before.before.before.before) _ c.in-Left.is in
+    let p = accepts (over c.before.before.before.before.before.before.before) _ c.in-Left.is _ c.put_table.ensures in
+    (to_z_pos w64 {n = c.in-Left.arcs} (omega (arith, h)) ∙ p.0, p.1)
 
 returns-in-Refused : tie.Need-returns-in-Refused
 returns-in-Refused c =
-    let k = c in
-    let r = k in
-    let p = refuses (over r.before.before.before.before) _ k.in-Refused.is in
+    let p = refuses (over c.before.before.before.before) _ c.in-Refused.is in
     (back w64 _ c.refused.type_inv ∙ c.refused.ensures ∙ p.0, p.1)
 
 pub reduce_in_spec : {M : Type 1} → statement M

@@ -24,14 +24,11 @@ encode-requires c κs =
     (record { some = omega arith; few = omega arith; inside = omega arith }, rw (back w64 _ g) (fits_in_width w64 8 (omega arith) (record { sfits = g })))
 
 loop-x-preserved : tie.Need-loop-x-preserved invariant-loop decreases-loop
-loop-x-preserved c =
-    let e = c in
-    let l = e in
-    let s = l in (
-      omega arith,
-      e.encode.auto.bytes ∙ l.loop-x.invariant.1,
-      fill_more 8 s.args.cells.now s.args.bytes.now l.loop-x.x l.loop-x.bytes e.encode.new.bytes _ (omega arith) l.loop-x.invariant.2 (back w64 _ e.encode-arg-in-loop-x-1.given) e.encode.ensures,
-    )
+loop-x-preserved c = (
+  omega arith,
+  c.encode.auto.bytes ∙ c.loop-x.invariant.1,
+  fill_more 8 c.args.cells.now c.args.bytes.now c.loop-x.x c.loop-x.bytes c.encode.new.bytes _ (omega arith) c.loop-x.invariant.2 (back w64 _ c.encode-arg-in-loop-x-1.given) c.encode.ensures,
+)
 
 shape_of-bytes : tie.Need-shape_of-bytes invariant-loop decreases-loop
 shape_of-bytes c = c.loop-x.invariant.1

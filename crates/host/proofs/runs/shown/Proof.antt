@@ -28,10 +28,10 @@ overflow_mul-most : tie.Need-overflow_mul-most
 overflow_mul-most c = omega (arith, area c)
 
 returns-then-cells-most : tie.Need-returns-then-cells-most
-returns-then-cells-most c = let e = c in (omega (arith, all e.before), omega (arith, area e.before))
+returns-then-cells-most c = (omega (arith, all c.before), omega (arith, area c.before))
 
 returns : tie.Need-returns
-returns c = let e = c in (omega (arith, all e.before), omega (arith, area e.before))
+returns c = (omega (arith, all c.before), omega (arith, area c.before))
 
 pub shown_spec : {M : Type 1} → statement M
 shown_spec = tie.close (tie.spec

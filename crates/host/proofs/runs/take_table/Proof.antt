@@ -21,13 +21,11 @@ loop-x-init : tie.Need-loop-x-init invariant-loop decreases-loop
 loop-x-init c = (omega arith, refl, fill_none _ _)
 
 loop-x-preserved : tie.Need-loop-x-preserved invariant-loop decreases-loop
-loop-x-preserved c =
-    let l = c in
-    let s = l in (
-      omega arith,
-      simp length-set l.loop-x.invariant.1,
-      fill_turn (run_cell 4 s.args.bytes.now) s.args.cells.now l.loop-x.cells l.loop-x.x _ (omega arith) l.loop-x.invariant.2 (back w32 _ c.cell_at.type_inv ∙ c.cell_at.ensures),
-    )
+loop-x-preserved c = (
+  omega arith,
+  simp length-set c.loop-x.invariant.1,
+  fill_turn (run_cell 4 c.args.bytes.now) c.args.cells.now c.loop-x.cells c.loop-x.x _ (omega arith) c.loop-x.invariant.2 (back w32 _ c.cell_at.type_inv ∙ c.cell_at.ensures),
+)
 
 shape_of-cells : tie.Need-shape_of-cells invariant-loop decreases-loop
 shape_of-cells c = c.loop-x.invariant.1

@@ -14,20 +14,16 @@ start_inputs-requires : tie.Need-start_inputs-requires
 start_inputs-requires c κs = c.requires.1.1.1
 
 propagate-requires : tie.Need-propagate-requires
-propagate-requires c κs =
-    let s = c in (
-      subst (Started _ _ _) (sym c.start_inputs.ensures) (inputs_started s.requires.0 s.args.inputs.now s.requires.1.1.0 s.args.f.now s.requires.1.1.1),
-      s.requires.1.0,
-    )
+propagate-requires c κs = (
+  subst (Started _ _ _) (sym c.start_inputs.ensures) (inputs_started c.requires.0 c.args.inputs.now c.requires.1.1.0 c.args.f.now c.requires.1.1.1),
+  c.requires.1.0,
+)
 
 returns : tie.Need-returns
 returns c =
-    let q = c in
-    let w = q in
-    let s = w in
-    q.propagate.ensures
-    ∙ ap (λ (x : List ℤ). filled s.args.board.vertices (propagated s.args.board.vertices (graph_of s.args.board.vertices s.args.table.now) (arrival_in x)) x) w.start_inputs.ensures
-    ∙ inputs_propagated s.requires.0 s.args.inputs.now s.requires.1.1.0 s.args.f.now s.requires.1.1.1
+    c.propagate.ensures
+    ∙ ap (λ (x : List ℤ). filled c.args.board.vertices (propagated c.args.board.vertices (graph_of c.args.board.vertices c.args.table.now) (arrival_in x)) x) c.start_inputs.ensures
+    ∙ inputs_propagated c.requires.0 c.args.inputs.now c.requires.1.1.0 c.args.f.now c.requires.1.1.1
 
 pub arrivals_spec : {M : Type 1} → statement M
 arrivals_spec = tie.close (tie.spec

@@ -22,7 +22,7 @@ abbrev decreases-loop : tie.decreases-loop-p
 decreases-loop table order chain i f₀ n p₀ f p = n - p
 
 start_four-requires : tie.Need-start_four-requires invariant-loop decreases-loop
-start_four-requires c κs = let s = c in (s.requires.1.1.1, s.requires.1.1.0)
+start_four-requires c κs = (c.requires.1.1.1, c.requires.1.1.0)
 
 loop-p-init : tie.Need-loop-p-init invariant-loop decreases-loop
 loop-p-init c = (omega arith, refl, refl, λ l h. going_start _ _ _ _ _)
@@ -81,33 +81,32 @@ bounds-order-p : tie.Need-bounds-order-p invariant-loop decreases-loop
 bounds-order-p c = omega (arith, c.loop-p-test.true, few (h c.before))
 
 overflow_cast-u : tie.Need-overflow_cast-u invariant-loop decreases-loop
-overflow_cast-u c = let i = c in omega (arith, vertex i.before.before, few (h i.before.before))
+overflow_cast-u c = omega (arith, vertex c.before.before, few (h c.before.before))
 
 overflow_mul-at : tie.Need-overflow_mul-at invariant-loop decreases-loop
-overflow_mul-at c = let i = c in omega (arith, row i.before.before, room (h i.before.before), vertex i.before.before, (s (h i.before.before)).well_formed)
+overflow_mul-at c = omega (arith, row c.before.before, room (h c.before.before), vertex c.before.before, (s (h c.before.before)).well_formed)
 
 offset_bounds-table-at : tie.Need-offset_bounds-table-at invariant-loop decreases-loop
-offset_bounds-table-at c = let i = c in omega (arith, row i.before.before, room (h i.before.before), vertex i.before.before, (s (h i.before.before)).well_formed)
+offset_bounds-table-at c = omega (arith, row c.before.before, room (h c.before.before), vertex c.before.before, (s (h c.before.before)).well_formed)
 
 slice_bounds-push_each-count : tie.Need-slice_bounds-push_each-count invariant-loop decreases-loop
-slice_bounds-push_each-count c = let i = c in omega (arith, row i.before.before, room (h i.before.before), vertex i.before.before)
+slice_bounds-push_each-count c = omega (arith, row c.before.before, room (h c.before.before), vertex c.before.before)
 
 slice_bounds-push_each-start : tie.Need-slice_bounds-push_each-start invariant-loop decreases-loop
-slice_bounds-push_each-start c = let i = c in omega (arith, row i.before.before, room (h i.before.before), vertex i.before.before)
+slice_bounds-push_each-start c = omega (arith, row c.before.before, room (h c.before.before), vertex c.before.before)
 
 slice_bounds-push_each-count-in-loop-p : tie.Need-slice_bounds-push_each-count-in-loop-p invariant-loop decreases-loop
-slice_bounds-push_each-count-in-loop-p c = let i = c in omega (arith, row i.before.before.before, (s (h i.before.before.before)).requires.1.0.room)
+slice_bounds-push_each-count-in-loop-p c = omega (arith, row c.before.before.before, (s (h c.before.before.before)).requires.1.0.room)
 
 slice_bounds-push_each-start-in-loop-p : tie.Need-slice_bounds-push_each-start-in-loop-p invariant-loop decreases-loop
-slice_bounds-push_each-start-in-loop-p c = let i = c in omega (arith, row i.before.before.before, (s (h i.before.before.before)).requires.1.0.room)
+slice_bounds-push_each-start-in-loop-p c = omega (arith, row c.before.before.before, (s (h c.before.before.before)).requires.1.0.room)
 
 push_each-requires : tie.Need-push_each-requires invariant-loop decreases-loop
 push_each-requires c κs =
-    let i = c in
-    let a = h i.before.before.before.before.before in
+    let a = h c.before.before.before.before.before in
     let b = s a in (
-      pushable b.requires.0 b.requires.1.0 (u i.before.before.before.before.before) (vertex i.before.before.before.before.before) a.loop-p.f (omega (arith, long a)),
-      (vertex i.before.before.before.before.before, (long a, λ l m. near (started a l m) b.requires.1.0 (a.loop-p.invariant.3 l m) i.loop-p-test.true)),
+      pushable b.requires.0 b.requires.1.0 (u c.before.before.before.before.before) (vertex c.before.before.before.before.before) a.loop-p.f (omega (arith, long a)),
+      (vertex c.before.before.before.before.before, (long a, λ l m. near (started a l m) b.requires.1.0 (a.loop-p.invariant.3 l m) c.loop-p-test.true)),
     )
 
 abbrev turn_of : tie.After-f-in-loop-p-1 invariant-loop decreases-loop → tie.In-loop-p invariant-loop decreases-loop
@@ -137,12 +136,11 @@ shape_of-f c = c.loop-p.invariant.1 ∙ (k c.before).start_four.auto.f
 
 returns : tie.Need-returns invariant-loop decreases-loop
 returns c =
-    let a = c in
-    let b = s a.before in (
-      λ l m. ended (started a.before l m) b.requires.1.0 (a.loop-p.invariant.3 l m) (omega (arith, a.loop-p.invariant.0, c.loop-p-test.false))
-          ∙ ap (λ (x : List ℤ). filled (n a.before) (propagated (n a.before) (graph_of (n a.before) (t a.before)) (arrival_in x)) x) ((k a.before).start_four.ensures.0 l m)
-          ∙ one_propagated b.requires.0 (b.args.i + l) (source a.before l m) (lane (n a.before) l b.args.f.now) (space a.before l m),
-      a.loop-p.invariant.2 ∙ (k a.before).start_four.ensures.1,
+    let b = s c.before in (
+      λ l m. ended (started c.before l m) b.requires.1.0 (c.loop-p.invariant.3 l m) (omega (arith, c.loop-p.invariant.0, c.loop-p-test.false))
+          ∙ ap (λ (x : List ℤ). filled (n c.before) (propagated (n c.before) (graph_of (n c.before) (t c.before)) (arrival_in x)) x) ((k c.before).start_four.ensures.0 l m)
+          ∙ one_propagated b.requires.0 (b.args.i + l) (source c.before l m) (lane (n c.before) l b.args.f.now) (space c.before l m),
+      c.loop-p.invariant.2 ∙ (k c.before).start_four.ensures.1,
     )
 
 pub delays_from_four_spec : {M : Type 1} → statement M

@@ -11,12 +11,11 @@ use Rattle.paths.proofs.arrivals.from_list.Statement.{statement}
 use Rattle.paths.proofs.arrivals.from_list.Tie as tie
 
 returns-then-v-inputs : tie.Need-returns-then-v-inputs
-returns-then-v-inputs c = let s = c in sym (ap (λ (b : Bool). cond b (get_or s.args.inputs.now s.args.v (pos 0)) absent_wide) (le-ltb _ _ c.if-v-inputs.true))
+returns-then-v-inputs c = sym (ap (λ (b : Bool). cond b (get_or c.args.inputs.now c.args.v (pos 0)) absent_wide) (le-ltb _ _ c.if-v-inputs.true))
 
 returns : tie.Need-returns
 returns c =
-    let s = c in
-    back w64 _ c.result-1.given ∙ sym (ap (λ (b : Bool). cond b (get_or s.args.inputs.now s.args.v (pos 0)) absent_wide) (lt-ltb _ _ c.if-v-inputs.false))
+    back w64 _ c.result-1.given ∙ sym (ap (λ (b : Bool). cond b (get_or c.args.inputs.now c.args.v (pos 0)) absent_wide) (lt-ltb _ _ c.if-v-inputs.false))
 
 pub from_list_spec : {M : Type 1} → statement M
 from_list_spec = tie.close (tie.spec

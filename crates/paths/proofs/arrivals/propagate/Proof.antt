@@ -50,30 +50,28 @@ overflow_cast-u : tie.Need-overflow_cast-u invariant-loop decreases-loop
 overflow_cast-u c = omega (arith, vertex c.before.before, few c.before.before)
 
 overflow_mul-at : tie.Need-overflow_mul-at invariant-loop decreases-loop
-overflow_mul-at c = let i = c in omega (arith, row i.before.before, room i.before.before, vertex i.before.before, (start i.before.before).well_formed)
+overflow_mul-at c = omega (arith, row c.before.before, room c.before.before, vertex c.before.before, (start c.before.before).well_formed)
 
 offset_bounds-table-at : tie.Need-offset_bounds-table-at invariant-loop decreases-loop
-offset_bounds-table-at c = let i = c in omega (arith, row i.before.before, room i.before.before, vertex i.before.before)
+offset_bounds-table-at c = omega (arith, row c.before.before, room c.before.before, vertex c.before.before)
 
 slice_bounds-push_from-count : tie.Need-slice_bounds-push_from-count invariant-loop decreases-loop
-slice_bounds-push_from-count c = let i = c in omega (arith, row i.before.before, room i.before.before, vertex i.before.before)
+slice_bounds-push_from-count c = omega (arith, row c.before.before, room c.before.before, vertex c.before.before)
 
 slice_bounds-push_from-start : tie.Need-slice_bounds-push_from-start invariant-loop decreases-loop
-slice_bounds-push_from-start c = let i = c in omega (arith, row i.before.before, room i.before.before, vertex i.before.before)
+slice_bounds-push_from-start c = omega (arith, row c.before.before, room c.before.before, vertex c.before.before)
 
 slice_bounds-push_from-count-in-loop-p : tie.Need-slice_bounds-push_from-count-in-loop-p invariant-loop decreases-loop
-slice_bounds-push_from-count-in-loop-p c = let i = c in omega (arith, row i.before.before.before, (start i.before.before.before).requires.1.room)
+slice_bounds-push_from-count-in-loop-p c = omega (arith, row c.before.before.before, (start c.before.before.before).requires.1.room)
 
 slice_bounds-push_from-start-in-loop-p : tie.Need-slice_bounds-push_from-start-in-loop-p invariant-loop decreases-loop
-slice_bounds-push_from-start-in-loop-p c = let i = c in omega (arith, row i.before.before.before, (start i.before.before.before).requires.1.room)
+slice_bounds-push_from-start-in-loop-p c = omega (arith, row c.before.before.before, (start c.before.before.before).requires.1.room)
 
 push_from-requires : tie.Need-push_from-requires invariant-loop decreases-loop
 push_from-requires c κs =
-    let i = c in
-    let s = start i.before.before.before.before.before in
-    let l = i in (
-      pushable s.requires.0.passable s.requires.1 (u i.before.before.before.before.before) (vertex i.before.before.before.before.before) l.loop-p.f (omega (arith, l.loop-p.invariant.size, s.requires.0.room)),
-      (vertex i.before.before.before.before.before, near s.requires.0 s.requires.1 l.loop-p.invariant i.loop-p-test.true),
+    let s = start c.before.before.before.before.before in (
+      pushable s.requires.0.passable s.requires.1 (u c.before.before.before.before.before) (vertex c.before.before.before.before.before) c.loop-p.f (omega (arith, c.loop-p.invariant.size, s.requires.0.room)),
+      (vertex c.before.before.before.before.before, near s.requires.0 s.requires.1 c.loop-p.invariant c.loop-p-test.true),
     )
 
 abbrev turn_of : tie.After-f-1 invariant-loop decreases-loop → tie.In-loop-p invariant-loop decreases-loop

@@ -38,8 +38,7 @@ overflow_cast-v c = let p = c.requires.1 in omega (arith, (p.chain.on 0 p.some).
 
 loop-v-init : tie.Need-loop-v-init invariant-loop decreases-loop
 loop-v-init c =
-    let b = c in
-    along_start b.requires.1.chain b.args.f.now (idle (walked_at b.args.row.now b.args.chain.now) _ b.args.f.now b.args.n) b.requires.1.some (walked-first b.requires.1.chain (cell_at b.args.row.now) b.requires.1.some)
+    along_start c.requires.1.chain c.args.f.now (idle (walked_at c.args.row.now c.args.chain.now) _ c.args.f.now c.args.n) c.requires.1.some (walked-first c.requires.1.chain (cell_at c.args.row.now) c.requires.1.some)
 
 -- a turn
 module _ (t : tie.In-loop-v invariant-loop decreases-loop) where
@@ -109,15 +108,14 @@ gains-requires c κs =
 -- what the call says, of the cells themselves
 said : (c : tie.After-gains invariant-loop decreases-loop) → let g = c in Gains (get_or (s (t g.before)).args.f.now (v (t g.before)) (pos 0)) (from g.before) (cell g.before) c.gains.result
 said c =
-    let g = c in
-    subst (λ (z : ℤ). Gains z (from g.before) (cell g.before) c.gains.result) (best_is g.before)
-    (subst (λ (z : ℤ). Gains (to_z w64 (of_z w64 (get_or (head (t g.before)).loop-v.f (v (t g.before)) (pos 0)))) (from g.before) z c.gains.result) (cell_is g.before) c.gains.ensures)
+    subst (λ (z : ℤ). Gains z (from c.before) (cell c.before) c.gains.result) (best_is c.before)
+    (subst (λ (z : ℤ). Gains (to_z w64 (of_z w64 (get_or (head (t c.before)).loop-v.f (v (t c.before)) (pos 0)))) (from c.before) z c.gains.result) (cell_is c.before) c.gains.ensures)
 
 overflow_cast-f : tie.Need-overflow_cast-f invariant-loop decreases-loop
-overflow_cast-f c = let g = c in subst (SFits w64) (sym (cell_is g.before.before)) (widens (fits_d g.before.before))
+overflow_cast-f c = subst (SFits w64) (sym (cell_is c.before.before)) (widens (fits_d c.before.before))
 
 overflow_add-f : tie.Need-overflow_add-f invariant-loop decreases-loop
-overflow_add-f c = let g = c in subst (λ (z : ℤ). SFits w64 (from g.before.before +ℤ z)) (sym (cell64_is g.before.before)) ((said c.before).later c.if-gains.true).0
+overflow_add-f c = subst (λ (z : ℤ). SFits w64 (from c.before.before +ℤ z)) (sym (cell64_is c.before.before)) ((said c.before).later c.if-gains.true).0
 
 offset_bounds-f-v-then-gains : tie.Need-offset_bounds-f-v-then-gains invariant-loop decreases-loop
 offset_bounds-f-v-then-gains c = omega (arith, in_n (t c.before.before))
@@ -139,27 +137,24 @@ loop-v-smaller c = let u = turn_of c in omega (arith, u.loop-v-test.true, (s u).
 
 loop-v-preserved : tie.Need-loop-v-preserved invariant-loop decreases-loop
 loop-v-preserved c =
-    let a = c in
-    let g = a in
-    let u = t g.before.before.before in
+    let u = t c.before.before.before in
     let f₀ = (s u).args.f.now in
-    let still = idle (row u) (from g.before.before.before) f₀ (s u).args.n in
-    let on = ap (λ (d : Delay). arrival_in f₀ (v u) ⋓ (read_cell absent_wide (from g.before.before.before) ⊕ d)) (sym (row_is u)) in
+    let still = idle (row u) (from c.before.before.before) f₀ (s u).args.n in
+    let on = ap (λ (d : Delay). arrival_in f₀ (v u) ⋓ (read_cell absent_wide (from c.before.before.before) ⊕ d)) (sym (row_is u)) in
     let next = get_or (s u).args.chain.now (v u) 0 in
     split c.if-gains.branch-raw
-    (λ w. let y = (said a.before.before).later w.if-gains.true in
-    subst (λ (l : List ℤ). Offering (s u).args.n (s u).args.row.now (s u).args.chain.now (from g.before.before.before) f₀ l next) (sym w.f-is)
-    (along_turn (s u).requires.1.chain f₀ still (head u).loop-v.invariant u.loop-v-test.true (s u).requires.1.room _ (ap (read_cell absent_wide) (ap (λ (z : ℤ). to_z w64 (of_z w64 (from g.before.before.before +ℤ z))) (cell64_is g.before.before.before) ∙ to_z-of_z y.0) ∙ y.1 ∙ on)))
-    (λ w. subst (λ (l : List ℤ). Offering (s u).args.n (s u).args.row.now (s u).args.chain.now (from g.before.before.before) f₀ l next) (sym w.f-is)
-    (along_keep (s u).requires.1.chain f₀ still (head u).loop-v.invariant u.loop-v-test.true ((said a.before.before).not_later w.if-gains.false ∙ on)))
+    (λ w. let y = (said c.before.before).later w.if-gains.true in
+    subst (λ (l : List ℤ). Offering (s u).args.n (s u).args.row.now (s u).args.chain.now (from c.before.before.before) f₀ l next) (sym w.f-is)
+    (along_turn (s u).requires.1.chain f₀ still (head u).loop-v.invariant u.loop-v-test.true (s u).requires.1.room _ (ap (read_cell absent_wide) (ap (λ (z : ℤ). to_z w64 (of_z w64 (from c.before.before.before +ℤ z))) (cell64_is c.before.before.before) ∙ to_z-of_z y.0) ∙ y.1 ∙ on)))
+    (λ w. subst (λ (l : List ℤ). Offering (s u).args.n (s u).args.row.now (s u).args.chain.now (from c.before.before.before) f₀ l next) (sym w.f-is)
+    (along_keep (s u).requires.1.chain f₀ still (head u).loop-v.invariant u.loop-v-test.true ((said c.before.before).not_later w.if-gains.false ∙ on)))
 
 shape_of-f : tie.Need-shape_of-f invariant-loop decreases-loop
 shape_of-f c = c.loop-v.invariant.stored.size
 
 returns : tie.Need-returns invariant-loop decreases-loop
 returns c =
-    let l = c in
-    all_offered l.loop-v.invariant c.loop-v-test.false (to_z-of_z l.ranges.a)
+    all_offered c.loop-v.invariant c.loop-v-test.false (to_z-of_z c.ranges.a)
 
 pub push_spec : {M : Type 1} → statement M
 push_spec =

@@ -56,43 +56,43 @@ module _ (s : tie.Start invariant-loop decreases-loop) where
   reach z l h e ne = reached z ne (subst (λ (y : ℤ). T (fits reached_limit (read_cell absent_wide y))) (sym e) (s.requires.1.1.1 l h))
 
 offset_bounds-f-u : tie.Need-offset_bounds-f-u invariant-loop decreases-loop
-offset_bounds-f-u c = let s = c in omega (arith, in_n s.before, few s.before)
+offset_bounds-f-u c = omega (arith, in_n c.before, few c.before)
 
 slice_copy_out-a : tie.Need-slice_copy_out-a invariant-loop decreases-loop
-slice_copy_out-a c = let s = c in omega (arith, in_n s.before, room s.before)
+slice_copy_out-a c = omega (arith, in_n c.before, room c.before)
 
 overflow_add-b : tie.Need-overflow_add-b invariant-loop decreases-loop
-overflow_add-b c = let s = c in omega (arith, in_n s.before.before, few s.before.before)
+overflow_add-b c = omega (arith, in_n c.before.before, few c.before.before)
 
 offset_bounds-f-n : tie.Need-offset_bounds-f-n invariant-loop decreases-loop
-offset_bounds-f-n c = let s = c in omega (arith, in_n s.before.before, few s.before.before)
+offset_bounds-f-n c = omega (arith, in_n c.before.before, few c.before.before)
 
 slice_copy_out-b : tie.Need-slice_copy_out-b invariant-loop decreases-loop
-slice_copy_out-b c = let s = c in omega (arith, in_n s.before.before, room s.before.before)
+slice_copy_out-b c = omega (arith, in_n c.before.before, room c.before.before)
 
 overflow_mul-c : tie.Need-overflow_mul-c invariant-loop decreases-loop
-overflow_mul-c c = let s = c in omega (arith, in_n s.before.before.before, few s.before.before.before)
+overflow_mul-c c = omega (arith, in_n c.before.before.before, few c.before.before.before)
 
 overflow_add-c : tie.Need-overflow_add-c invariant-loop decreases-loop
-overflow_add-c c = let s = c in omega (arith, in_n s.before.before.before, few s.before.before.before)
+overflow_add-c c = omega (arith, in_n c.before.before.before, few c.before.before.before)
 
 offset_bounds-f-n-2 : tie.Need-offset_bounds-f-n-2 invariant-loop decreases-loop
-offset_bounds-f-n-2 c = let s = c in omega (arith, in_n s.before.before.before, few s.before.before.before)
+offset_bounds-f-n-2 c = omega (arith, in_n c.before.before.before, few c.before.before.before)
 
 slice_copy_out-c : tie.Need-slice_copy_out-c invariant-loop decreases-loop
-slice_copy_out-c c = let s = c in omega (arith, in_n s.before.before.before, room s.before.before.before)
+slice_copy_out-c c = omega (arith, in_n c.before.before.before, room c.before.before.before)
 
 overflow_mul-d : tie.Need-overflow_mul-d invariant-loop decreases-loop
-overflow_mul-d c = let s = c in omega (arith, in_n s.before.before.before.before, few s.before.before.before.before)
+overflow_mul-d c = omega (arith, in_n c.before.before.before.before, few c.before.before.before.before)
 
 overflow_add-d : tie.Need-overflow_add-d invariant-loop decreases-loop
-overflow_add-d c = let s = c in omega (arith, in_n s.before.before.before.before, few s.before.before.before.before)
+overflow_add-d c = omega (arith, in_n c.before.before.before.before, few c.before.before.before.before)
 
 offset_bounds-f-n-3 : tie.Need-offset_bounds-f-n-3 invariant-loop decreases-loop
-offset_bounds-f-n-3 c = let s = c in omega (arith, in_n s.before.before.before.before, few s.before.before.before.before)
+offset_bounds-f-n-3 c = omega (arith, in_n c.before.before.before.before, few c.before.before.before.before)
 
 slice_copy_out-d : tie.Need-slice_copy_out-d invariant-loop decreases-loop
-slice_copy_out-d c = let s = c in omega (arith, in_n s.before.before.before.before, room s.before.before.before.before)
+slice_copy_out-d c = omega (arith, in_n c.before.before.before.before, room c.before.before.before.before)
 
 -- the four values
 module _ (c : tie.After-d-1 invariant-loop decreases-loop) where
@@ -116,12 +116,10 @@ module _ (c : tie.After-d-1 invariant-loop decreases-loop) where
 
 push_four-requires : tie.Need-push_four-requires invariant-loop decreases-loop
 push_four-requires c κs =
-    let k = c in
-    let d = k in
-    let w = s d.before.before.before in
-    let there = k.all_there.ensures k.if-all_there.true in (
-      reach w (read d.before.before.before (u w)) 0 (omega arith) (first d.before.before.before) there.0,
-      (reach w (read d.before.before.before (n w + u w)) 1 (omega arith) (second d.before.before.before) there.1, (reach w (read d.before.before.before (2 * n w + u w)) 2 (omega arith) (third d.before.before.before) there.2, (reach w (read d.before.before.before (3 * n w + u w)) 3 (omega arith) (fourth d.before.before.before) there.3, (w.requires.0, room w)))),
+    let w = s c.before.before.before in
+    let there = c.all_there.ensures c.if-all_there.true in (
+      reach w (read c.before.before.before (u w)) 0 (omega arith) (first c.before.before.before) there.0,
+      (reach w (read c.before.before.before (n w + u w)) 1 (omega arith) (second c.before.before.before) there.1, (reach w (read c.before.before.before (2 * n w + u w)) 2 (omega arith) (third c.before.before.before) there.2, (reach w (read c.before.before.before (3 * n w + u w)) 3 (omega arith) (fourth c.before.before.before) there.3, (w.requires.0, room w)))),
     )
 
 shape_of-f-then-all_there : tie.Need-shape_of-f-then-all_there invariant-loop decreases-loop
@@ -129,15 +127,13 @@ shape_of-f-then-all_there c = c.push_four.auto.f
 
 returns-then-all_there : tie.Need-returns-then-all_there invariant-loop decreases-loop
 returns-then-all_there c =
-    let p = c in
-    let d = p in
-    let w = s d.before.before.before.before.before in
-    let f' = p.push_four.new.f in
-    let e = p.push_four.ensures in
+    let w = s c.before.before.before.before.before in
+    let f' = c.push_four.new.f in
+    let e = c.push_four.ensures in
     let on : (l : ℕ) (z : ℤ) → z ≡ get_or (lane (n w) l (f w)) (u w) (pos 0) → Pushed (n w) w.args.row.now w.args.chain.now z (lane (n w) l (f w)) (lane (n w) l f') → From (n w) w.args.row.now w.args.chain.now (u w) l (lane (n w) l (f w)) (lane (n w) l f')
     = λ l z q h. subst (λ (y : ℤ). Pushed (n w) w.args.row.now w.args.chain.now y (lane (n w) l (f w)) (lane (n w) l f')) q h in (
       each (λ l. From (n w) w.args.row.now w.args.chain.now (u w) l (lane (n w) l (f w)) (lane (n w) l f'))
-          (on 0 _ (first d.before.before.before.before.before) e.0) (on 1 _ (second d.before.before.before.before.before) e.1.0) (on 2 _ (third d.before.before.before.before.before) e.1.1.0) (on 3 _ (fourth d.before.before.before.before.before) e.1.1.1.0),
+          (on 0 _ (first c.before.before.before.before.before) e.0) (on 1 _ (second c.before.before.before.before.before) e.1.0) (on 2 _ (third c.before.before.before.before.before) e.1.1.0) (on 3 _ (fourth c.before.before.before.before.before) e.1.1.1.0),
       e.1.1.1.1,
     )
 
@@ -172,10 +168,9 @@ slice_bounds-push_from-end c = omega (arith, space c, (h c).loop-l.invariant.1.s
 
 push_from-requires : tie.Need-push_from-requires invariant-loop decreases-loop
 push_from-requires c κs =
-    let t = c in
-    let L = (h t.before).loop-l.invariant.1 in (
-      pushable_on (b t.before).requires.0 _ (omega (arith, ap length (lanes_part L), part t.before)),
-      (in_n (b t.before), subst (λ (x : List ℤ). T (fits reached_limit (arrival_in x (u (b t.before))))) (sym (lanes_part L)) ((b t.before).requires.1.1.1 (h t.before).loop-l.l t.loop-l-test.true)),
+    let L = (h c.before).loop-l.invariant.1 in (
+      pushable_on (b c.before).requires.0 _ (omega (arith, ap length (lanes_part L), part c.before)),
+      (in_n (b c.before), subst (λ (x : List ℤ). T (fits reached_limit (arrival_in x (u (b c.before))))) (sym (lanes_part L)) ((b c.before).requires.1.1.1 (h c.before).loop-l.l c.loop-l-test.true)),
     )
 
 overflow_add-l : tie.Need-overflow_add-l invariant-loop decreases-loop
@@ -186,14 +181,12 @@ loop-l-smaller c = omega (arith, c.loop-l-test.true)
 
 loop-l-preserved : tie.Need-loop-l-preserved invariant-loop decreases-loop
 loop-l-preserved c =
-    let k = c in
-    let t = k in
-    let w = b t.before.before.before in
-    let L = (h t.before.before.before).loop-l.invariant.1 in
-    let ys = k.push_from.new.f in (
-      omega (arith, t.loop-l-test.true),
-      lanes_turn L (space t.before.before.before) ys (k.push_from.auto.f ∙ ap length (lanes_part L) ∙ part t.before.before.before)
-          (subst (λ (x : List ℤ). From (n w) w.args.row.now w.args.chain.now (u w) (h t.before.before.before).loop-l.l x ys) (lanes_part L) k.push_from.ensures),
+    let w = b c.before.before.before in
+    let L = (h c.before.before.before).loop-l.invariant.1 in
+    let ys = c.push_from.new.f in (
+      omega (arith, c.loop-l-test.true),
+      lanes_turn L (space c.before.before.before) ys (c.push_from.auto.f ∙ ap length (lanes_part L) ∙ part c.before.before.before)
+          (subst (λ (x : List ℤ). From (n w) w.args.row.now w.args.chain.now (u w) (h c.before.before.before).loop-l.l x ys) (lanes_part L) c.push_from.ensures),
     )
 
 shape_of-f : tie.Need-shape_of-f invariant-loop decreases-loop
@@ -201,10 +194,9 @@ shape_of-f c = c.loop-l.invariant.1.size
 
 returns : tie.Need-returns invariant-loop decreases-loop
 returns c =
-    let l = c in
-    let w = s l.before.before.before.before in
-    let e : l.loop-l.l ≡ 4 = omega (arith, l.loop-l.invariant.0, c.loop-l-test.false) in
-    let L = subst (λ (k : ℕ). Lanes (n w) (From (n w) w.args.row.now w.args.chain.now (u w)) (f w) l.loop-l.f k) e l.loop-l.invariant.1 in
+    let w = s c.before.before.before.before in
+    let e : c.loop-l.l ≡ 4 = omega (arith, c.loop-l.invariant.0, c.loop-l-test.false) in
+    let L = subst (λ (k : ℕ). Lanes (n w) (From (n w) w.args.row.now w.args.chain.now (u w)) (f w) c.loop-l.f k) e c.loop-l.invariant.1 in
     (L.done, lanes_past L)
 
 pub push_each_spec : {M : Type 1} → statement M

@@ -42,9 +42,8 @@ loop-v-init c = record { size = refl; first = begin 0 _; second = begin 1 _; thi
   where
     begin : (l : ℕ) (a : ℤ) → Offering c.args.n c.args.row.now c.args.chain.now a (lane c.args.n l c.args.f.now) (lane c.args.n l c.args.f.now) (get_or c.args.chain.now 0 0)
     begin l a =
-        let b = c in
-        let p = pushable b.before.before in
-        along_start p.chain (lane b.args.n l b.args.f.now) (idle (walked_at b.args.row.now b.args.chain.now) a (lane b.args.n l b.args.f.now) b.args.n) p.some (walked-first p.chain (cell_at b.args.row.now) p.some)
+        let p = pushable c.before.before in
+        along_start p.chain (lane c.args.n l c.args.f.now) (idle (walked_at c.args.row.now c.args.chain.now) a (lane c.args.n l c.args.f.now) c.args.n) p.some (walked-first p.chain (cell_at c.args.row.now) p.some)
 
 -- a turn
 module _ (t : tie.In-loop-v invariant-loop decreases-loop) where
@@ -104,9 +103,8 @@ module _ (k : tie.After-x-1 invariant-loop decreases-loop) where
 
 offer-requires : tie.Need-offer-requires invariant-loop decreases-loop
 offer-requires c κs =
-    let k = c in
-    let i = t k.before in
-    asks k.before (v i) (head i).loop-v.f (omega (arith, in_n i, room i, (head i).loop-v.invariant.size)) (s i).requires.0 (s i).ranges.a
+    let i = t c.before in
+    asks c.before (v i) (head i).loop-v.f (omega (arith, in_n i, room i, (head i).loop-v.invariant.size)) (s i).requires.0 (s i).ranges.a
 
 -- after the first offer, the second, the third and the fourth
 module _ (c : tie.After-offer invariant-loop decreases-loop) where
@@ -124,9 +122,8 @@ overflow_add-n c = let i = t (k₁ c.before.before) in omega (arith, in_n i, few
 
 offer-requires-in-loop-v : tie.Need-offer-requires-in-loop-v invariant-loop decreases-loop
 offer-requires-in-loop-v c κs =
-    let o = c in
-    let i = t (k₁ o.before.before) in
-    asks (k₁ o.before.before) (n i + v i) (f₁ o.before.before) (omega (arith, in_n i, room i, long₁ o.before.before)) (s i).requires.1.0 (s i).ranges.b
+    let i = t (k₁ c.before.before) in
+    asks (k₁ c.before.before) (n i + v i) (f₁ c.before.before) (omega (arith, in_n i, room i, long₁ c.before.before)) (s i).requires.1.0 (s i).ranges.b
 
 module _ (c : tie.After-offer-in-loop-v invariant-loop decreases-loop) where
   abbrev o₁ : tie.After-offer invariant-loop decreases-loop
@@ -146,9 +143,8 @@ overflow_add-n-in-loop-v c = let i = t (k₁ (o₁ c.before.before)) in omega (a
 
 offer-requires-in-loop-v-2 : tie.Need-offer-requires-in-loop-v-2 invariant-loop decreases-loop
 offer-requires-in-loop-v-2 c κs =
-    let o = c in
-    let i = t (k₁ (o₁ o.before.before)) in
-    asks (k₁ (o₁ o.before.before)) (2 * n i + v i) (f₂ o.before.before) (omega (arith, in_n i, room i, long₂ o.before.before)) (s i).requires.1.1.0 (s i).ranges.c
+    let i = t (k₁ (o₁ c.before.before)) in
+    asks (k₁ (o₁ c.before.before)) (2 * n i + v i) (f₂ c.before.before) (omega (arith, in_n i, room i, long₂ c.before.before)) (s i).requires.1.1.0 (s i).ranges.c
 
 module _ (c : tie.After-offer-in-loop-v-2 invariant-loop decreases-loop) where
   abbrev o₂ : tie.After-offer-in-loop-v invariant-loop decreases-loop
@@ -168,9 +164,8 @@ overflow_add-n-in-loop-v-2 c = let i = t (k₁ (o₁ (o₂ c.before.before))) in
 
 offer-requires-in-loop-v-3 : tie.Need-offer-requires-in-loop-v-3 invariant-loop decreases-loop
 offer-requires-in-loop-v-3 c κs =
-    let o = c in
-    let i = t (k₁ (o₁ (o₂ o.before.before))) in
-    asks (k₁ (o₁ (o₂ o.before.before))) (3 * n i + v i) (f₃ o.before.before) (omega (arith, in_n i, room i, long₃ o.before.before)) (s i).requires.1.1.1.0 (s i).ranges.d
+    let i = t (k₁ (o₁ (o₂ c.before.before))) in
+    asks (k₁ (o₁ (o₂ c.before.before))) (3 * n i + v i) (f₃ c.before.before) (omega (arith, in_n i, room i, long₃ c.before.before)) (s i).requires.1.1.1.0 (s i).ranges.d
 
 abbrev last_of : tie.After-shared_slice_known-in-loop-v-1 invariant-loop decreases-loop → tie.After-offer-in-loop-v-3 invariant-loop decreases-loop
 last_of c = c.before.before
@@ -190,24 +185,21 @@ loop-v-smaller c = let i = turn_of c in omega (arith, in_n i, (pushable (s i)).c
 loop-v-preserved : tie.Need-loop-v-preserved invariant-loop decreases-loop
 loop-v-preserved c =
     let d = last_of c in
-    let o = d in
-    let b = o₂ o.before.before.before in
+    let b = o₂ d.before.before.before in
     let a = o₁ b in
     let k = k₁ a in
     let i = t k in
-    walk_turn (pushable (s i)).chain (in_n i) (room i) (arc k) (head i).loop-v.invariant a.offer.auto.f a.offer.ensures b.offer-in-loop-v.auto.f b.offer-in-loop-v.ensures o.offer-in-loop-v-2.auto.f o.offer-in-loop-v-2.ensures d.offer-in-loop-v-3.auto.f d.offer-in-loop-v-3.ensures
+    walk_turn (pushable (s i)).chain (in_n i) (room i) (arc k) (head i).loop-v.invariant a.offer.auto.f a.offer.ensures b.offer-in-loop-v.auto.f b.offer-in-loop-v.ensures d.offer-in-loop-v-2.auto.f d.offer-in-loop-v-2.ensures d.offer-in-loop-v-3.auto.f d.offer-in-loop-v-3.ensures
 
 shape_of-f : tie.Need-shape_of-f invariant-loop decreases-loop
 shape_of-f c = c.loop-v.invariant.size
 
 returns : tie.Need-returns invariant-loop decreases-loop
 returns c =
-    let l = c in
-    let b = l in
-    let w = l.loop-v.invariant in
+    let w = c.loop-v.invariant in
     let e = c.loop-v-test.false in (
-      all_offered w.first e (to_z-of_z b.ranges.a),
-      (all_offered w.second e (to_z-of_z b.ranges.b), (all_offered w.third e (to_z-of_z b.ranges.c), (all_offered w.fourth e (to_z-of_z b.ranges.d), drop_same (b.args.n * 4) b.args.f.now l.loop-v.f w.size w.past))),
+      all_offered w.first e (to_z-of_z c.ranges.a),
+      (all_offered w.second e (to_z-of_z c.ranges.b), (all_offered w.third e (to_z-of_z c.ranges.c), (all_offered w.fourth e (to_z-of_z c.ranges.d), drop_same (c.args.n * 4) c.args.f.now c.loop-v.f w.size w.past))),
     )
 
 pub push_four_spec : {M : Type 1} → statement M

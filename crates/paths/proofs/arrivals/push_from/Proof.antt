@@ -11,26 +11,21 @@ use Rattle.paths.proofs.arrivals.push_from.Statement.{statement}
 use Rattle.paths.proofs.arrivals.push_from.Tie as tie
 
 offset_bounds-f-u : tie.Need-offset_bounds-f-u
-offset_bounds-f-u c = let s = c in omega (arith, s.requires.0.few, s.requires.1.0)
+offset_bounds-f-u c = omega (arith, c.requires.0.few, c.requires.1.0)
 
 slice_copy_out-a : tie.Need-slice_copy_out-a
-slice_copy_out-a c = let s = c in omega (arith, s.requires.0.room, s.requires.1.0)
+slice_copy_out-a c = omega (arith, c.requires.0.room, c.requires.1.0)
 
 push-requires : tie.Need-push-requires
 push-requires c κs =
-    let k = c in
-    let s = k in
-    (subst Reached (sym (back w64 _ k.a-1.given)) (reached _ (other_bits w64 k.if-a.true) s.requires.1.1), s.requires.0)
+    (subst Reached (sym (back w64 _ c.a-1.given)) (reached _ (other_bits w64 c.if-a.true) c.requires.1.1), c.requires.0)
 
 shape_of-f : tie.Need-shape_of-f
 shape_of-f c = c.push.auto.f
 
 returns-then-a : tie.Need-returns-then-a
 returns-then-a c =
-    let p = c in
-    let a = p in
-    let s = a in
-    subst (λ (z : ℤ). Pushed s.args.n s.args.row.now s.args.chain.now z s.args.f.now p.push.new.f) (back w64 _ a.a-1.given) p.push.ensures
+    subst (λ (z : ℤ). Pushed c.args.n c.args.row.now c.args.chain.now z c.args.f.now c.push.new.f) (back w64 _ c.a-1.given) c.push.ensures
 
 returns-else-a : tie.Need-returns-else-a
 returns-else-a c = pushed_none _ _ _ _ _ (same_bits {w = w64} {b = absent_wide} (record { sfits = c.a-1.given }) (sfits_lit tt) c.if-a.false)

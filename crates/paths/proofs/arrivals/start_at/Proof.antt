@@ -30,9 +30,7 @@ signal n i f l =
 
 returns : tie.Need-returns
 returns c =
-    let k = c in
-    let s = k in
-    ap (λ (x : List ℤ). set x s.args.i (pos 0)) k.start_none.ensures ∙ signal s.args.n s.args.i s.args.f.now s.requires.1
+    ap (λ (x : List ℤ). set x c.args.i (pos 0)) c.start_none.ensures ∙ signal c.args.n c.args.i c.args.f.now c.requires.1
 
 pub start_at_spec : {M : Type 1} → statement M
 start_at_spec = tie.close (tie.spec

@@ -48,10 +48,10 @@ slice_bounds-start_at-end : tie.Need-slice_bounds-start_at-end invariant-loop de
 slice_bounds-start_at-end c = omega (arith, room c, (h c).loop-l.invariant.1.size)
 
 overflow_add-i : tie.Need-overflow_add-i invariant-loop decreases-loop
-overflow_add-i c = let t = c in omega (arith, t.loop-l-test.true, (s t.before).requires.1, (s t.before).ranges.n)
+overflow_add-i c = omega (arith, c.loop-l-test.true, (s c.before).requires.1, (s c.before).ranges.n)
 
 start_at-requires : tie.Need-start_at-requires invariant-loop decreases-loop
-start_at-requires c κs = let t = c in (omega (arith, ap length (lanes_part (h t.before).loop-l.invariant.1), part t.before), omega (arith, t.loop-l-test.true, (s t.before).requires.1))
+start_at-requires c κs = (omega (arith, ap length (lanes_part (h c.before).loop-l.invariant.1), part c.before), omega (arith, c.loop-l-test.true, (s c.before).requires.1))
 
 overflow_add-l : tie.Need-overflow_add-l invariant-loop decreases-loop
 overflow_add-l c = omega (arith, c.loop-l-test.true)
@@ -61,13 +61,11 @@ loop-l-smaller c = omega (arith, c.loop-l-test.true)
 
 loop-l-preserved : tie.Need-loop-l-preserved invariant-loop decreases-loop
 loop-l-preserved c =
-    let k = c in
-    let t = k in
-    let L = (h t.before.before.before).loop-l.invariant.1 in
-    let n = (s t.before.before.before).args.n in (
-      omega (arith, t.loop-l-test.true),
-      lanes_turn L (room t.before.before.before) k.start_at.new.f (k.start_at.auto.f ∙ ap length (lanes_part L) ∙ part t.before.before.before)
-          (k.start_at.ensures ∙ ap (λ (x : List ℤ). stored n (only_at ((s t.before.before.before).args.i + (h t.before.before.before).loop-l.l)) x) (lanes_part L)),
+    let L = (h c.before.before.before).loop-l.invariant.1 in
+    let n = (s c.before.before.before).args.n in (
+      omega (arith, c.loop-l-test.true),
+      lanes_turn L (room c.before.before.before) c.start_at.new.f (c.start_at.auto.f ∙ ap length (lanes_part L) ∙ part c.before.before.before)
+          (c.start_at.ensures ∙ ap (λ (x : List ℤ). stored n (only_at ((s c.before.before.before).args.i + (h c.before.before.before).loop-l.l)) x) (lanes_part L)),
     )
 
 shape_of-f : tie.Need-shape_of-f invariant-loop decreases-loop
@@ -75,10 +73,8 @@ shape_of-f c = c.loop-l.invariant.1.size
 
 returns : tie.Need-returns invariant-loop decreases-loop
 returns c =
-    let l = c in
-    let s = l in
-    let e : l.loop-l.l ≡ 4 = omega (arith, l.loop-l.invariant.0, c.loop-l-test.false) in
-    let L = subst (λ (k : ℕ). Lanes s.args.n (Started s.args.n s.args.i) s.args.f.now l.loop-l.f k) e l.loop-l.invariant.1 in
+    let e : c.loop-l.l ≡ 4 = omega (arith, c.loop-l.invariant.0, c.loop-l-test.false) in
+    let L = subst (λ (k : ℕ). Lanes c.args.n (Started c.args.n c.args.i) c.args.f.now c.loop-l.f k) e c.loop-l.invariant.1 in
     (L.done, lanes_past L)
 
 pub start_four_spec : {M : Type 1} → statement M

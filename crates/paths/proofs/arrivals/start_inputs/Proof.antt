@@ -22,13 +22,11 @@ offset_bounds-f-v : tie.Need-offset_bounds-f-v invariant-loop decreases-loop
 offset_bounds-f-v c = omega (arith, c.well_formed.1.0)
 
 loop-v-preserved : tie.Need-loop-v-preserved invariant-loop decreases-loop
-loop-v-preserved c =
-    let l = c in
-    let s = l in (
-      omega arith,
-      simp length-set l.loop-v.invariant.1,
-      fill_turn (from_list s.args.inputs.now) s.args.f.now l.loop-v.f l.loop-v.v _ (omega arith) l.loop-v.invariant.2 (back w64 _ c.from_list.type_inv ∙ c.from_list.ensures),
-    )
+loop-v-preserved c = (
+  omega arith,
+  simp length-set c.loop-v.invariant.1,
+  fill_turn (from_list c.args.inputs.now) c.args.f.now c.loop-v.f c.loop-v.v _ (omega arith) c.loop-v.invariant.2 (back w64 _ c.from_list.type_inv ∙ c.from_list.ensures),
+)
 
 shape_of-f : tie.Need-shape_of-f invariant-loop decreases-loop
 shape_of-f c = c.loop-v.invariant.1

@@ -41,12 +41,11 @@ loop-u-smaller : tie.Need-loop-u-smaller invariant-loop decreases-loop
 loop-u-smaller c = omega (arith, c.loop-u-test.true)
 
 loop-u-preserved : tie.Need-loop-u-preserved invariant-loop decreases-loop
-loop-u-preserved c =
-    let l = c in (
-      omega (arith, c.loop-u-test.true),
-      omega (arith, row c, l.loop-u.invariant.1),
-      omega (arith, c.fan_out-total.ensures, l.loop-u.invariant.2, sum_more (fan_out l.args.board.vertices (graph_of l.args.board.vertices l.args.table.now)) l.loop-u.u),
-    )
+loop-u-preserved c = (
+  omega (arith, c.loop-u-test.true),
+  omega (arith, row c, c.loop-u.invariant.1),
+  omega (arith, c.fan_out-total.ensures, c.loop-u.invariant.2, sum_more (fan_out c.args.board.vertices (graph_of c.args.board.vertices c.args.table.now)) c.loop-u.u),
+)
 
 returns : tie.Need-returns invariant-loop decreases-loop
 unfolding arcs

@@ -56,20 +56,19 @@ slice_bounds-row_fits-start : tie.Need-slice_bounds-row_fits-start invariant-loo
 slice_bounds-row_fits-start c = omega (arith, row c, c.requires.room)
 
 row_fits-requires : tie.Need-row_fits-requires invariant-loop decreases-loop
-row_fits-requires c κs = let i = c in omega (arith, lent_long (n i.before) (t i.before) (head i.before).loop-u.u (head i.before).requires.room i.loop-u-test.true)
+row_fits-requires c κs = omega (arith, lent_long (n c.before) (t c.before) (head c.before).loop-u.u (head c.before).requires.room c.loop-u-test.true)
 
 said : (c : tie.After-row_fits invariant-loop decreases-loop) → let i = c in every (n i.before.before) (λ v. right (graph_of (n i.before.before) (t i.before.before) (head i.before.before).loop-u.u v)) ≡ c.row_fits.result
 said c =
-    let i = c in
-    sym (c.row_fits.ensures ∙ every_same (n i.before.before) (λ v. right (cell_at (lent (n i.before.before) (t i.before.before) (head i.before.before).loop-u.u (head i.before.before).requires.room i.loop-u-test.true) v)) (λ v. right (graph_of (n i.before.before) (t i.before.before) (head i.before.before).loop-u.u v))
-    (λ v l. ap right (lent_cell (n i.before.before) (t i.before.before) (head i.before.before).loop-u.u (head i.before.before).requires.room i.loop-u-test.true v l)))
+    sym (c.row_fits.ensures ∙ every_same (n c.before.before) (λ v. right (cell_at (lent (n c.before.before) (t c.before.before) (head c.before.before).loop-u.u (head c.before.before).requires.room c.loop-u-test.true) v)) (λ v. right (graph_of (n c.before.before) (t c.before.before) (head c.before.before).loop-u.u v))
+    (λ v l. ap right (lent_cell (n c.before.before) (t c.before.before) (head c.before.before).loop-u.u (head c.before.before).requires.room c.loop-u-test.true v l)))
 
 returns-then-not-row_fits : tie.Need-returns-then-not-row_fits invariant-loop decreases-loop
 unfolding cells_fit
-returns-then-not-row_fits c = let i = c in sym (every_broken _ _ (head i.before.before.before).loop-u.u i.loop-u-test.true (said c.before ∙ not-true _ c.if-not-row_fits.true-raw))
+returns-then-not-row_fits c = sym (every_broken _ _ (head c.before.before.before).loop-u.u c.loop-u-test.true (said c.before ∙ not-true _ c.if-not-row_fits.true-raw))
 
 loop-u-preserved : tie.Need-loop-u-preserved invariant-loop decreases-loop
-loop-u-preserved c = let i = c in (omega (arith, i.loop-u-test.true), every_more _ _ (head i.before.before.before).loop-u.invariant.1 (said c.before ∙ not-false _ c.if-not-row_fits.false-raw))
+loop-u-preserved c = (omega (arith, c.loop-u-test.true), every_more _ _ (head c.before.before.before).loop-u.invariant.1 (said c.before ∙ not-false _ c.if-not-row_fits.false-raw))
 
 returns : tie.Need-returns invariant-loop decreases-loop
 unfolding cells_fit

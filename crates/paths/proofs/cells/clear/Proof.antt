@@ -20,8 +20,7 @@ loop-v-init c = (omega arith, refl, fill_none _ _)
 
 loop-v-preserved : tie.Need-loop-v-preserved invariant-loop decreases-loop
 loop-v-preserved c =
-    let l = c in
-    (omega arith, simp length-set l.loop-v.invariant.1, fill_turn (λ _. absent_cell) l.args.row.now l.loop-v.row l.loop-v.v _ (omega arith) l.loop-v.invariant.2 refl)
+    (omega arith, simp length-set c.loop-v.invariant.1, fill_turn (λ _. absent_cell) c.args.row.now c.loop-v.row c.loop-v.v _ (omega arith) c.loop-v.invariant.2 refl)
 
 shape_of-row : tie.Need-shape_of-row invariant-loop decreases-loop
 shape_of-row c = c.loop-v.invariant.1

@@ -50,7 +50,7 @@ offset_bounds-table-at c = omega (arith, small c, c.requires.low)
 bounds-table-at : tie.Need-bounds-table-at invariant-loop decreases-loop
 bounds-table-at c = c.requires.inside _ c.loop-i-test.true
 
-said : (c : tie.After-is_arc invariant-loop decreases-loop) → let l = c in let s = l in present (cell_at s.args.table.now (s.args.from + s.args.stride * l.loop-i.i)) ≡ c.is_arc.result
+said : (c : tie.After-is_arc invariant-loop decreases-loop) → present (cell_at c.args.table.now (c.args.from + c.args.stride * c.loop-i.i)) ≡ c.is_arc.result
 said c = sym (c.is_arc.ensures ∙ ap (λ (z : ℤ). present (read_cell absent_cell z)) (back w32 _ c.is_arc-arg-1.given))
 
 -- the byte has room: fewer than `times` cells have been looked at
@@ -59,13 +59,10 @@ overflow_add-total c = omega arith
 
 loop-i-preserved : tie.Need-loop-i-preserved invariant-loop decreases-loop
 loop-i-preserved c =
-    let a = c in
-    let l = a in
-    let s = l in
-    let more = sum_more (bit_at s.args.table.now s.args.from s.args.stride) l.loop-i.i in
+    let more = sum_more (bit_at c.args.table.now c.args.from c.args.stride) c.loop-i.i in
     split c.if-is_arc.branch-raw
-    (λ w. let e = bit_of (cell_at s.args.table.now (s.args.from + s.args.stride * l.loop-i.i)) true (said a.before ∙ w.if-is_arc.true) in (omega arith, omega (arith, w.total-is), omega (arith, w.total-is, e, more, l.loop-i.invariant.2)))
-    (λ w. let e = bit_of (cell_at s.args.table.now (s.args.from + s.args.stride * l.loop-i.i)) false (said a.before ∙ w.if-is_arc.false) in (omega arith, omega (arith, w.total-is), omega (arith, w.total-is, e, more, l.loop-i.invariant.2)))
+    (λ w. let e = bit_of (cell_at c.args.table.now (c.args.from + c.args.stride * c.loop-i.i)) true (said c.before ∙ w.if-is_arc.true) in (omega arith, omega (arith, w.total-is), omega (arith, w.total-is, e, more, c.loop-i.invariant.2)))
+    (λ w. let e = bit_of (cell_at c.args.table.now (c.args.from + c.args.stride * c.loop-i.i)) false (said c.before ∙ w.if-is_arc.false) in (omega arith, omega (arith, w.total-is), omega (arith, w.total-is, e, more, c.loop-i.invariant.2)))
 
 overflow_cast-result : tie.Need-overflow_cast-result invariant-loop decreases-loop
 overflow_cast-result c = omega (arith, c.loop-i.invariant.1, c.loop-i.invariant.0, c.requires.few)

@@ -34,9 +34,8 @@ count-requires c κs = record {
 returns : tie.Need-returns
 unfolding fan_in
 returns c =
-    let s = c in
-    c.count.ensures ∙ sum_eq (n s.before) (λ i. bit (cell_at (t s.before) (v s.before + n s.before * i))) (λ i. bit (graph_of (n s.before) (t s.before) i (v s.before)))
-    (λ i l. ap bit (ap (cell_at (t s.before)) (add_comm (v s.before) (n s.before * i)) ∙ sym (graph_of_at (n s.before) (t s.before) i (v s.before) l s.requires.1)))
+    c.count.ensures ∙ sum_eq (n c.before) (λ i. bit (cell_at (t c.before) (v c.before + n c.before * i))) (λ i. bit (graph_of (n c.before) (t c.before) i (v c.before)))
+    (λ i l. ap bit (ap (cell_at (t c.before)) (add_comm (v c.before) (n c.before * i)) ∙ sym (graph_of_at (n c.before) (t c.before) i (v c.before) l c.requires.1)))
 
 pub fan_in_spec : {M : Type 1} → statement M
 fan_in_spec = tie.close (tie.spec

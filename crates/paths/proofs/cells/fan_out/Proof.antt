@@ -40,9 +40,8 @@ count-requires c κs = record {
 returns : tie.Need-returns
 unfolding fan_out
 returns c =
-    let s = c in
-    c.count.ensures ∙ sum_eq (n s.before) (λ i. bit (cell_at (t s.before) (n s.before * u s.before + 1 * i))) (λ i. bit (graph_of (n s.before) (t s.before) (u s.before) i))
-    (λ i l. ap bit (ap (λ (x : ℕ). cell_at (t s.before) (n s.before * u s.before + x)) (once i) ∙ sym (graph_of_at (n s.before) (t s.before) (u s.before) i s.requires.1 l)))
+    c.count.ensures ∙ sum_eq (n c.before) (λ i. bit (cell_at (t c.before) (n c.before * u c.before + 1 * i))) (λ i. bit (graph_of (n c.before) (t c.before) (u c.before) i))
+    (λ i l. ap bit (ap (λ (x : ℕ). cell_at (t c.before) (n c.before * u c.before + x)) (once i) ∙ sym (graph_of_at (n c.before) (t c.before) (u c.before) i c.requires.1 l)))
   where
     once : (i : ℕ) → 1 * i ≡ i
     once i = omega arith

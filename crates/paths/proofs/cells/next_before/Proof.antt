@@ -61,21 +61,18 @@ bounds-table-at c = omega (arith, row c, (start c).requires.0.room, (start c).re
 
 said : (c : tie.After-is_arc invariant-loop decreases-loop) → let i = c in present (graph_of (n i.before.before) (t i.before.before) (u i.before.before) (v i.before.before)) ≡ c.is_arc.result
 said c =
-    let i = c in
-    ap present (graph_of_at (n i.before.before) (t i.before.before) (u i.before.before) (v i.before.before) (below i.before.before) (start i.before.before).requires.1.0)
+    ap present (graph_of_at (n c.before.before) (t c.before.before) (u c.before.before) (v c.before.before) (below c.before.before) (start c.before.before).requires.1.0)
     ∙ sym (c.is_arc.ensures ∙ ap (λ (z : ℤ). present (read_cell absent_cell z)) (back w32 _ c.is_arc-arg-1.given))
 
 returns-then-is_arc : tie.Need-returns-then-is_arc invariant-loop decreases-loop
 returns-then-is_arc c =
-    let i = c in
-    let l = i.loop-u in
-    record { past = l.invariant.0; upto = l.invariant.1; none = l.invariant.2; arc = λ _. bit_of (graph_of (n i.before.before.before) (t i.before.before.before) (u i.before.before.before) (v i.before.before.before)) true (said c.before ∙ c.if-is_arc.true) }
+    let l = c.loop-u in
+    record { past = l.invariant.0; upto = l.invariant.1; none = l.invariant.2; arc = λ _. bit_of (graph_of (n c.before.before.before) (t c.before.before.before) (u c.before.before.before) (v c.before.before.before)) true (said c.before ∙ c.if-is_arc.true) }
 
 loop-u-preserved : tie.Need-loop-u-preserved invariant-loop decreases-loop
 loop-u-preserved c =
-    let i = c in
-    let l = i.loop-u in
-    (omega (arith, l.invariant.0), omega (arith, i.loop-u-test.true), passed_more (graph_of (n i.before.before.before) (t i.before.before.before)) (v i.before.before.before) (start i.before.before.before).args.from (u i.before.before.before) l.invariant.2 (bit_of (graph_of (n i.before.before.before) (t i.before.before.before) (u i.before.before.before) (v i.before.before.before)) false (said c.before ∙ c.if-is_arc.false)))
+    let l = c.loop-u in
+    (omega (arith, l.invariant.0), omega (arith, c.loop-u-test.true), passed_more (graph_of (n c.before.before.before) (t c.before.before.before)) (v c.before.before.before) (start c.before.before.before).args.from (u c.before.before.before) l.invariant.2 (bit_of (graph_of (n c.before.before.before) (t c.before.before.before) (u c.before.before.before) (v c.before.before.before)) false (said c.before ∙ c.if-is_arc.false)))
 
 returns : tie.Need-returns invariant-loop decreases-loop
 returns c = let l = c.loop-u in record { past = l.invariant.0; upto = l.invariant.1; none = l.invariant.2; arc = λ h. absurd (omega (arith, c.loop-u-test.false)) }

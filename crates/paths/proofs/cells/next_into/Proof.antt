@@ -100,54 +100,47 @@ said_2 c b e =
 
 returns-then-is_arc : tie.Need-returns-then-is_arc invariant-loop decreases-loop
 returns-then-is_arc c =
-    let i = c in
-    let l = i.loop-u in
+    let l = c.loop-u in
     record { past = l.invariant.0; upto = l.invariant.1; none = l.invariant.2; arc = λ _. said c.before true c.if-is_arc.true }
 
 overflow_add-at-in-loop-u : tie.Need-overflow_add-at-in-loop-u invariant-loop decreases-loop
-overflow_add-at-in-loop-u c = let i = c in omega (arith, next i.before.before.before, row i.before.before.before, room i.before.before.before, inside i.before.before.before)
+overflow_add-at-in-loop-u c = omega (arith, next c.before.before.before, row c.before.before.before, room c.before.before.before, inside c.before.before.before)
 
 offset_bounds-table-at-in-loop-u : tie.Need-offset_bounds-table-at-in-loop-u invariant-loop decreases-loop
-offset_bounds-table-at-in-loop-u c = let i = c in omega (arith, next i.before.before.before, row i.before.before.before, room i.before.before.before, inside i.before.before.before)
+offset_bounds-table-at-in-loop-u c = omega (arith, next c.before.before.before, row c.before.before.before, room c.before.before.before, inside c.before.before.before)
 
 bounds-table-at-in-loop-u : tie.Need-bounds-table-at-in-loop-u invariant-loop decreases-loop
-bounds-table-at-in-loop-u c = let i = c in omega (arith, next i.before.before.before, row i.before.before.before, room i.before.before.before, inside i.before.before.before)
+bounds-table-at-in-loop-u c = omega (arith, next c.before.before.before, row c.before.before.before, room c.before.before.before, inside c.before.before.before)
 
 -- the first of the two is passed
 first_passed : (c : tie.Else-is_arc invariant-loop decreases-loop) → let i = c in Passed (g i.before.before.before) (v i.before.before.before) (from i.before.before.before) (u i.before.before.before + 1)
 first_passed c =
-    let i = c in
-    passed_more (g i.before.before.before) (v i.before.before.before) (from i.before.before.before) (u i.before.before.before) i.loop-u.invariant.2 (said c.before false c.if-is_arc.false)
+    passed_more (g c.before.before.before) (v c.before.before.before) (from c.before.before.before) (u c.before.before.before) c.loop-u.invariant.2 (said c.before false c.if-is_arc.false)
 
 overflow_add-result : tie.Need-overflow_add-result invariant-loop decreases-loop
-overflow_add-result c = let i = c in omega (arith, two i.before.before.before.before.before.before, (start i.before.before.before.before.before.before).requires.0.sized.few)
+overflow_add-result c = omega (arith, two c.before.before.before.before.before.before, (start c.before.before.before.before.before.before).requires.0.sized.few)
 
 returns-then-is_arc-2 : tie.Need-returns-then-is_arc-2 invariant-loop decreases-loop
 returns-then-is_arc-2 c =
-    let e = c in
-    let i = e in
-    record { past = omega (arith, i.loop-u.invariant.0); upto = omega (arith, two i.before.before.before.before.before.before); none = first_passed e.before.before.before; arc = λ _. said_2 c.before true c.if-is_arc-2.true }
+    record { past = omega (arith, c.loop-u.invariant.0); upto = omega (arith, two c.before.before.before.before.before.before); none = first_passed c.before.before.before; arc = λ _. said_2 c.before true c.if-is_arc-2.true }
 
 overflow_add-u : tie.Need-overflow_add-u invariant-loop decreases-loop
-overflow_add-u c = let i = c in omega (arith, two i.before.before.before.before.before.before, (start i.before.before.before.before.before.before).requires.0.sized.few)
+overflow_add-u c = omega (arith, two c.before.before.before.before.before.before, (start c.before.before.before.before.before.before).requires.0.sized.few)
 
 loop-u-smaller : tie.Need-loop-u-smaller invariant-loop decreases-loop
-loop-u-smaller c = let i = c in omega (arith, two i.before.before.before.before.before.before)
+loop-u-smaller c = omega (arith, two c.before.before.before.before.before.before)
 
 loop-u-preserved : tie.Need-loop-u-preserved invariant-loop decreases-loop
 loop-u-preserved c =
-    let e = c in
-    let i = e in
-    let q : u i.before.before.before.before.before.before + 1 + 1 ≡ u i.before.before.before.before.before.before + 2 = omega arith in
-    (omega (arith, i.loop-u.invariant.0), omega (arith, two i.before.before.before.before.before.before), rw q at (passed_more (g i.before.before.before.before.before.before) (v i.before.before.before.before.before.before) (from i.before.before.before.before.before.before) (u i.before.before.before.before.before.before + 1) (first_passed e.before.before.before) (said_2 c.before false c.if-is_arc-2.false)))
+    let q : u c.before.before.before.before.before.before + 1 + 1 ≡ u c.before.before.before.before.before.before + 2 = omega arith in
+    (omega (arith, c.loop-u.invariant.0), omega (arith, two c.before.before.before.before.before.before), rw q at (passed_more (g c.before.before.before.before.before.before) (v c.before.before.before.before.before.before) (from c.before.before.before.before.before.before) (u c.before.before.before.before.before.before + 1) (first_passed c.before.before.before) (said_2 c.before false c.if-is_arc-2.false)))
 
 next_before-requires : tie.Need-next_before-requires invariant-loop decreases-loop
-next_before-requires c κs = let s = c in (s.requires.0, (s.requires.1.0, (c.loop-u.invariant.1, omega arith)))
+next_before-requires c κs = (c.requires.0, (c.requires.1.0, (c.loop-u.invariant.1, omega arith)))
 
 returns : tie.Need-returns invariant-loop decreases-loop
 returns c =
-    let l = c in
-    passed_on _ _ _ l.loop-u.u l.loop-u.invariant.2 _ _ l.loop-u.invariant.0 c.next_before.ensures
+    passed_on _ _ _ c.loop-u.u c.loop-u.invariant.2 _ _ c.loop-u.invariant.0 c.next_before.ensures
 
 pub next_into_spec : {M : Type 1} → statement M
 next_into_spec =

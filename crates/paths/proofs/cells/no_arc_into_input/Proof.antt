@@ -56,18 +56,17 @@ count-requires c κs = record {
 
 counted : (c : tie.After-count invariant-loop decreases-loop) → let i = c in c.count.result ≡ to_inputs (m i.before) (n i.before) (graph_of (n i.before) (t i.before)) (u i.before)
 counted c =
-    let i = c in
-    c.count.ensures ∙ sum_eq (m i.before) (λ k. bit (cell_at (t i.before) (n i.before * u i.before + 1 * k))) (λ k. bit (graph_of (n i.before) (t i.before) (u i.before) k))
-    (λ k l. ap bit (ap (λ (x : ℕ). cell_at (t i.before) (n i.before * u i.before + x)) (once k) ∙ sym (graph_of_at (n i.before) (t i.before) (u i.before) k i.loop-u-test.true (omega (arith, (start i.before).requires.sized.roles)))))
+    c.count.ensures ∙ sum_eq (m c.before) (λ k. bit (cell_at (t c.before) (n c.before * u c.before + 1 * k))) (λ k. bit (graph_of (n c.before) (t c.before) (u c.before) k))
+    (λ k l. ap bit (ap (λ (x : ℕ). cell_at (t c.before) (n c.before * u c.before + x)) (once k) ∙ sym (graph_of_at (n c.before) (t c.before) (u c.before) k c.loop-u-test.true (omega (arith, (start c.before).requires.sized.roles)))))
   where
     once : (k : ℕ) → 1 * k ≡ k
     once k = omega arith
 
 returns-then-count-ne0 : tie.Need-returns-then-count-ne0 invariant-loop decreases-loop
-returns-then-count-ne0 c = let a = c in let i = a in sym (arc_found (m i.before.before) (n i.before.before) (graph_of (n i.before.before) (t i.before.before)) (u i.before.before) i.loop-u-test.true (λ e. c.if-count-ne0.true (counted a.before ∙ e)))
+returns-then-count-ne0 c = sym (arc_found (m c.before.before) (n c.before.before) (graph_of (n c.before.before) (t c.before.before)) (u c.before.before) c.loop-u-test.true (λ e. c.if-count-ne0.true (counted c.before ∙ e)))
 
 loop-u-preserved : tie.Need-loop-u-preserved invariant-loop decreases-loop
-loop-u-preserved c = let a = c in let i = a in (omega (arith, i.loop-u-test.true), below_more _ _ i.loop-u.invariant.1 (sym (counted a.before) ∙ c.if-count-ne0.false))
+loop-u-preserved c = (omega (arith, c.loop-u-test.true), below_more _ _ c.loop-u.invariant.1 (sym (counted c.before) ∙ c.if-count-ne0.false))
 
 returns : tie.Need-returns invariant-loop decreases-loop
 returns c = sym (none_found _ _ _ (λ k l. c.loop-u.invariant.1 k (omega arith)))

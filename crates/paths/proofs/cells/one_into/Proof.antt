@@ -13,11 +13,10 @@ next_into-u-requires c κs = (c.requires.0, (c.requires.1, omega arith))
 
 returns-then-u-n : tie.Need-returns-then-u-n
 returns-then-u-n c =
-    let s = c in
-    let n = s.args.board.vertices in
-    let g = graph_of n s.args.table.now in
-    let z : fan_in n g s.args.v ≡ 0 = no_arc n g s.args.v c.next_into-u.result c.next_into-u.ensures c.if-u-n.true in
-    sym (ne_eqb (fan_in n g s.args.v) 1 (λ e. omega (arith, z, e)))
+    let n = c.args.board.vertices in
+    let g = graph_of n c.args.table.now in
+    let z : fan_in n g c.args.v ≡ 0 = no_arc n g c.args.v c.next_into-u.result c.next_into-u.ensures c.if-u-n.true in
+    sym (ne_eqb (fan_in n g c.args.v) 1 (λ e. omega (arith, z, e)))
 
 -- the first arc
 low : (c : tie.Else-u-n) → c.next_into-u.result < c.args.board.vertices

@@ -26,15 +26,13 @@ loop-v-init c = (omega arith, sym (every_none _))
 
 loop-v-preserved : tie.Need-loop-v-preserved invariant-loop decreases-loop
 loop-v-preserved c =
-    let l = c in
-    let high = to_z w32 (of_z w32 l.args.high) in
-    (omega arith, ap₂ ◌&&◌ l.loop-v.invariant.1 (ap (λ (z : ℤ). le_z z high) (back w32 (get_or l.args.row.now l.loop-v.v (pos 0)) c.all-1.given)) ∙ sym (every_next _ l.loop-v.v))
+    let high = to_z w32 (of_z w32 c.args.high) in
+    (omega arith, ap₂ ◌&&◌ c.loop-v.invariant.1 (ap (λ (z : ℤ). le_z z high) (back w32 (get_or c.args.row.now c.loop-v.v (pos 0)) c.all-1.given)) ∙ sym (every_next _ c.loop-v.v))
 
 returns : tie.Need-returns invariant-loop decreases-loop
 returns c =
-    let s = c in
-    let e : c.loop-v.v ≡ s.args.n = omega arith in
-    rw (e, to_z-of_z {w = w32} s.ranges.high) at c.loop-v.invariant.1
+    let e : c.loop-v.v ≡ c.args.n = omega arith in
+    rw (e, to_z-of_z {w = w32} c.ranges.high) at c.loop-v.invariant.1
 
 pub row_upto_spec : {M : Type 1} → statement M
 row_upto_spec =

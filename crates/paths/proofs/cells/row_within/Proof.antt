@@ -26,19 +26,17 @@ loop-v-init : tie.Need-loop-v-init invariant-loop decreases-loop
 loop-v-init c = (omega arith, sym (every_none _))
 
 -- a turn's cell, with the bounds as the loop carries them
-said : (c : tie.After-within-all invariant-loop decreases-loop) → let l = c in let s = l in c.within-all.result ≡ between (to_z w32 (of_z w32 s.args.low)) (to_z w32 (of_z w32 s.args.high)) (cell_at s.args.row.now l.loop-v.v)
+said : (c : tie.After-within-all invariant-loop decreases-loop) → let s = c in c.within-all.result ≡ between (to_z w32 (of_z w32 s.args.low)) (to_z w32 (of_z w32 s.args.high)) (cell_at s.args.row.now c.loop-v.v)
 said c =
-    let s = c in
-    c.within-all.ensures ∙ ap (λ (z : ℤ). between (to_z w32 (of_z w32 s.args.low)) (to_z w32 (of_z w32 s.args.high)) (read_cell absent_cell z)) (back w32 _ c.within-arg-1.given)
+    c.within-all.ensures ∙ ap (λ (z : ℤ). between (to_z w32 (of_z w32 c.args.low)) (to_z w32 (of_z w32 c.args.high)) (read_cell absent_cell z)) (back w32 _ c.within-arg-1.given)
 
 loop-v-preserved : tie.Need-loop-v-preserved invariant-loop decreases-loop
-loop-v-preserved c = let l = c in (omega arith, ap₂ ◌&&◌ l.loop-v.invariant.1 (said c) ∙ sym (every_next _ l.loop-v.v))
+loop-v-preserved c = (omega arith, ap₂ ◌&&◌ c.loop-v.invariant.1 (said c) ∙ sym (every_next _ c.loop-v.v))
 
 returns : tie.Need-returns invariant-loop decreases-loop
 returns c =
-    let s = c in
-    let e : c.loop-v.v ≡ s.args.n = omega arith in
-    rw (e, to_z-of_z {w = w32} s.ranges.low, to_z-of_z {w = w32} s.ranges.high) at c.loop-v.invariant.1
+    let e : c.loop-v.v ≡ c.args.n = omega arith in
+    rw (e, to_z-of_z {w = w32} c.ranges.low, to_z-of_z {w = w32} c.ranges.high) at c.loop-v.invariant.1
 
 pub row_within_spec : {M : Type 1} → statement M
 row_within_spec =

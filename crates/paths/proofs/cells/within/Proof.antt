@@ -17,7 +17,7 @@ said : (c : tie.After-is_arc) → present (read_cell absent_cell c.args.x) ≡ c
 said c = sym (c.is_arc.ensures ∙ ap (λ (z : ℤ). present (read_cell absent_cell z)) (to_z-of_z c.ranges.x))
 
 returns-then-not-is_arc : tie.Need-returns-then-not-is_arc
-returns-then-not-is_arc c = let s = c in sym (ap (between s.args.low s.args.high) (absent_cell_lem s.args.x (said c.before ∙ not-true _ c.if-not-is_arc.true-raw)))
+returns-then-not-is_arc c = sym (ap (between c.args.low c.args.high) (absent_cell_lem c.args.x (said c.before ∙ not-true _ c.if-not-is_arc.true-raw)))
 
 -- the cell has an arc
 arc : (c : tie.Else-not-is_arc) → read_cell absent_cell c.args.x ≡ at c.args.x
@@ -25,13 +25,11 @@ arc c = arc_cell c.args.x (said c.before ∙ not-false _ c.if-not-is_arc.false-r
 
 returns-then-x-low : tie.Need-returns-then-x-low
 returns-then-x-low c =
-    let s = c in
-    simp (arc c.before, le_not_lt s.args.x s.args.low _ (rw (to_z-of_z {w = w32} s.ranges.x, to_z-of_z {w = w32} s.ranges.low) at c.if-x-low.true))
+    simp (arc c.before, le_not_lt c.args.x c.args.low _ (rw (to_z-of_z {w = w32} c.ranges.x, to_z-of_z {w = w32} c.ranges.low) at c.if-x-low.true))
 
 returns : tie.Need-returns
 returns c =
-    let s = c in
-    simp (arc c.before, to_z-of_z {w = w32} s.ranges.x, to_z-of_z {w = w32} s.ranges.high, le_not_lt s.args.x s.args.low _ (rw (to_z-of_z {w = w32} s.ranges.x, to_z-of_z {w = w32} s.ranges.low) at c.if-x-low.false))
+    simp (arc c.before, to_z-of_z {w = w32} c.ranges.x, to_z-of_z {w = w32} c.ranges.high, le_not_lt c.args.x c.args.low _ (rw (to_z-of_z {w = w32} c.ranges.x, to_z-of_z {w = w32} c.ranges.low) at c.if-x-low.false))
 
 pub within_spec : {M : Type 1} → statement M
 within_spec = tie.close (tie.spec

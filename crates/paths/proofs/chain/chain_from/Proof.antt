@@ -73,16 +73,16 @@ module _ (s : tie.Start) where
   d = get_or t (n * u + w) (pos 0)
 
 overflow_mul-at : tie.Need-overflow_mul-at
-overflow_mul-at c = let s = c in omega (arith, row s.before, area s.before, u_in s.before)
+overflow_mul-at c = omega (arith, row c.before, area c.before, u_in c.before)
 
 overflow_add-d : tie.Need-overflow_add-d
-overflow_add-d c = let s = c in omega (arith, row s.before, area s.before, w_in s.before)
+overflow_add-d c = omega (arith, row c.before, area c.before, w_in c.before)
 
 offset_bounds-table-at : tie.Need-offset_bounds-table-at
-offset_bounds-table-at c = let s = c in omega (arith, row s.before, area s.before, w_in s.before)
+offset_bounds-table-at c = omega (arith, row c.before, area c.before, w_in c.before)
 
 bounds-table-at : tie.Need-bounds-table-at
-bounds-table-at c = let s = c in omega (arith, row s.before, room s.before, w_in s.before)
+bounds-table-at c = omega (arith, row c.before, room c.before, w_in c.before)
 
 abbrev start_of : tie.After-is_arc → tie.Start
 start_of c = c.before.before.before
@@ -123,14 +123,13 @@ module _ (k : tie.Then-is_arc) where
   wide = ap (λ (z : ℤ). to_z w64 (of_z w64 z)) (to_z-of_z fit) ∙ to_z-of_z (widens fit)
 
 overflow_cast-d : tie.Need-overflow_cast-d
-overflow_cast-d c = let k = c in subst (SFits w64) (sym (to_z-of_z (fit k.before.before))) (widens (fit k.before.before))
+overflow_cast-d c = subst (SFits w64) (sym (to_z-of_z (fit c.before.before))) (widens (fit c.before.before))
 
 chain_row-requires : tie.Need-chain_row-requires
 chain_row-requires c κs =
-    let k = c in
-    let b = s k.before.before.before in (
+    let b = s c.before.before.before in (
       omega (arith, size b, few b),
-      (near b (u b) (u_in b), (near b (w b) (w_in b), subst (λ (z : ℤ). T (fits delay_limit (at z))) (sym (wide k.before.before.before)) (subst (λ (x : Delay). T (fits delay_limit x)) (arc k.before.before.before) (sound_fits b.requires.0.sound (u b) (w b))))),
+      (near b (u b) (u_in b), (near b (w b) (w_in b), subst (λ (z : ℤ). T (fits delay_limit (at z))) (sym (wide c.before.before.before)) (subst (λ (x : Delay). T (fits delay_limit x)) (arc c.before.before.before) (sound_fits b.requires.0.sound (u b) (w b))))),
     )
 
 offset_bounds-table-at-else-is_arc : tie.Need-offset_bounds-table-at-else-is_arc
@@ -147,20 +146,17 @@ plain_row-requires c κs = let b = start_of c.before.before.before in (omega (ar
 
 returns-then-is_arc : tie.Need-returns-then-is_arc
 returns-then-is_arc c =
-    let r = c in
-    let k = r in
-    let b = s k.before.before.before.before.before.before in
+    let b = s c.before.before.before.before.before.before in
     let from = cell_at (lent (n b) (t b) (u b) (room b) (u_in b)) in
     let on = cell_at (lent (n b) (t b) (w b) (room b) (w_in b)) in
-    let ys = r.chain_row.new.chain in
-    chained_by b.requires.0 (u b) (u_in b) (w b) (w_in b) (d b) (arc k.before.before.before.before.before.before)
-    (subst (λ (z : ℕ). Chain z (unbeaten from on (d b)) (λ v. get_or ys v 0)) (size b) (subst (λ (z : ℤ). Chain (length b.args.chain.now) (unbeaten from on z) (λ v. get_or ys v 0)) (wide k.before.before.before.before.before.before) r.chain_row.ensures))
+    let ys = c.chain_row.new.chain in
+    chained_by b.requires.0 (u b) (u_in b) (w b) (w_in b) (d b) (arc c.before.before.before.before.before.before)
+    (subst (λ (z : ℕ). Chain z (unbeaten from on (d b)) (λ v. get_or ys v 0)) (size b) (subst (λ (z : ℤ). Chain (length b.args.chain.now) (unbeaten from on z) (λ v. get_or ys v 0)) (wide c.before.before.before.before.before.before) c.chain_row.ensures))
 
 returns-else-is_arc : tie.Need-returns-else-is_arc
 returns-else-is_arc c =
-    let r = c in
-    let b = start_of r.before.before.before.before.before.before in
-    chained_all b.requires.0 (u b) (u_in b) (subst (λ (z : ℕ). Chain z (cell_at (lent (n b) (t b) (u b) (room b) (u_in b))) (λ v. get_or r.plain_row.new.chain v 0)) (size b) r.plain_row.ensures)
+    let b = start_of c.before.before.before.before.before.before in
+    chained_all b.requires.0 (u b) (u_in b) (subst (λ (z : ℕ). Chain z (cell_at (lent (n b) (t b) (u b) (room b) (u_in b))) (λ v. get_or c.plain_row.new.chain v 0)) (size b) c.plain_row.ensures)
 
 pub chain_from_spec : {M : Type 1} → statement M
 chain_from_spec =

@@ -105,11 +105,10 @@ bounds-next-v c = let i = t c.before in omega (arith, q_in i, (s i).requires.1.1
 
 beaten-requires : tie.Need-beaten-requires invariant-loop decreases-loop
 beaten-requires c κs =
-    let k = c in
-    let i = t k.before.before in
+    let i = t c.before.before in
     let x = sym (back w32 _ c.beaten-arg-1.given) in
     let y = sym (back w32 _ c.beaten-arg-then-is_arc-1.given) in (
-      subst (λ (z : ℤ). T (present (read_cell absent_cell z))) x (there k.before.before),
+      subst (λ (z : ℤ). T (present (read_cell absent_cell z))) x (there c.before.before),
       (
         subst (λ (z : ℤ). T (fits delay_limit (read_cell absent_cell z))) x ((s i).requires.1.0.near (q i) (q_in i)),
         (
@@ -146,20 +145,17 @@ loop-v-smaller c = omega (arith, c.loop-v-test.true)
 
 loop-v-preserved : tie.Need-loop-v-preserved invariant-loop decreases-loop
 loop-v-preserved c =
-    let t = c in
-    link_none (linked t.before.before.before) (unbeaten_none (row t.before.before.before) (next t.before.before.before) (d t.before.before.before) (q t.before.before.before) (absent_unless _ (true_is (ap not (sym (tested c.before) ∙ c.if-is_arc.false)))))
+    link_none (linked c.before.before.before) (unbeaten_none (row c.before.before.before) (next c.before.before.before) (d c.before.before.before) (q c.before.before.before) (absent_unless _ (true_is (ap not (sym (tested c.before) ∙ c.if-is_arc.false)))))
 
 shape_of-chain : tie.Need-shape_of-chain invariant-loop decreases-loop
 shape_of-chain c = c.loop-v.invariant.size
 
 returns : tie.Need-returns invariant-loop decreases-loop
 returns c =
-    let l = c in
-    let s = l in
-    let row = cell_at s.args.row.now in
-    let next = cell_at s.args.next.now in
-    subst (λ (z : ℤ). Chain (length s.args.chain.now) (unbeaten row next z) (λ v. get_or l.loop-v.chain v 0)) (to_z-of_z s.ranges.d)
-    (linked_all (subst (λ (k : ℕ). Linked (length s.args.chain.now) (unbeaten row next (to_z w64 (of_z w64 s.args.d))) l.loop-v.chain l.loop-v.after k) (omega (arith, c.loop-v-test.false)) l.loop-v.invariant))
+    let row = cell_at c.args.row.now in
+    let next = cell_at c.args.next.now in
+    subst (λ (z : ℤ). Chain (length c.args.chain.now) (unbeaten row next z) (λ v. get_or c.loop-v.chain v 0)) (to_z-of_z c.ranges.d)
+    (linked_all (subst (λ (k : ℕ). Linked (length c.args.chain.now) (unbeaten row next (to_z w64 (of_z w64 c.args.d))) c.loop-v.chain c.loop-v.after k) (omega (arith, c.loop-v-test.false)) c.loop-v.invariant))
 
 pub chain_row_spec : {M : Type 1} → statement M
 chain_row_spec =

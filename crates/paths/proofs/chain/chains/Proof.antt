@@ -57,21 +57,20 @@ bounds-order-p : tie.Need-bounds-order-p invariant-loop decreases-loop
 bounds-order-p c = omega (arith, c.loop-p-test.true, (rows c.before).upto, few c.before)
 
 overflow_cast-u : tie.Need-overflow_cast-u invariant-loop decreases-loop
-overflow_cast-u c = let t = c in omega (arith, vertex t.before.before, few t.before.before)
+overflow_cast-u c = omega (arith, vertex c.before.before, few c.before.before)
 
 overflow_mul-at : tie.Need-overflow_mul-at invariant-loop decreases-loop
-overflow_mul-at c = let t = c in omega (arith, row t.before.before, area t.before.before, vertex t.before.before)
+overflow_mul-at c = omega (arith, row c.before.before, area c.before.before, vertex c.before.before)
 
 overflow_add-end : tie.Need-overflow_add-end invariant-loop decreases-loop
-overflow_add-end c = let t = c in omega (arith, row t.before.before, area t.before.before, vertex t.before.before)
+overflow_add-end c = omega (arith, row c.before.before, area c.before.before, vertex c.before.before)
 
 slice_bounds-chain_from-end : tie.Need-slice_bounds-chain_from-end invariant-loop decreases-loop
-slice_bounds-chain_from-end c = let t = c in omega (arith, row t.before.before, (s t.before.before).requires.1, (rows t.before.before).size)
+slice_bounds-chain_from-end c = omega (arith, row c.before.before, (s c.before.before).requires.1, (rows c.before.before).size)
 
 chain_from-requires : tie.Need-chain_from-requires invariant-loop decreases-loop
 chain_from-requires c κs =
-    let t = c in
-    ((s t.before.before.before).requires.0.checked, (vertex t.before.before.before, (t.loop-p.invariant.via, part_length (q t.before.before.before) (s t.before.before.before).requires.0.order (s t.before.before.before).requires.1 (rows t.before.before.before))))
+    ((s c.before.before.before).requires.0.checked, (vertex c.before.before.before, (c.loop-p.invariant.via, part_length (q c.before.before.before) (s c.before.before.before).requires.0.order (s c.before.before.before).requires.1 (rows c.before.before.before))))
 
 abbrev turn_of : tie.After-slice_known-in-loop-p-1 invariant-loop decreases-loop → tie.In-loop-p invariant-loop decreases-loop
 turn_of c = c.before.before.before.before.before.before
@@ -81,23 +80,20 @@ loop-p-smaller c = omega (arith, (turn_of c).loop-p-test.true)
 
 loop-p-preserved : tie.Need-loop-p-preserved invariant-loop decreases-loop
 loop-p-preserved c =
-    let r = c in
     let t = turn_of c in
-    rows_turn (q t) (s t).requires.0.order (s t).requires.1 (rows t) r.chain_from.new.chain r.chain_from.auto.chain r.chain_from.ensures
+    rows_turn (q t) (s t).requires.0.order (s t).requires.1 (rows t) c.chain_from.new.chain c.chain_from.auto.chain c.chain_from.ensures
 
 shape_of-chain : tie.Need-shape_of-chain invariant-loop decreases-loop
 shape_of-chain c = c.loop-p.invariant.size
 
 returns : tie.Need-returns invariant-loop decreases-loop
 returns c =
-    let l = c in
-    let s = l in
-    let n = s.args.board.vertices in
-    let o = s.requires.0.order in
+    let n = c.args.board.vertices in
+    let o = c.requires.0.order in
     record {
-      room = omega (arith, s.requires.1, l.loop-p.invariant.size);
-      row = λ u h. subst (λ (x : ℕ). Chained n (graph_of n s.args.table.now) x (chain_at n l.loop-p.chain x)) (o.place u h).1
-          (l.loop-p.invariant.done (o.rank u) (omega (arith, c.loop-p-test.false)) (o.place u h).0);
+      room = omega (arith, c.requires.1, c.loop-p.invariant.size);
+      row = λ u h. subst (λ (x : ℕ). Chained n (graph_of n c.args.table.now) x (chain_at n c.loop-p.chain x)) (o.place u h).1
+          (c.loop-p.invariant.done (o.rank u) (omega (arith, c.loop-p-test.false)) (o.place u h).0);
     }
 
 pub chains_spec : {M : Type 1} → statement M

@@ -80,8 +80,7 @@ shape_of-chain c = c.loop-v.invariant.size
 
 returns : tie.Need-returns invariant-loop decreases-loop
 returns c =
-    let l = c in
-    linked_all (subst (λ (k : ℕ). Linked (length l.args.chain.now) (cell_at l.args.row.now) l.loop-v.chain l.loop-v.after k) (omega (arith, c.loop-v-test.false)) l.loop-v.invariant)
+    linked_all (subst (λ (k : ℕ). Linked (length c.args.chain.now) (cell_at c.args.row.now) c.loop-v.chain c.loop-v.after k) (omega (arith, c.loop-v-test.false)) c.loop-v.invariant)
 
 pub plain_row_spec : {M : Type 1} → statement M
 plain_row_spec =

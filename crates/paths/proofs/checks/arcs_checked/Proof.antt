@@ -18,17 +18,15 @@ five c = sym c.no_arc_into_input.ensures ∙ not-false _ c.if-not-no_arc_into_in
 
 returns-then-not-topological_order : tie.Need-returns-then-not-topological_order
 returns-then-not-topological_order c =
-    let o = c in
-    arcs_refusal Cycle (simp (five o.before.before.before, sym o.topological_order.ensures.answer ∙ not-true _ c.if-not-topological_order.true-raw))
+    arcs_refusal Cycle (simp (five c.before.before.before, sym c.topological_order.ensures.answer ∙ not-true _ c.if-not-topological_order.true-raw))
 
 returns : tie.Need-returns
 returns c =
-    let o = c in
     let passed = not-false _ c.if-not-topological_order.false-raw in
     record {
-      answer = sym (simp (five o.before.before.before, sym o.topological_order.ensures.answer ∙ passed));
-      order = λ _ _. o.topological_order.ensures.order (true_is passed);
-      long = λ _ _. o.topological_order.ensures.long;
+      answer = sym (simp (five c.before.before.before, sym c.topological_order.ensures.answer ∙ passed));
+      order = λ _ _. c.topological_order.ensures.order (true_is passed);
+      long = λ _ _. c.topological_order.ensures.long;
     }
 
 pub arcs_checked_spec : {M : Type 1} → statement M

@@ -6,24 +6,19 @@ use Rattle.paths.proofs.checks.checked.Statement.{statement}
 use Rattle.paths.proofs.checks.checked.Tie as tie
 
 cells_fit-requires : tie.Need-cells_fit-requires
-cells_fit-requires c κs = let a = c in (a.memory_checked-made.ensures.lent _ a.in-Board.is).0
+cells_fit-requires c κs = (c.memory_checked-made.ensures.lent _ c.in-Board.is).0
 
 returns-then-not-cells_fit : tie.Need-returns-then-not-cells_fit
 returns-then-not-cells_fit c =
-    let a = c in
-    odd_cell _ _ _ _ _ _ _ a.memory_checked-made.ensures _ a.in-Board.is (sym c.cells_fit.ensures ∙ not-true _ c.if-not-cells_fit.true-raw)
+    odd_cell _ _ _ _ _ _ _ c.memory_checked-made.ensures _ c.in-Board.is (sym c.cells_fit.ensures ∙ not-true _ c.if-not-cells_fit.true-raw)
 
 arcs_checked-requires : tie.Need-arcs_checked-requires
 arcs_checked-requires c κs =
-    let a = c in
-    let m = a in
-    ((m.memory_checked-made.ensures.lent _ a.in-Board.is).0, m.requires)
+    ((c.memory_checked-made.ensures.lent _ c.in-Board.is).0, c.requires)
 
 returns-in-Board : tie.Need-returns-in-Board
 returns-in-Board c =
-    let e = c in
-    let a = e in
-    arcs_next _ _ _ _ _ _ _ a.memory_checked-made.ensures _ a.in-Board.is (sym e.cells_fit.ensures ∙ not-false _ e.if-not-cells_fit.false-raw) _ c.arcs_checked.ensures
+    arcs_next _ _ _ _ _ _ _ c.memory_checked-made.ensures _ c.in-Board.is (sym c.cells_fit.ensures ∙ not-false _ c.if-not-cells_fit.false-raw) _ c.arcs_checked.ensures
 
 returns : tie.Need-returns
 returns c = memory_refused _ _ _ _ _ _ _ c.memory_checked-made.ensures _ c.in_default.is

@@ -38,11 +38,10 @@ cells-requires c κs = sized c
 
 returns-then-table-cells : tie.Need-returns-then-table-cells
 returns-then-table-cells c =
-    let a = c in
-    let h : length (t a.before.before) < (b a.before.before).vertices * (b a.before.before).vertices = omega (arith, c.if-table-cells.true, c.cells.ensures) in
-    memory_refusal TableShort (table_short _ _ _ (k a.before.before) (t a.before.before) _ (made a.before.before) (b a.before.before) a.in-Board.is h)
+    let h : length (t c.before.before) < (b c.before.before).vertices * (b c.before.before).vertices = omega (arith, c.if-table-cells.true, c.cells.ensures) in
+    memory_refusal TableShort (table_short _ _ _ (k c.before.before) (t c.before.before) _ (made c.before.before) (b c.before.before) c.in-Board.is h)
 
-two : (c : tie.Else-table-cells) → let a = c in (b a.before.before).vertices * (b a.before.before).vertices ≤ length (t a.before.before)
+two : (c : tie.Else-table-cells) → (b c.before.before).vertices * (b c.before.before).vertices ≤ length (t c.before.before)
 two c = omega (arith, c.if-table-cells.false, c.cells.ensures)
 
 scratch_cells-requires : tie.Need-scratch_cells-requires
@@ -50,16 +49,12 @@ scratch_cells-requires c κs = sized c.before.before
 
 returns-then-scratch-scratch_cells : tie.Need-returns-then-scratch-scratch_cells
 returns-then-scratch-scratch_cells c =
-    let e = c in
-    let a = e in
-    let h : k a.before.before.before.before < scratch_cells (b a.before.before.before.before).vertices = omega (arith, c.if-scratch-scratch_cells.true, c.scratch_cells.ensures) in
-    memory_refusal ScratchShort (scratch_short _ _ _ (k a.before.before.before.before) (t a.before.before.before.before) _ (made a.before.before.before.before) (b a.before.before.before.before) a.in-Board.is (two e.before.before) h)
+    let h : k c.before.before.before.before < scratch_cells (b c.before.before.before.before).vertices = omega (arith, c.if-scratch-scratch_cells.true, c.scratch_cells.ensures) in
+    memory_refusal ScratchShort (scratch_short _ _ _ (k c.before.before.before.before) (t c.before.before.before.before) _ (made c.before.before.before.before) (b c.before.before.before.before) c.in-Board.is (two c.before.before) h)
 
 returns-else-scratch-scratch_cells : tie.Need-returns-else-scratch-scratch_cells
 returns-else-scratch-scratch_cells c =
-    let e = c in
-    let a = e in
-    memory_fits _ _ _ (k a.before.before.before.before) (t a.before.before.before.before) _ (made a.before.before.before.before) (b a.before.before.before.before) a.in-Board.is (two e.before.before) (omega (arith, c.if-scratch-scratch_cells.false, c.scratch_cells.ensures))
+    memory_fits _ _ _ (k c.before.before.before.before) (t c.before.before.before.before) _ (made c.before.before.before.before) (b c.before.before.before.before) c.in-Board.is (two c.before.before) (omega (arith, c.if-scratch-scratch_cells.false, c.scratch_cells.ensures))
 
 returns-in_default : tie.Need-returns-in_default
 returns-in_default c = sizes_refused _ _ _ _ _ _ c.new-made.ensures _ c.in_default.is

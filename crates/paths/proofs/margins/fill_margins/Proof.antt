@@ -87,12 +87,11 @@ loop-v-smaller c = omega (arith, in_margin (turn_of c))
 
 loop-v-preserved : tie.Need-loop-v-preserved invariant-loop decreases-loop
 loop-v-preserved c =
-    let g = c in
-    let a = (s (t g.before)).args in (
-      omega (arith, in_margin (t g.before)),
-      simp length-set (l (t g.before)).loop-v.invariant.1,
-      fill_turn (margin_at a.required.now a.arrival.now) a.margin.now (l (t g.before)).loop-v.margin (l (t g.before)).loop-v.v _ (in_margin (t g.before)) (l (t g.before)).loop-v.invariant.2
-          (back w64 _ c.margin_of.type_inv ∙ c.margin_of.ensures ∙ ap₂ (λ (x y : ℤ). write_cell absent_wide (read_cell absent_wide x ⊖ read_cell absent_wide y)) (first g.before) (second g.before)),
+    let a = (s (t c.before)).args in (
+      omega (arith, in_margin (t c.before)),
+      simp length-set (l (t c.before)).loop-v.invariant.1,
+      fill_turn (margin_at a.required.now a.arrival.now) a.margin.now (l (t c.before)).loop-v.margin (l (t c.before)).loop-v.v _ (in_margin (t c.before)) (l (t c.before)).loop-v.invariant.2
+          (back w64 _ c.margin_of.type_inv ∙ c.margin_of.ensures ∙ ap₂ (λ (x y : ℤ). write_cell absent_wide (read_cell absent_wide x ⊖ read_cell absent_wide y)) (first c.before) (second c.before)),
     )
 
 shape_of-margin : tie.Need-shape_of-margin invariant-loop decreases-loop
@@ -100,9 +99,8 @@ shape_of-margin c = c.loop-v.invariant.1
 
 returns : tie.Need-returns invariant-loop decreases-loop
 returns c =
-    let m = c in
-    let a = m.args in
-    m.loop-v.invariant.2 ∙ fill_all (margin_at a.required.now a.arrival.now) a.margin.now m.loop-v.v (omega (arith, m.loop-v.invariant.0, m.loop-v.invariant.1, c.loop-v-test.false))
+    let a = c.args in
+    c.loop-v.invariant.2 ∙ fill_all (margin_at a.required.now a.arrival.now) a.margin.now c.loop-v.v (omega (arith, c.loop-v.invariant.0, c.loop-v.invariant.1, c.loop-v-test.false))
 
 pub fill_margins_spec : {M : Type 1} → statement M
 fill_margins_spec =

@@ -19,9 +19,8 @@ use Rattle.paths.proofs.margins.later.Tie as tie
 
 returns-then-missing : tie.Need-returns-then-missing
 returns-then-missing c =
-    let s = c in
-    ap (read_cell absent_wide) (to_z-of_z s.ranges.best) ∙ sym (ap (λ (d : Delay). read_cell absent_wide s.args.best ⋓ (d ⊕ read_cell absent_cell s.args.cell)) (read_absent absent_wide s.args.a (same_bits {w = w64} {b = absent_wide} s.ranges.a (sfits_lit tt) c.if-missing.true))
-    ∙ ⋓-absent (read_cell absent_wide s.args.best))
+    ap (read_cell absent_wide) (to_z-of_z c.ranges.best) ∙ sym (ap (λ (d : Delay). read_cell absent_wide c.args.best ⋓ (d ⊕ read_cell absent_cell c.args.cell)) (read_absent absent_wide c.args.a (same_bits {w = w64} {b = absent_wide} c.ranges.a (sfits_lit tt) c.if-missing.true))
+    ∙ ⋓-absent (read_cell absent_wide c.args.best))
 
 -- a is present
 module _ (c : tie.Else-missing) where
@@ -49,17 +48,16 @@ said c =
     simp to_z-of_z at c.gains.ensures
 
 overflow_cast-result : tie.Need-overflow_cast-result
-overflow_cast-result c = let e = c in subst (SFits w64) (sym (to_z-of_z (s e.before.before).ranges.cell)) (widens (s e.before.before).ranges.cell)
+overflow_cast-result c = subst (SFits w64) (sym (to_z-of_z (s c.before.before).ranges.cell)) (widens (s c.before.before).ranges.cell)
 
 overflow_add-result : tie.Need-overflow_add-result
 overflow_add-result c =
-    let e = c in
-    let fa = (s e.before.before).ranges.a in
-    let fd = (s e.before.before).ranges.cell in
-    simp (to_z-of_z, widens) (sum e.before.before)
+    let fa = (s c.before.before).ranges.a in
+    let fd = (s c.before.before).ranges.cell in
+    simp (to_z-of_z, widens) (sum c.before.before)
 
 returns-then-gains : tie.Need-returns-then-gains
-returns-then-gains c = let e = c in ap (read_cell absent_wide) (sum_back (s e.before.before).ranges.a (s e.before.before).ranges.cell (sum e.before.before)) ∙ ((said c.before).later c.if-gains.true).1
+returns-then-gains c = ap (read_cell absent_wide) (sum_back (s c.before.before).ranges.a (s c.before.before).ranges.cell (sum c.before.before)) ∙ ((said c.before).later c.if-gains.true).1
 
 returns : tie.Need-returns
 returns c = ap (read_cell absent_wide) (to_z-of_z (s c.before.before).ranges.best) ∙ (said c.before).not_later c.if-gains.false

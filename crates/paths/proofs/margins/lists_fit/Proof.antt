@@ -31,18 +31,17 @@ module _ (e : tie.Else-not-times_fit-2) where
   due_fit = sym e.times_fit-2.ensures ∙ not-false _ e.if-not-times_fit-2.false-raw
 
 returns-then-arrival-n : tie.Need-returns-then-arrival-n
-returns-then-arrival-n c = let e = c in simp (given_fit (first e.before), due_fit e.before, eqb_other _ _ c.if-arrival-n.true)
+returns-then-arrival-n c = simp (given_fit (first c.before), due_fit c.before, eqb_other _ _ c.if-arrival-n.true)
 
 long : (x n : ℕ) → x ≡ n → eqb x n ≡ true
 long x n e = T_true {b = eqb x n} (eq→eqb x n e)
 
 returns-then-required-n : tie.Need-returns-then-required-n
-returns-then-required-n c = let e = c in simp (given_fit (first e.before.before), due_fit e.before.before, long _ _ c.if-arrival-n.false, eqb_other _ _ c.if-required-n.true)
+returns-then-required-n c = simp (given_fit (first c.before.before), due_fit c.before.before, long _ _ c.if-arrival-n.false, eqb_other _ _ c.if-required-n.true)
 
 returns : tie.Need-returns
 returns c =
-    let e = c in
-    sym (yes_first _ _ (both _ _ (given_fit (first e.before.before)) (due_fit e.before.before)) ∙ yes_first _ _ (both _ _ (long _ _ c.if-arrival-n.false) (long _ _ c.if-required-n.false)))
+    sym (yes_first _ _ (both _ _ (given_fit (first c.before.before)) (due_fit c.before.before)) ∙ yes_first _ _ (both _ _ (long _ _ c.if-arrival-n.false) (long _ _ c.if-required-n.false)))
 
 pub lists_fit_spec : {M : Type 1} → statement M
 lists_fit_spec =

@@ -15,8 +15,7 @@ returns-then-required-eq-ABSENT_WIDE c = margin_no_first c.args.required c.args.
 
 returns-then-arrival-eq-ABSENT_WIDE : tie.Need-returns-then-arrival-eq-ABSENT_WIDE
 returns-then-arrival-eq-ABSENT_WIDE c =
-    let s = c in
-    margin_no_second s.args.required s.args.arrival (other_bits w64 c.if-required-eq-ABSENT_WIDE.false) (same_bits {w = w64} {b = absent_wide} s.ranges.arrival (sfits_lit tt) c.if-arrival-eq-ABSENT_WIDE.true)
+    margin_no_second c.args.required c.args.arrival (other_bits w64 c.if-required-eq-ABSENT_WIDE.false) (same_bits {w = w64} {b = absent_wide} c.ranges.arrival (sfits_lit tt) c.if-arrival-eq-ABSENT_WIDE.true)
 
 -- both are present
 module _ (c : tie.Else-arrival-eq-ABSENT_WIDE) where

@@ -8,21 +8,17 @@ use Rattle.paths.proofs.margins.margins.Tie as tie
 
 margins_answer-requires : tie.Need-margins_answer-requires
 margins_answer-requires c κs =
-    let k = c in
-    (k.checked-lent.ensures.passable _ k.in-Board.is).0
+    (c.checked-lent.ensures.passable _ c.in-Board.is).0
 
 returns-in-Board : tie.Need-returns-in-Board
 unfolding margins_call
 returns-in-Board c =
-    let a = c in
-    let k = a in
-    let s = k in
-    let x = lists s.args.arrival.now s.args.required.now s.args.margin.now in
-    answers_on k.checked-lent.ensures _ k.in-Board.is (λ m n N. margins_into m n N s.args.given.now s.args.due.now x) _ _ _ a.margins_answer.ensures
+    let x = lists c.args.arrival.now c.args.required.now c.args.margin.now in
+    answers_on c.checked-lent.ensures _ c.in-Board.is (λ m n N. margins_into m n N c.args.given.now c.args.due.now x) _ _ _ c.margins_answer.ensures
 
 returns-in-Refused : tie.Need-returns-in-Refused
 unfolding margins_call
-returns-in-Refused c = let k = c in answers_refused k.checked-lent.ensures _ k.in-Refused.is _ _ _ refl
+returns-in-Refused c = answers_refused c.checked-lent.ensures _ c.in-Refused.is _ _ _ refl
 
 pub margins_spec : {M : Type 1} → statement M
 margins_spec =

@@ -45,7 +45,7 @@ module _ (m : tie.After-chains) where
   e = m.before.before.before
 
 arrivals-requires : tie.Need-arrivals-requires
-arrivals-requires c κs = let m = c in ((start (e m.before.before.before)).requires, (m.chains.ensures, ((F (e m.before.before.before)).arrivals, omega (arith, (F (e m.before.before.before)).arrival))))
+arrivals-requires c κs = ((start (e c.before.before.before)).requires, (c.chains.ensures, ((F (e c.before.before.before)).arrivals, omega (arith, (F (e c.before.before.before)).arrival))))
 
 -- the arrivals are there
 module _ (a : tie.After-arrivals) where
@@ -62,7 +62,7 @@ module _ (a : tie.After-arrivals) where
   arrivals_are = a.arrivals.ensures ∙ filled_whole s.args.board.vertices (arrivals_from s.args.board s.args.table.now s.args.given.now) s.args.arrival.now (F (e m)).arrival
 
 required_times-requires : tie.Need-required_times-requires
-required_times-requires c κs = let a = c in ((s a.before.before.before).requires, ((m a.before.before.before).chains.ensures, ((F (e (m a.before.before.before))).required_times, (F (e (m a.before.before.before))).required)))
+required_times-requires c κs = ((s c.before.before.before).requires, ((m c.before.before.before).chains.ensures, ((F (e (m c.before.before.before))).required_times, (F (e (m c.before.before.before))).required)))
 
 -- the required times are there
 module _ (q : tie.After-required_times) where
@@ -77,24 +77,21 @@ module _ (q : tie.After-required_times) where
 
 fill_margins-requires : tie.Need-fill_margins-requires
 fill_margins-requires c κs =
-    let q = c in
-    let s = s (a q.before.before) in
-    let f = F (e (m (a q.before.before))) in (
-      subst (λ (k : ℕ). InReach k (required q.before.before)) (sym (long q.before.before)) (subst (InReach s.args.board.vertices) (sym q.required_times.ensures) (required_reach s.requires.checked s.args.given.now s.args.due.now f.arrivals f.required_times)),
-      subst (λ (k : ℕ). InReach k (arrival (a q.before.before))) (sym (long q.before.before)) (subst (InReach s.args.board.vertices) (sym (arrivals_are (a q.before.before))) (arrivals_reach s.requires.checked s.args.given.now s.args.due.now f.arrivals f.required_times)),
+    let s = s (a c.before.before) in
+    let f = F (e (m (a c.before.before))) in (
+      subst (λ (k : ℕ). InReach k (required c.before.before)) (sym (long c.before.before)) (subst (InReach s.args.board.vertices) (sym c.required_times.ensures) (required_reach s.requires.checked s.args.given.now s.args.due.now f.arrivals f.required_times)),
+      subst (λ (k : ℕ). InReach k (arrival (a c.before.before))) (sym (long c.before.before)) (subst (InReach s.args.board.vertices) (sym (arrivals_are (a c.before.before))) (arrivals_reach s.requires.checked s.args.given.now s.args.due.now f.arrivals f.required_times)),
     )
 
 returns : tie.Need-returns
 returns c =
-    let o = c in
-    let q = o in
-    let s = s (a q.before.before.before.before) in
-    let f = F (e (m (a q.before.before.before.before))) in
-    margins_done s.args.board s.args.table.now s.args.given.now s.args.due.now (before (e (m (a q.before.before.before.before)))) (fit (e (m (a q.before.before.before.before)))) (arrival (a q.before.before.before.before)) (required q.before.before.before.before) _ (arrivals_are (a q.before.before.before.before)) q.required_times.ensures
-    (o.fill_margins.ensures ∙ cells_of (long q.before.before.before.before) q.required_times.ensures (arrivals_are (a q.before.before.before.before)) ∙ margins_are s.requires.checked s.args.given.now s.args.due.now f.arrivals f.required_times)
+    let s = s (a c.before.before.before.before) in
+    let f = F (e (m (a c.before.before.before.before))) in
+    margins_done s.args.board s.args.table.now s.args.given.now s.args.due.now (before (e (m (a c.before.before.before.before)))) (fit (e (m (a c.before.before.before.before)))) (arrival (a c.before.before.before.before)) (required c.before.before.before.before) _ (arrivals_are (a c.before.before.before.before)) c.required_times.ensures
+    (c.fill_margins.ensures ∙ cells_of (long c.before.before.before.before) c.required_times.ensures (arrivals_are (a c.before.before.before.before)) ∙ margins_are s.requires.checked s.args.given.now s.args.due.now f.arrivals f.required_times)
   where
     cells_of : {k k' : ℕ} {x x' y y' : List ℤ} → k ≡ k' → x ≡ x' → y ≡ y' → cells k (λ v. arrival_in x v ⊖ arrival_in y v) ≡ cells k' (λ v. arrival_in x' v ⊖ arrival_in y' v)
-    cells_of p q r = λ i. cells (p i) (λ v. arrival_in (q i) v ⊖ arrival_in (r i) v)
+    cells_of p c r = λ i. cells (p i) (λ v. arrival_in (c i) v ⊖ arrival_in (r i) v)
 
 pub margins_answer_spec : {M : Type 1} → statement M
 margins_answer_spec =

@@ -31,7 +31,7 @@ loop-v-init : tie.Need-loop-v-init invariant-loop decreases-loop
 loop-v-init c = (omega arith, refl, fill_none _ _)
 
 offset_bounds-f-v : tie.Need-offset_bounds-f-v invariant-loop decreases-loop
-offset_bounds-f-v c = let l = c in omega (arith, c.loop-v-test.true, l.loop-v.invariant.1, l.well_formed)
+offset_bounds-f-v c = omega (arith, c.loop-v-test.true, c.loop-v.invariant.1, c.well_formed)
 
 slice_copy_out-mirrored : tie.Need-slice_copy_out-mirrored invariant-loop decreases-loop
 slice_copy_out-mirrored c = c.loop-v-test.true
@@ -60,16 +60,15 @@ overflow_add-v : tie.Need-overflow_add-v invariant-loop decreases-loop
 overflow_add-v c = let k = offset_bounds-f-v c.before.before in omega arith
 
 loop-v-smaller : tie.Need-loop-v-smaller invariant-loop decreases-loop
-loop-v-smaller c = let t = c in omega (arith, t.loop-v-test.true, t.loop-v.invariant.1)
+loop-v-smaller c = omega (arith, c.loop-v-test.true, c.loop-v.invariant.1)
 
 loop-v-preserved : tie.Need-loop-v-preserved invariant-loop decreases-loop
 loop-v-preserved c =
-    let a = c in
-    let v = (l a.before).loop-v.v in (
-      omega (arith, a.loop-v-test.true, (l a.before).loop-v.invariant.1),
-      simp length-set (l a.before).loop-v.invariant.1,
-      fill_turn (image (s a.before).args.f.now) (s a.before).args.f.now (l a.before).loop-v.f v _ (omega (arith, a.loop-v-test.true, (l a.before).loop-v.invariant.1)) (l a.before).loop-v.invariant.2
-          (back w64 _ c.mirrored.type_inv ∙ c.mirrored.ensures ∙ ap (λ (z : ℤ). write_cell absent_wide (mirror (read_cell absent_wide z))) (here a.before)),
+    let v = (l c.before).loop-v.v in (
+      omega (arith, c.loop-v-test.true, (l c.before).loop-v.invariant.1),
+      simp length-set (l c.before).loop-v.invariant.1,
+      fill_turn (image (s c.before).args.f.now) (s c.before).args.f.now (l c.before).loop-v.f v _ (omega (arith, c.loop-v-test.true, (l c.before).loop-v.invariant.1)) (l c.before).loop-v.invariant.2
+          (back w64 _ c.mirrored.type_inv ∙ c.mirrored.ensures ∙ ap (λ (z : ℤ). write_cell absent_wide (mirror (read_cell absent_wide z))) (here c.before)),
     )
 
 shape_of-f : tie.Need-shape_of-f invariant-loop decreases-loop
@@ -77,9 +76,8 @@ shape_of-f c = c.loop-v.invariant.1
 
 returns : tie.Need-returns invariant-loop decreases-loop
 returns c =
-    let m = c in
-    let f₀ = m.args.f.now in
-    m.loop-v.invariant.2 ∙ fill_all (image f₀) f₀ m.loop-v.v (omega (arith, m.loop-v.invariant.0, m.loop-v.invariant.1, c.loop-v-test.false))
+    let f₀ = c.args.f.now in
+    c.loop-v.invariant.2 ∙ fill_all (image f₀) f₀ c.loop-v.v (omega (arith, c.loop-v.invariant.0, c.loop-v.invariant.1, c.loop-v-test.false))
 
 pub mirror_all_spec : {M : Type 1} → statement M
 mirror_all_spec =

@@ -13,13 +13,12 @@ returns-then-x-eq-ABSENT_WIDE : tie.Need-returns-then-x-eq-ABSENT_WIDE
 returns-then-x-eq-ABSENT_WIDE c = to_z-of_z c.ranges.x ∙ mirror_absent c.args.x (same_bits {w = w64} {b = absent_wide} c.ranges.x (sfits_lit tt) c.if-x-eq-ABSENT_WIDE.true)
 
 overflow_sub-result : tie.Need-overflow_sub-result
-overflow_sub-result c = let s = c in subst (λ (z : ℤ). SFits w64 (pos 0 -ℤ z)) (sym (to_z-of_z s.ranges.x)) (mirror-fits s.args.x (other_bits w64 c.if-x-eq-ABSENT_WIDE.false) s.requires)
+overflow_sub-result c = subst (λ (z : ℤ). SFits w64 (pos 0 -ℤ z)) (sym (to_z-of_z c.ranges.x)) (mirror-fits c.args.x (other_bits w64 c.if-x-eq-ABSENT_WIDE.false) c.requires)
 
 returns : tie.Need-returns
 returns c =
-    let s = c in
     let ne = other_bits w64 c.if-x-eq-ABSENT_WIDE.false in
-    handed w64 (ap (λ (z : ℤ). pos 0 -ℤ z) (to_z-of_z s.ranges.x)) (mirror-fits s.args.x ne s.requires) ∙ mirror_there s.args.x ne
+    handed w64 (ap (λ (z : ℤ). pos 0 -ℤ z) (to_z-of_z c.ranges.x)) (mirror-fits c.args.x ne c.requires) ∙ mirror_there c.args.x ne
 
 pub mirrored_spec : {M : Type 1} → statement M
 mirrored_spec = tie.close (tie.spec

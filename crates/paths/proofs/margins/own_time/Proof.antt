@@ -20,13 +20,11 @@ use Rattle.paths.proofs.margins.own_time.Tie as tie
 
 returns-then-v-m : tie.Need-returns-then-v-m
 returns-then-v-m c =
-    let s = c in
-    sym (ap (λ (d : Delay). write_cell absent_wide (mirror d)) (own_low s.args.board.inputs s.args.board.outputs (arrival_in s.args.due.now) s.args.v c.if-v-m.true))
+    sym (ap (λ (d : Delay). write_cell absent_wide (mirror d)) (own_low c.args.board.inputs c.args.board.outputs (arrival_in c.args.due.now) c.args.v c.if-v-m.true))
 
 returns-then-v-m-2 : tie.Need-returns-then-v-m-2
 returns-then-v-m-2 c =
-    let s = c in
-    sym (ap (λ (d : Delay). write_cell absent_wide (mirror d)) (own_high s.args.board.inputs s.args.board.outputs (arrival_in s.args.due.now) s.args.v (omega (arith, c.if-v-m.false, c.if-v-m-2.true, s.requires.long))))
+    sym (ap (λ (d : Delay). write_cell absent_wide (mirror d)) (own_high c.args.board.inputs c.args.board.outputs (arrival_in c.args.due.now) c.args.v (omega (arith, c.if-v-m.false, c.if-v-m-2.true, c.requires.long))))
 
 -- an output
 module _ (e : tie.Else-v-m-2) where
@@ -55,9 +53,7 @@ mirrored-requires c κs = subst (λ (z : ℤ). T (fits reached_limit (read_cell 
 
 returns : tie.Need-returns
 returns c =
-    let a = c in
-    let e = a in
-    back w64 _ c.mirrored.type_inv ∙ c.mirrored.ensures ∙ ap (λ (z : ℤ). write_cell absent_wide (mirror (read_cell absent_wide z))) (back w64 _ a.mirrored-arg-1.given) ∙ sym (ap (λ (d : Delay). write_cell absent_wide (mirror d)) (own e.before.before))
+    back w64 _ c.mirrored.type_inv ∙ c.mirrored.ensures ∙ ap (λ (z : ℤ). write_cell absent_wide (mirror (read_cell absent_wide z))) (back w64 _ c.mirrored-arg-1.given) ∙ sym (ap (λ (d : Delay). write_cell absent_wide (mirror d)) (own c.before.before))
 
 pub own_time_spec : {M : Type 1} → statement M
 own_time_spec = tie.close (tie.spec

@@ -75,38 +75,37 @@ bounds-order-p : tie.Need-bounds-order-p invariant-loop decreases-loop
 bounds-order-p c = omega (arith, c.loop-p-test.true, (going c.before).upto, few c.before)
 
 overflow_cast-u : tie.Need-overflow_cast-u invariant-loop decreases-loop
-overflow_cast-u c = let i = c in omega (arith, vertex i.before.before, few i.before.before)
+overflow_cast-u c = omega (arith, vertex c.before.before, few c.before.before)
 
 overflow_mul-at : tie.Need-overflow_mul-at invariant-loop decreases-loop
-overflow_mul-at c = let i = c in omega (arith, row i.before.before, area i.before.before)
+overflow_mul-at c = omega (arith, row c.before.before, area c.before.before)
 
 offset_bounds-table-at : tie.Need-offset_bounds-table-at invariant-loop decreases-loop
-offset_bounds-table-at c = let i = c in omega (arith, row i.before.before, area i.before.before)
+offset_bounds-table-at c = omega (arith, row c.before.before, area c.before.before)
 
 slice_bounds-pull-count : tie.Need-slice_bounds-pull-count invariant-loop decreases-loop
-slice_bounds-pull-count c = let i = c in omega (arith, row i.before.before, room i.before.before)
+slice_bounds-pull-count c = omega (arith, row c.before.before, room c.before.before)
 
 slice_bounds-pull-start : tie.Need-slice_bounds-pull-start invariant-loop decreases-loop
-slice_bounds-pull-start c = let i = c in omega (arith, row i.before.before, room i.before.before)
+slice_bounds-pull-start c = omega (arith, row c.before.before, room c.before.before)
 
 slice_bounds-pull-count-in-loop-p : tie.Need-slice_bounds-pull-count-in-loop-p invariant-loop decreases-loop
-slice_bounds-pull-count-in-loop-p c = let i = c in omega (arith, row i.before.before.before, (start i.before.before.before).requires.1.room)
+slice_bounds-pull-count-in-loop-p c = omega (arith, row c.before.before.before, (start c.before.before.before).requires.1.room)
 
 slice_bounds-pull-start-in-loop-p : tie.Need-slice_bounds-pull-start-in-loop-p invariant-loop decreases-loop
-slice_bounds-pull-start-in-loop-p c = let i = c in omega (arith, row i.before.before.before, (start i.before.before.before).requires.1.room)
+slice_bounds-pull-start-in-loop-p c = omega (arith, row c.before.before.before, (start c.before.before.before).requires.1.room)
 
 offset_bounds-f-u : tie.Need-offset_bounds-f-u invariant-loop decreases-loop
-offset_bounds-f-u c = let i = c in omega (arith, vertex i.before.before.before.before, few i.before.before.before.before)
+offset_bounds-f-u c = omega (arith, vertex c.before.before.before.before, few c.before.before.before.before)
 
 slice_copy_out-pull : tie.Need-slice_copy_out-pull invariant-loop decreases-loop
 slice_copy_out-pull c = in_f c.before.before.before.before
 
 pull-requires : tie.Need-pull-requires invariant-loop decreases-loop
 pull-requires c κs =
-    let i = c in
-    let s = start i.before.before.before.before.before in
-    let reach = in_reach s.requires.0 s.requires.1 (q i.before.before.before.before.before) (going i.before.before.before.before.before) in
-    (pushable s.requires.0.passable s.requires.1 (u i.before.before.before.before.before) (vertex i.before.before.before.before.before) (f i.before.before.before.before.before) reach.room, reach)
+    let s = start c.before.before.before.before.before in
+    let reach = in_reach s.requires.0 s.requires.1 (q c.before.before.before.before.before) (going c.before.before.before.before.before) in
+    (pushable s.requires.0.passable s.requires.1 (u c.before.before.before.before.before) (vertex c.before.before.before.before.before) (f c.before.before.before.before.before) reach.room, reach)
 
 abbrev turn_of : tie.After-pull invariant-loop decreases-loop → tie.In-loop-p invariant-loop decreases-loop
 turn_of c = c.before.before.before.before.before.before
@@ -133,10 +132,8 @@ shape_of-f c = c.loop-p.invariant.size
 
 returns : tie.Need-returns invariant-loop decreases-loop
 returns c =
-    let l = c in
-    let s = l in
-    let e : l.loop-p.p ≡ 0 = omega (arith, c.loop-p-test.false) in
-    pulled_all s.requires.0 s.requires.1 l.loop-p.f (subst (λ (k : ℕ). Pulling s.args.board.vertices s.args.table.now s.args.order.now s.args.chain.now s.args.f.now l.loop-p.f k) e l.loop-p.invariant)
+    let e : c.loop-p.p ≡ 0 = omega (arith, c.loop-p-test.false) in
+    pulled_all c.requires.0 c.requires.1 c.loop-p.f (subst (λ (k : ℕ). Pulling c.args.board.vertices c.args.table.now c.args.order.now c.args.chain.now c.args.f.now c.loop-p.f k) e c.loop-p.invariant)
 
 pub propagate_back_spec : {M : Type 1} → statement M
 propagate_back_spec =

@@ -36,9 +36,8 @@ overflow_cast-v c = let p = c.requires.0 in omega (arith, (p.chain.on 0 p.some).
 
 loop-v-init : tie.Need-loop-v-init invariant-loop decreases-loop
 loop-v-init c =
-    let s = c in
-    let p = s.requires.0 in
-    gathered_start p.chain _ (arrival_in s.args.f.now) p.some (walked-first p.chain (cell_at s.args.row.now) p.some)
+    let p = c.requires.0 in
+    gathered_start p.chain _ (arrival_in c.args.f.now) p.some (walked-first p.chain (cell_at c.args.row.now) p.some)
 
 -- a turn
 module _ (t : tie.In-loop-v invariant-loop decreases-loop) where
@@ -74,7 +73,7 @@ offset_bounds-row-v : tie.Need-offset_bounds-row-v invariant-loop decreases-loop
 offset_bounds-row-v c = omega (arith, in_n c.before)
 
 bounds-row-v : tie.Need-bounds-row-v invariant-loop decreases-loop
-bounds-row-v c = let u = c in omega (arith, u.loop-v-test.true, (s u.before).requires.0.row_room)
+bounds-row-v c = omega (arith, c.loop-v-test.true, (s c.before).requires.0.row_room)
 
 module _ (g : tie.After-later-arg-in-loop-v-1 invariant-loop decreases-loop) where
   abbrev t : tie.In-loop-v invariant-loop decreases-loop
@@ -107,19 +106,15 @@ loop-v-smaller c = let u = turn_of c.before in omega (arith, u.loop-v-test.true,
 
 loop-v-preserved : tie.Need-loop-v-preserved invariant-loop decreases-loop
 loop-v-preserved c =
-    let l = c in
-    let g = l in
-    let u = t g.before.before in
+    let u = t c.before.before in
     gathered_turn (s u).requires.0.chain _ (arrival_in (s u).args.f.now) (head u).loop-v.invariant u.loop-v-test.true _
-    (ap (read_cell absent_wide) (back w64 _ l.later-best.type_inv) ∙ l.later-best.ensures
-    ∙ ap₂ (λ (x y : Delay). read_cell absent_wide (to_z w64 (head u).loop-v.best-bits) ⋓ (x ⊕ y)) (ap (read_cell absent_wide) (time_is g.before.before)) (ap (read_cell absent_cell) (cell_is g.before.before) ∙ sym (row_is u)))
+    (ap (read_cell absent_wide) (back w64 _ c.later-best.type_inv) ∙ c.later-best.ensures
+    ∙ ap₂ (λ (x y : Delay). read_cell absent_wide (to_z w64 (head u).loop-v.best-bits) ⋓ (x ⊕ y)) (ap (read_cell absent_wide) (time_is c.before.before)) (ap (read_cell absent_cell) (cell_is c.before.before) ∙ sym (row_is u)))
 
 returns : tie.Need-returns invariant-loop decreases-loop
 returns c =
-    let l = c in
-    let s = l in
-    subst (λ (z : ℤ). Pulled s.args.n s.args.row.now s.args.chain.now z s.args.f.now (to_z w64 l.loop-v.best-bits)) (to_z-of_z s.ranges.start)
-    (gathered_all s.requires.0.chain _ (arrival_in s.args.f.now) l.loop-v.invariant c.loop-v-test.false)
+    subst (λ (z : ℤ). Pulled c.args.n c.args.row.now c.args.chain.now z c.args.f.now (to_z w64 c.loop-v.best-bits)) (to_z-of_z c.ranges.start)
+    (gathered_all c.requires.0.chain _ (arrival_in c.args.f.now) c.loop-v.invariant c.loop-v-test.false)
 
 pub pull_spec : {M : Type 1} → statement M
 pull_spec =

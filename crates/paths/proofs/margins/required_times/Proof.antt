@@ -28,12 +28,11 @@ module _ (w : tie.After-start_outputs) where
   f₁ = stored s.args.board.vertices (own_from s.args.board s.args.due.now) s.args.required.now
 
 start_outputs-requires : tie.Need-start_outputs-requires
-start_outputs-requires c κs = let s = c in (s.requires.1.1.0, omega (arith, s.requires.1.1.1))
+start_outputs-requires c κs = (c.requires.1.1.0, omega (arith, c.requires.1.1.1))
 
 propagate_back-requires : tie.Need-propagate_back-requires
 propagate_back-requires c κs =
-    let w = c in
-    (subst (Started _ _ _) (sym w.start_outputs.ensures) (outputs_started (s w.before.before).requires.0.checked (s w.before.before).args.due.now (s w.before.before).requires.1.1.0 (s w.before.before).args.required.now (room w.before.before) (s w.before.before).requires.0), (s w.before.before).requires.1.0)
+    (subst (Started _ _ _) (sym c.start_outputs.ensures) (outputs_started (s c.before.before).requires.0.checked (s c.before.before).args.due.now (s c.before.before).requires.1.1.0 (s c.before.before).args.required.now (room c.before.before) (s c.before.before).requires.0), (s c.before.before).requires.1.0)
 
 -- they have come back
 module _ (q : tie.After-propagate_back) where
@@ -52,17 +51,14 @@ module _ (q : tie.After-propagate_back) where
 
 mirror_all-requires : tie.Need-mirror_all-requires
 mirror_all-requires c κs =
-    let q = c in
-    let v = s (w q.before.before) in
-    subst (λ (k : ℕ). InReach k (f₂ q.before.before)) (sym (long q.before.before)) (subst (InReach v.args.board.vertices) (sym (are q.before.before)) (back_reach v.requires.0.checked v.args.due.now v.requires.1.1.0 v.args.required.now (room (w q.before.before))))
+    let v = s (w c.before.before) in
+    subst (λ (k : ℕ). InReach k (f₂ c.before.before)) (sym (long c.before.before)) (subst (InReach v.args.board.vertices) (sym (are c.before.before)) (back_reach v.requires.0.checked v.args.due.now v.requires.1.1.0 v.args.required.now (room (w c.before.before))))
 
 returns : tie.Need-returns
 returns c =
-    let a = c in
-    let q = a in
-    let v = s (w q.before.before.before.before) in
-    a.mirror_all.ensures ∙ ap₂ (λ (k : ℕ) (x : List ℤ). cells k (λ u. mirror (arrival_in x u))) (long q.before.before.before.before) (are q.before.before.before.before)
-    ∙ mirrored_back v.requires.0.checked v.args.due.now v.requires.1.1.0 v.args.required.now (room (w q.before.before.before.before))
+    let v = s (w c.before.before.before.before) in
+    c.mirror_all.ensures ∙ ap₂ (λ (k : ℕ) (x : List ℤ). cells k (λ u. mirror (arrival_in x u))) (long c.before.before.before.before) (are c.before.before.before.before)
+    ∙ mirrored_back v.requires.0.checked v.args.due.now v.requires.1.1.0 v.args.required.now (room (w c.before.before.before.before))
 
 pub required_times_spec : {M : Type 1} → statement M
 required_times_spec = tie.close (tie.spec

@@ -23,13 +23,11 @@ own_time-requires : tie.Need-own_time-requires invariant-loop decreases-loop
 own_time-requires c κs = c.requires.0
 
 loop-v-preserved : tie.Need-loop-v-preserved invariant-loop decreases-loop
-loop-v-preserved c =
-    let l = c in
-    let s = l in (
-      omega arith,
-      simp length-set l.loop-v.invariant.1,
-      fill_turn (own_from s.args.board s.args.due.now) s.args.f.now l.loop-v.f l.loop-v.v _ (omega (arith, s.requires.1)) l.loop-v.invariant.2 (back w64 _ c.own_time.type_inv ∙ c.own_time.ensures),
-    )
+loop-v-preserved c = (
+  omega arith,
+  simp length-set c.loop-v.invariant.1,
+  fill_turn (own_from c.args.board c.args.due.now) c.args.f.now c.loop-v.f c.loop-v.v _ (omega (arith, c.requires.1)) c.loop-v.invariant.2 (back w64 _ c.own_time.type_inv ∙ c.own_time.ensures),
+)
 
 shape_of-f : tie.Need-shape_of-f invariant-loop decreases-loop
 shape_of-f c = c.loop-v.invariant.1

@@ -64,31 +64,28 @@ few g u v = sum_bound u (λ x. bit (g x v)) (λ x. bit_le (g x v))
 
 raise-requires : tie.Need-raise-requires invariant-loop decreases-loop
 raise-requires c κs =
-    let i = c in
-    let l = i.loop-u in
-    ((start i.before.before).requires.sized.few, (lent_long (n i.before.before) (t i.before.before) (u i.before.before) (start i.before.before).requires.room i.loop-u-test.true, (l.invariant.1, λ v h. omega (arith, l.invariant.2 v h, few (graph_of (n i.before.before) (t i.before.before)) (u i.before.before) v, i.loop-u-test.true, (start i.before.before).requires.sized.few))))
+    let l = c.loop-u in
+    ((start c.before.before).requires.sized.few, (lent_long (n c.before.before) (t c.before.before) (u c.before.before) (start c.before.before).requires.room c.loop-u-test.true, (l.invariant.1, λ v h. omega (arith, l.invariant.2 v h, few (graph_of (n c.before.before) (t c.before.before)) (u c.before.before) v, c.loop-u-test.true, (start c.before.before).requires.sized.few))))
 
 overflow_add-u : tie.Need-overflow_add-u invariant-loop decreases-loop
-overflow_add-u c = let i = c in omega (arith, i.loop-u-test.true, (start i.before.before.before).requires.sized.few)
+overflow_add-u c = omega (arith, c.loop-u-test.true, (start c.before.before.before).requires.sized.few)
 
 loop-u-smaller : tie.Need-loop-u-smaller invariant-loop decreases-loop
-loop-u-smaller c = let i = c in omega (arith, i.loop-u-test.true)
+loop-u-smaller c = omega (arith, c.loop-u-test.true)
 
 loop-u-preserved : tie.Need-loop-u-preserved invariant-loop decreases-loop
 loop-u-preserved c =
-    let i = c in
-    let l = i.loop-u in (
-      omega (arith, i.loop-u-test.true),
+    let l = c.loop-u in (
+      omega (arith, c.loop-u-test.true),
       c.raise.ensures.0,
-      λ v h. omega (arith, c.raise.ensures.1 v h, l.invariant.2 v h, ap bit (lent_cell (n i.before.before.before) (t i.before.before.before) (u i.before.before.before) (start i.before.before.before).requires.room i.loop-u-test.true v h), sum_more (λ x. bit (graph_of (n i.before.before.before) (t i.before.before.before) x v)) (u i.before.before.before)),
+      λ v h. omega (arith, c.raise.ensures.1 v h, l.invariant.2 v h, ap bit (lent_cell (n c.before.before.before) (t c.before.before.before) (u c.before.before.before) (start c.before.before.before).requires.room c.loop-u-test.true v h), sum_more (λ x. bit (graph_of (n c.before.before.before) (t c.before.before.before) x v)) (u c.before.before.before)),
     )
 
 returns : tie.Need-returns invariant-loop decreases-loop
 unfolding fan_in
 returns c =
-    let l = c in
-    let e : l.loop-u.u ≡ l.args.board.vertices = omega (arith, l.loop-u.invariant.0, c.loop-u-test.false) in
-    (l.loop-u.invariant.1, λ v h. l.loop-u.invariant.2 v h ∙ ap (λ (x : ℕ). above (graph_of l.args.board.vertices l.args.table.now) x v) e)
+    let e : c.loop-u.u ≡ c.args.board.vertices = omega (arith, c.loop-u.invariant.0, c.loop-u-test.false) in
+    (c.loop-u.invariant.1, λ v h. c.loop-u.invariant.2 v h ∙ ap (λ (x : ℕ). above (graph_of c.args.board.vertices c.args.table.now) x v) e)
 
 pub fans_spec : {M : Type 1} → statement M
 fans_spec =

@@ -10,10 +10,10 @@ overflow_add-result : tie.Need-overflow_add-result
 overflow_add-result c = omega (arith, c.requires)
 
 returns-then-u-from : tie.Need-returns-then-u-from
-returns-then-u-from c = let s = c in sym (ap (λ (b : Bool). cond b (s.args.u + 1) s.args.from) (eq-eqb s.args.u s.args.from c.if-u-from.true))
+returns-then-u-from c = sym (ap (λ (b : Bool). cond b (c.args.u + 1) c.args.from) (eq-eqb c.args.u c.args.from c.if-u-from.true))
 
 returns : tie.Need-returns
-returns c = let s = c in sym (ap (λ (b : Bool). cond b (s.args.u + 1) s.args.from) (ne_eqb s.args.u s.args.from c.if-u-from.false))
+returns c = sym (ap (λ (b : Bool). cond b (c.args.u + 1) c.args.from) (ne_eqb c.args.u c.args.from c.if-u-from.false))
 
 pub past_spec : {M : Type 1} → statement M
 past_spec = tie.close (tie.spec

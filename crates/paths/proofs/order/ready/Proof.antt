@@ -32,7 +32,7 @@ returns-then-fan-v-eq0 : tie.Need-returns-then-fan-v-eq0 invariant-loop decrease
 returns-then-fan-v-eq0 c = (omega arith, λ _. c.if-fan-v-eq0.true, c.loop-v.invariant.1)
 
 loop-v-preserved : tie.Need-loop-v-preserved invariant-loop decreases-loop
-loop-v-preserved c = let l = c in (omega arith, passed_more l.args.fan.now l.args.from l.loop-v.v l.loop-v.invariant.1 c.if-fan-v-eq0.false)
+loop-v-preserved c = (omega arith, passed_more c.args.fan.now c.args.from c.loop-v.v c.loop-v.invariant.1 c.if-fan-v-eq0.false)
 
 returns : tie.Need-returns invariant-loop decreases-loop
 returns c = (omega arith, λ h. absurd (omega arith), c.loop-v.invariant.1)

@@ -61,24 +61,18 @@ loop-p-init c = record { upto = omega arith; not_a = below_none _; not_b = below
 
 returns-then-v-a : tie.Need-returns-then-v-a invariant-loop decreases-loop
 returns-then-v-a c =
-    let v = c in
-    let i = v in
-    sym (meets_a i.loop-p.invariant i.loop-p-test.true (sym v.vertex-v.ensures ∙ c.if-v-a.true) (λ e. c.if-v-b.false (v.vertex-v.ensures ∙ e)))
+    sym (meets_a c.loop-p.invariant c.loop-p-test.true (sym c.vertex-v.ensures ∙ c.if-v-a.true) (λ e. c.if-v-b.false (c.vertex-v.ensures ∙ e)))
 
 loop-p-preserved : tie.Need-loop-p-preserved invariant-loop decreases-loop
 loop-p-preserved c =
-    let v = c in
-    let i = v in
-    meets_other i.loop-p.invariant i.loop-p-test.true (λ e. c.if-v-a.false (v.vertex-v.ensures ∙ e)) (λ e. c.if-v-b.false (v.vertex-v.ensures ∙ e))
+    meets_other c.loop-p.invariant c.loop-p-test.true (λ e. c.if-v-a.false (c.vertex-v.ensures ∙ e)) (λ e. c.if-v-b.false (c.vertex-v.ensures ∙ e))
 
 returns-after-loop-p : tie.Need-returns-after-loop-p invariant-loop decreases-loop
 returns-after-loop-p c = sym (meets_none c.loop-p.invariant (omega arith))
 
 returns-then-v-b : tie.Need-returns-then-v-b invariant-loop decreases-loop
 returns-then-v-b c =
-    let v = c in
-    let i = v in
-    sym (meets_b i.loop-p.invariant i.loop-p-test.true (sym v.vertex-v.ensures ∙ c.if-v-b.true))
+    sym (meets_b c.loop-p.invariant c.loop-p-test.true (sym c.vertex-v.ensures ∙ c.if-v-b.true))
 
 pub stands_before_spec : {M : Type 1} → statement M
 stands_before_spec =

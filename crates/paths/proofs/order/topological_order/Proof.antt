@@ -40,16 +40,15 @@ loop-p-init : tie.Need-loop-p-init invariant-loop decreases-loop
 loop-p-init c = (c.fans-fan.ensures.0, c.requires.1, going_start _ _ _ _ (omega (arith, c.requires.0.sized.few, c.requires.1)) c.fans-fan.ensures.1, omega arith, λ v h. absurd (omega arith))
 
 ready-u-requires : tie.Need-ready-u-requires invariant-loop decreases-loop
-ready-u-requires c κs = let l = c in (l.requires.0.sized.few, l.loop-p.invariant.3)
+ready-u-requires c κs = (c.requires.0.sized.few, c.loop-p.invariant.3)
 
 returns-then-u-n : tie.Need-returns-then-u-n invariant-loop decreases-loop
 returns-then-u-n c =
-    let l = c in
-    let n = l.args.board.vertices in
-    let t = l.args.table.now in
+    let n = c.args.board.vertices in
+    let t = c.args.table.now in
     record {
-      long = l.loop-p.invariant.1;
-      answer = sym (is_false _ (λ b. going_stuck (graph_of_within n t) l.loop-p.invariant.2 c.loop-p-test.true (λ v h. waiting v (omega (arith, c.if-u-n.true)) (dec_lt v l.loop-p.from))
+      long = c.loop-p.invariant.1;
+      answer = sym (is_false _ (λ b. going_stuck (graph_of_within n t) c.loop-p.invariant.2 c.loop-p-test.true (λ v h. waiting v (omega (arith, c.if-u-n.true)) (dec_lt v c.loop-p.from))
           (no_cycle_acyclic n (graph_of n t) (graph_of_within n t) b)));
       order = λ b. absurd b;
     }
@@ -130,50 +129,47 @@ slice_bounds-lower-start c = omega (arith, row c, (start c).requires.0.room)
 
 lower-requires : tie.Need-lower-requires invariant-loop decreases-loop
 lower-requires c κs =
-    let e = c in ((start e.before.before).requires.0.sized.few, (lent_long (n e.before.before) (t e.before.before) (u e.before.before) (start e.before.before).requires.0.room (in_n e.before.before), ((head e.before.before).loop-p.invariant.0, λ v h. omega (arith, low e.before.before v h, ap bit (lent_cell (n e.before.before) (t e.before.before) (u e.before.before) (start e.before.before).requires.0.room (in_n e.before.before) v h)))))
+    ((start c.before.before).requires.0.sized.few, (lent_long (n c.before.before) (t c.before.before) (u c.before.before) (start c.before.before).requires.0.room (in_n c.before.before), ((head c.before.before).loop-p.invariant.0, λ v h. omega (arith, low c.before.before v h, ap bit (lent_cell (n c.before.before) (t c.before.before) (u c.before.before) (start c.before.before).requires.0.room (in_n c.before.before) v h)))))
 
 bounds-fan-u : tie.Need-bounds-fan-u invariant-loop decreases-loop
-bounds-fan-u c = let e = c in omega (arith, in_n e.before.before.before, (start e.before.before.before).requires.0.sized.few)
+bounds-fan-u c = omega (arith, in_n c.before.before.before, (start c.before.before.before).requires.0.sized.few)
 
 overflow_cast-order : tie.Need-overflow_cast-order invariant-loop decreases-loop
-overflow_cast-order c = let e = c in omega (arith, in_n e.before.before.before, (start e.before.before.before).requires.0.sized.few)
+overflow_cast-order c = omega (arith, in_n c.before.before.before, (start c.before.before.before).requires.0.sized.few)
 
 bounds-order-p : tie.Need-bounds-order-p invariant-loop decreases-loop
-bounds-order-p c = let e = c in omega (arith, p_in e.before.before.before.before, (start e.before.before.before.before).requires.0.sized.few)
+bounds-order-p c = omega (arith, p_in c.before.before.before.before, (start c.before.before.before.before).requires.0.sized.few)
 
 past-from-requires : tie.Need-past-from-requires invariant-loop decreases-loop
-past-from-requires c κs = let e = c in omega (arith, in_n e.before.before.before.before, (start e.before.before.before.before).requires.0.sized.few)
+past-from-requires c κs = omega (arith, in_n c.before.before.before.before, (start c.before.before.before.before).requires.0.sized.few)
 
 overflow_add-p : tie.Need-overflow_add-p invariant-loop decreases-loop
-overflow_add-p c = let e = c in omega (arith, p_in e.before.before.before.before.before, (start e.before.before.before.before.before).requires.0.sized.few)
+overflow_add-p c = omega (arith, p_in c.before.before.before.before.before, (start c.before.before.before.before.before).requires.0.sized.few)
 
 loop-p-smaller : tie.Need-loop-p-smaller invariant-loop decreases-loop
 loop-p-smaller c = omega (arith, p_in c.before.before.before.before.before)
 
 -- the counts without u's arcs
 lowered : (k : tie.After-lower invariant-loop decreases-loop) → let e = k in (v : ℕ) → v < n e.before.before.before → get_or k.lower.new.fan v 0 + bit (graph_of (n e.before.before.before) (t e.before.before.before) (u e.before.before.before) v) ≡ get_or (head e.before.before.before).loop-p.fan v 0
-lowered k v h = let e = k in ap (λ (x : ℕ). get_or k.lower.new.fan v 0 + x) (sym (ap bit (lent_cell (n e.before.before.before) (t e.before.before.before) (u e.before.before.before) (start e.before.before.before).requires.0.room (in_n e.before.before.before) v h))) ∙ k.lower.ensures.1 v h
+lowered k v h = ap (λ (x : ℕ). get_or k.lower.new.fan v 0 + x) (sym (ap bit (lent_cell (n k.before.before.before) (t k.before.before.before) (u k.before.before.before) (start k.before.before.before).requires.0.room (in_n k.before.before.before) v h))) ∙ k.lower.ensures.1 v h
 
 loop-p-preserved : tie.Need-loop-p-preserved invariant-loop decreases-loop
 loop-p-preserved c =
-    let k = c in
-    let e = k in
-    let f = k.lower.new.fan in
-    let low = lowered k.before.before in (
-      simp length-set k.lower.ensures.0,
-      simp length-set (head e.before.before.before.before.before).loop-p.invariant.1,
-      step e.before.before.before.before.before f low k.lower.ensures.0,
-      rw c.past-from.ensures (upto e.before.before.before.before.before),
-      rw c.past-from.ensures (placed e.before.before.before.before.before f low k.lower.ensures.0),
+    let f = c.lower.new.fan in
+    let low = lowered c.before.before in (
+      simp length-set c.lower.ensures.0,
+      simp length-set (head c.before.before.before.before.before).loop-p.invariant.1,
+      step c.before.before.before.before.before f low c.lower.ensures.0,
+      rw c.past-from.ensures (upto c.before.before.before.before.before),
+      rw c.past-from.ensures (placed c.before.before.before.before.before f low c.lower.ensures.0),
     )
 
 returns : tie.Need-returns invariant-loop decreases-loop
 returns c =
-    let l = c in
-    let n = l.args.board.vertices in
-    let t = l.args.table.now in
-    let o = going_all (graph_of_within n t) l.loop-p.invariant.2 (omega (arith, l.loop-p.invariant.2.upto, c.loop-p-test.false)) in
-    record { long = l.loop-p.invariant.1; answer = sym (is_true _ (acyclic_no_cycle n (graph_of n t) (ranked_acyclic (order_ranked o)))); order = λ _. o }
+    let n = c.args.board.vertices in
+    let t = c.args.table.now in
+    let o = going_all (graph_of_within n t) c.loop-p.invariant.2 (omega (arith, c.loop-p.invariant.2.upto, c.loop-p-test.false)) in
+    record { long = c.loop-p.invariant.1; answer = sym (is_true _ (acyclic_no_cycle n (graph_of n t) (ranked_acyclic (order_ranked o)))); order = λ _. o }
 
 pub topological_order_spec : {M : Type 1} → statement M
 topological_order_spec =

@@ -13,16 +13,14 @@ returns-then-x-eq-ABSENT_WIDE c = sym (ap (fits arrival_limit) (read_absent abse
 
 returns-then-x-lt-MIN_ARRIVAL : tie.Need-returns-then-x-lt-MIN_ARRIVAL
 returns-then-x-lt-MIN_ARRIVAL c =
-    let s = c in
-    let x = s.args.x in
-    let e = to_z-of_z {w = w64} s.ranges.x in
+    let x = c.args.x in
+    let e = to_z-of_z {w = w64} c.ranges.x in
     simp (read_at absent_wide x (other_bits w64 c.if-x-eq-ABSENT_WIDE.false), le_not_lt x (neg_ℤ (pos arrival_limit)) _ (rw e at c.if-x-lt-MIN_ARRIVAL.true))
 
 returns : tie.Need-returns
 returns c =
-    let s = c in
-    let x = s.args.x in
-    let e = to_z-of_z {w = w64} s.ranges.x in
+    let x = c.args.x in
+    let e = to_z-of_z {w = w64} c.ranges.x in
     simp (e, read_at absent_wide x (other_bits w64 c.if-x-eq-ABSENT_WIDE.false), le_not_lt x (neg_ℤ (pos arrival_limit)) _ (rw e at c.if-x-lt-MIN_ARRIVAL.false))
 
 pub arrival_fits_spec : {M : Type 1} → statement M

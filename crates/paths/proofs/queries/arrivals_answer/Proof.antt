@@ -47,26 +47,23 @@ module _ (m : tie.After-chains) where
   lists = m.before.before.before
 
 slice_bounds-arrivals-end : tie.Need-slice_bounds-arrivals-end
-slice_bounds-arrivals-end c = let m = c in sym (m.chains.auto.chain ∙ m.cell_bytes-chain.ensures)
+slice_bounds-arrivals-end c = sym (c.chains.auto.chain ∙ c.cell_bytes-chain.ensures)
 
 arrivals-requires : tie.Need-arrivals-requires
-arrivals-requires c κs = let m = c in let e = lists m.before.before.before in ((start e).requires.0, (m.chains.ensures, (given_of _ _ (fit e), omega (arith, (start e).requires.1, least e))))
+arrivals-requires c κs = let e = lists c.before.before.before in ((start e).requires.0, (c.chains.ensures, (given_of _ _ (fit e), omega (arith, (start e).requires.1, least e))))
 
 copy_out-requires : tie.Need-copy_out-requires
 copy_out-requires c κs =
-    let a = c in
-    let e = lists a.before.before.before.before.before.before in
-    omega (arith, e.if-answers-board.false, a.arrivals.auto.f, (start e).requires.0.checked.sound.room, (start e).requires.1, least e)
+    let e = lists c.before.before.before.before.before.before in
+    omega (arith, e.if-answers-board.false, c.arrivals.auto.f, (start e).requires.0.checked.sound.room, (start e).requires.1, least e)
 
 returns : tie.Need-returns
 returns c =
-    let o = c in
-    let a = o in
-    let e = lists a.before.before.before.before.before.before.before.before in
+    let e = lists c.before.before.before.before.before.before.before.before in
     let s = start e in (
-      lists_done _ _ _ _ _ _ (fit e) e.if-answers-board.false _ (o.copy_out.ensures ∙ copied s.args.board s.args.given.now s.args.scratch.now a.arrivals.new.f (graph_of s.args.board.vertices s.args.table.now) _ s.requires.0.checked.sound.room e.if-answers-board.false a.arrivals.ensures),
-      drop_further s.args.board.vertices (s.args.board.vertices * s.args.board.vertices) s.args.scratch.now a.arrivals.new.f (least e)
-          (filled-drop s.args.board.vertices (arrival_at s.args.board.inputs s.args.board.vertices (graph_of s.args.board.vertices s.args.table.now) (arrival_in s.args.given.now)) s.args.scratch.now a.arrivals.new.f a.arrivals.ensures),
+      lists_done _ _ _ _ _ _ (fit e) e.if-answers-board.false _ (c.copy_out.ensures ∙ copied s.args.board s.args.given.now s.args.scratch.now c.arrivals.new.f (graph_of s.args.board.vertices s.args.table.now) _ s.requires.0.checked.sound.room e.if-answers-board.false c.arrivals.ensures),
+      drop_further s.args.board.vertices (s.args.board.vertices * s.args.board.vertices) s.args.scratch.now c.arrivals.new.f (least e)
+          (filled-drop s.args.board.vertices (arrival_at s.args.board.inputs s.args.board.vertices (graph_of s.args.board.vertices s.args.table.now) (arrival_in s.args.given.now)) s.args.scratch.now c.arrivals.new.f c.arrivals.ensures),
     )
 
 pub arrivals_answer_spec : {M : Type 1} → statement M

@@ -45,12 +45,11 @@ loop-j-smaller : tie.Need-loop-j-smaller invariant-loop decreases-loop
 loop-j-smaller c = omega arith
 
 loop-j-preserved : tie.Need-loop-j-preserved invariant-loop decreases-loop
-loop-j-preserved c =
-    let l = c in (
-      omega arith,
-      simp length-set l.loop-j.invariant.1,
-      fill_turn (cell_of l.args.f.now l.args.m) l.args.row.now l.loop-j.row l.loop-j.j _ (omega arith) l.loop-j.invariant.2 (back w64 _ c.row-1.given),
-    )
+loop-j-preserved c = (
+  omega arith,
+  simp length-set c.loop-j.invariant.1,
+  fill_turn (cell_of c.args.f.now c.args.m) c.args.row.now c.loop-j.row c.loop-j.j _ (omega arith) c.loop-j.invariant.2 (back w64 _ c.row-1.given),
+)
 
 shape_of-row : tie.Need-shape_of-row invariant-loop decreases-loop
 shape_of-row c = c.loop-j.invariant.1

@@ -20,13 +20,12 @@ abbrev decreases-loop : tie.decreases-loop-l
 decreases-loop board table order chain i scratch destination₀ n v l₀ destination l = 4 - l
 
 delays_from_four-requires : tie.Need-delays_from_four-requires invariant-loop decreases-loop
-delays_from_four-requires c κs = let s = c in (s.requires.0, (s.requires.1.0, (omega (arith, s.requires.1.1.0, s.requires.0.checked.sound.room), s.requires.1.1.1.0)))
+delays_from_four-requires c κs = (c.requires.0, (c.requires.1.0, (omega (arith, c.requires.1.1.0, c.requires.0.checked.sound.room), c.requires.1.1.1.0)))
 
 loop-l-init : tie.Need-loop-l-init invariant-loop decreases-loop
 loop-l-init c =
-    let s = c in
-    let e : s.args.i ≡ s.args.i + 0 = omega arith in
-    (omega arith, refl, subst (λ (k : ℕ). RowsMade s.args.board s.args.table.now s.args.i k s.args.destination.now s.args.destination.now) e (λ d₀ q. q))
+    let e : c.args.i ≡ c.args.i + 0 = omega arith in
+    (omega arith, refl, subst (λ (k : ℕ). RowsMade c.args.board c.args.table.now c.args.i k c.args.destination.now c.args.destination.now) e (λ d₀ q. q))
 
 -- a row
 module _ (t : tie.In-loop-l invariant-loop decreases-loop) where
@@ -91,15 +90,14 @@ slice_bounds-copy_out-end : tie.Need-slice_bounds-copy_out-end invariant-loop de
 slice_bounds-copy_out-end c = omega (arith, room c)
 
 offset_bounds-scratch-from : tie.Need-offset_bounds-scratch-from invariant-loop decreases-loop
-offset_bounds-scratch-from c = let t = c in omega (arith, before t.before, (s t.before).well_formed)
+offset_bounds-scratch-from c = omega (arith, before c.before, (s c.before).well_formed)
 
 slice_bounds-copy_out-end-in-loop-l : tie.Need-slice_bounds-copy_out-end-in-loop-l invariant-loop decreases-loop
 slice_bounds-copy_out-end-in-loop-l c = omega (arith, run c.before)
 
 copy_out-requires : tie.Need-copy_out-requires invariant-loop decreases-loop
 copy_out-requires c κs =
-    let t = c in
-    omega (arith, (s t.before.before).requires.0.checked.sound.room, row_length (n t.before.before) (u t.before.before) (h t.before.before).loop-l.destination (room t.before.before), ap length (lane_lent (N t.before.before) (l t.before.before) (f t.before.before)), lane-length (N t.before.before) (l t.before.before) (f t.before.before) (run t.before.before))
+    omega (arith, (s c.before.before).requires.0.checked.sound.room, row_length (n c.before.before) (u c.before.before) (h c.before.before).loop-l.destination (room c.before.before), ap length (lane_lent (N c.before.before) (l c.before.before) (f c.before.before)), lane-length (N c.before.before) (l c.before.before) (f c.before.before) (run c.before.before))
 
 abbrev turn_of : tie.After-destination-1 invariant-loop decreases-loop → tie.In-loop-l invariant-loop decreases-loop
 turn_of c = c.before.before.before.before
@@ -133,11 +131,8 @@ shape_of-destination c = c.loop-l.invariant.1
 
 returns : tie.Need-returns invariant-loop decreases-loop
 returns c =
-    let h = c in
-    let d = h in
-    let s = d in
-    let e : s.args.i + h.loop-l.l ≡ s.args.i + 4 = omega (arith, h.loop-l.invariant.0, c.loop-l-test.false) in
-    (subst (λ (k : ℕ). RowsMade s.args.board s.args.table.now s.args.i k s.args.destination.now h.loop-l.destination) e h.loop-l.invariant.2, d.delays_from_four.ensures.1)
+    let e : c.args.i + c.loop-l.l ≡ c.args.i + 4 = omega (arith, c.loop-l.invariant.0, c.loop-l-test.false) in
+    (subst (λ (k : ℕ). RowsMade c.args.board c.args.table.now c.args.i k c.args.destination.now c.loop-l.destination) e c.loop-l.invariant.2, c.delays_from_four.ensures.1)
 
 pub fill_four_spec : {M : Type 1} → statement M
 fill_four_spec =

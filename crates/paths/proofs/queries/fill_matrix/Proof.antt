@@ -44,7 +44,7 @@ slice_bounds-chains-end : tie.Need-slice_bounds-chains-end invariant-loop decrea
 slice_bounds-chains-end c = sym c.cell_bytes-chain.ensures
 
 chains-requires : tie.Need-chains-requires invariant-loop decreases-loop invariant-loop2 decreases-loop2
-chains-requires c κs = let s = c in let l = s.requires.0 in (l, omega (arith, c.cell_bytes-chain.ensures, board_area s.args.board l.checked.lent.sized))
+chains-requires c κs = let l = c.requires.0 in (l, omega (arith, c.cell_bytes-chain.ensures, board_area c.args.board l.checked.lent.sized))
 
 loop-i-init : tie.Need-loop-i-init invariant-loop decreases-loop invariant-loop2 decreases-loop2
 loop-i-init c = record { upto = omega arith; long = refl; past = refl; size = refl; made = λ d₀ e. e }
@@ -82,10 +82,9 @@ module _ (t : tie.In-loop-i invariant-loop decreases-loop invariant-loop2 decrea
 
 fill_four-requires : tie.Need-fill_four-requires invariant-loop decreases-loop invariant-loop2 decreases-loop2
 fill_four-requires c κs =
-    let t = c in
-    let a = h t.before.before.before in
+    let a = h c.before.before.before in
     let s = start a in
-    (s.requires.0, ((chained a).chains.ensures, (t.loop-i-test.true, (omega (arith, a.loop-i.invariant.long, s.requires.1.0, lanes t.before.before.before), omega (arith, a.loop-i.invariant.size, s.requires.1.1)))))
+    (s.requires.0, ((chained a).chains.ensures, (c.loop-i-test.true, (omega (arith, a.loop-i.invariant.long, s.requires.1.0, lanes c.before.before.before), omega (arith, a.loop-i.invariant.size, s.requires.1.1)))))
 
 abbrev turn_of : tie.After-destination-1 invariant-loop decreases-loop invariant-loop2 decreases-loop2 → tie.In-loop-i invariant-loop decreases-loop invariant-loop2 decreases-loop2
 turn_of c = c.before.before.before.before.before.before
@@ -147,7 +146,7 @@ slice_bounds-delays_from-end : tie.Need-slice_bounds-delays_from-end invariant-l
 slice_bounds-delays_from-end c = chain_long (from c.before)
 
 delays_from-requires : tie.Need-delays_from-requires invariant-loop decreases-loop invariant-loop2 decreases-loop2
-delays_from-requires c κs = let t = c in ((s t.before.before).requires.0, ((chained (from t.before.before)).chains.ensures, (omega (arith, t.loop-i-2-test.true, (s t.before.before).requires.0.checked.sound.room), space t.before.before)))
+delays_from-requires c κs = ((s c.before.before).requires.0, ((chained (from c.before.before)).chains.ensures, (omega (arith, c.loop-i-2-test.true, (s c.before.before).requires.0.checked.sound.room), space c.before.before)))
 
 abbrev one_of : tie.After-scratch-in-loop-i-2-1 invariant-loop decreases-loop invariant-loop2 decreases-loop2 → tie.In-loop-i-2 invariant-loop decreases-loop invariant-loop2 decreases-loop2
 one_of c = c.before.before.before.before
@@ -195,21 +194,19 @@ loop-i-2-preserved c =
     }
 
 shape_of-scratch : tie.Need-shape_of-scratch invariant-loop decreases-loop invariant-loop2 decreases-loop2
-shape_of-scratch c = let l = c in l.loop-i-2.invariant.long ∙ l.loop-i.invariant.long
+shape_of-scratch c = c.loop-i-2.invariant.long ∙ c.loop-i.invariant.long
 
 shape_of-destination : tie.Need-shape_of-destination invariant-loop decreases-loop invariant-loop2 decreases-loop2
-shape_of-destination c = let l = c in l.loop-i-2.invariant.size ∙ l.loop-i.invariant.size
+shape_of-destination c = c.loop-i-2.invariant.size ∙ c.loop-i.invariant.size
 
 returns : tie.Need-returns invariant-loop decreases-loop invariant-loop2 decreases-loop2
 unfolding matrix_cells
 returns c =
-    let l = c in
-    let a = l in
-    let b = start a.before.before.before in
+    let b = start c.before.before.before in
     let d = b.args.destination.now in
-    let e : l.loop-i-2.i ≡ b.args.board.inputs = omega (arith, l.loop-i-2.invariant.upto, c.loop-i-2-test.false) in (
-      subst (λ (k : ℕ). RowsDone b.args.board b.args.table.now k d l.loop-i-2.destination) e (l.loop-i-2.invariant.made d (a.loop-i.invariant.made d (rows_none b.args.board.outputs (entry b.args.board b.args.table.now) d))),
-      l.loop-i-2.invariant.past ∙ a.loop-i.invariant.past,
+    let e : c.loop-i-2.i ≡ b.args.board.inputs = omega (arith, c.loop-i-2.invariant.upto, c.loop-i-2-test.false) in (
+      subst (λ (k : ℕ). RowsDone b.args.board b.args.table.now k d c.loop-i-2.destination) e (c.loop-i-2.invariant.made d (c.loop-i.invariant.made d (rows_none b.args.board.outputs (entry b.args.board b.args.table.now) d))),
+      c.loop-i-2.invariant.past ∙ c.loop-i.invariant.past,
     )
 
 pub fill_matrix_spec : {M : Type 1} → statement M

@@ -20,14 +20,11 @@ overflow_mul-board c = omega (arith, small c.args.board c.requires.0.checked.len
 
 fill_matrix-requires : tie.Need-fill_matrix-requires
 fill_matrix-requires c κs =
-    let s = c in
-    (s.requires.0, (s.requires.1, c.if-destination-board.true))
+    (c.requires.0, (c.requires.1, c.if-destination-board.true))
 
 returns-then-destination-board : tie.Need-returns-then-destination-board
 returns-then-destination-board c =
-    let f = c in
-    let e = f in
-    (matrix_done _ _ _ _ _ e.if-destination-board.true _ f.fill_matrix.ensures.0, f.fill_matrix.ensures.1)
+    (matrix_done _ _ _ _ _ c.if-destination-board.true _ c.fill_matrix.ensures.0, c.fill_matrix.ensures.1)
 
 returns : tie.Need-returns
 returns c = (matrix_short _ _ _ _ _ c.if-destination-board.false, refl)

@@ -46,22 +46,19 @@ module _ (c : tie.After-arrival_fits invariant-loop decreases-loop) where
 returns-then-not-arrival_fits : tie.Need-returns-then-not-arrival_fits invariant-loop decreases-loop
 unfolding arrivals_fit
 returns-then-not-arrival_fits c =
-    let a = c in
-    let broken : every (start a.before).args.count (λ k. fits arrival_limit (arrival_in (start a.before).args.given.now k)) ≡ false =
-    every_broken _ _ (inside a.before).loop-i.i (inside a.before).loop-i-test.true (said a.before ∙ not-true _ c.if-not-arrival_fits.true-raw) in
-    simp (long a.before, broken)
+    let broken : every (start c.before).args.count (λ k. fits arrival_limit (arrival_in (start c.before).args.given.now k)) ≡ false =
+    every_broken _ _ (inside c.before).loop-i.i (inside c.before).loop-i-test.true (said c.before ∙ not-true _ c.if-not-arrival_fits.true-raw) in
+    simp (long c.before, broken)
 
 loop-i-preserved : tie.Need-loop-i-preserved invariant-loop decreases-loop
-loop-i-preserved c = let a = c in (omega (arith, (inside a.before).loop-i-test.true), every_more _ _ (inside a.before).loop-i.invariant.1 (said a.before ∙ not-false _ c.if-not-arrival_fits.false-raw))
+loop-i-preserved c = (omega (arith, (inside c.before).loop-i-test.true), every_more _ _ (inside c.before).loop-i.invariant.1 (said c.before ∙ not-false _ c.if-not-arrival_fits.false-raw))
 
 returns : tie.Need-returns invariant-loop decreases-loop
 unfolding arrivals_fit
 returns c =
-    let l = c in
-    let s = l in
-    let e : l.loop-i.i ≡ s.args.count = omega (arith, l.loop-i.invariant.0, c.loop-i-test.false) in
-    let all : every s.args.count (λ k. fits arrival_limit (arrival_in s.args.given.now k)) ≡ true = rw e at l.loop-i.invariant.1 in
-    let long : eqb (length s.args.given.now) s.args.count ≡ true = T_true {b = eqb (length s.args.given.now) s.args.count} (eq→eqb _ _ l.if-given-count.false) in
+    let e : c.loop-i.i ≡ c.args.count = omega (arith, c.loop-i.invariant.0, c.loop-i-test.false) in
+    let all : every c.args.count (λ k. fits arrival_limit (arrival_in c.args.given.now k)) ≡ true = rw e at c.loop-i.invariant.1 in
+    let long : eqb (length c.args.given.now) c.args.count ≡ true = T_true {b = eqb (length c.args.given.now) c.args.count} (eq→eqb _ _ c.if-given-count.false) in
     simp (long, all)
 
 pub times_fit_spec : {M : Type 1} → statement M

@@ -48,45 +48,39 @@ bounds-ys-j : tie.Need-bounds-ys-j invariant-compare decreases-compare
 bounds-ys-j c = omega (arith, (start c.before).requires.long)
 
 -- the two cells, as the code has them
-x_is : (c : tie.After-seen_next-arg-1 invariant-compare decreases-compare) → let t = c in to_z w64 (of_z w64 (get_or (xs t.before) (j t.before) (pos 0))) ≡ get_or (xs t.before) (j t.before) (pos 0)
+x_is : (c : tie.After-seen_next-arg-1 invariant-compare decreases-compare) → to_z w64 (of_z w64 (get_or (xs c.before) (j c.before) (pos 0))) ≡ get_or (xs c.before) (j c.before) (pos 0)
 x_is c = back w64 _ c.seen_next-arg-1.given
 
-y_is : (c : tie.After-seen_next-arg-in-compare-1 invariant-compare decreases-compare) → let t = c in to_z w64 (of_z w64 (get_or (ys t.before.before) (j t.before.before) (pos 0))) ≡ get_or (ys t.before.before) (j t.before.before) (pos 0)
+y_is : (c : tie.After-seen_next-arg-in-compare-1 invariant-compare decreases-compare) → to_z w64 (of_z w64 (get_or (ys c.before.before) (j c.before.before) (pos 0))) ≡ get_or (ys c.before.before) (j c.before.before) (pos 0)
 y_is c = back w64 _ c.seen_next-arg-in-compare-1.given
 
 seen_next-seen-requires : tie.Need-seen_next-seen-requires invariant-compare decreases-compare
 seen_next-seen-requires c κs =
-    let t = c in
-    simp (x_is c.before, y_is c) ((start t.before.before).requires.near_x (j t.before.before) (omega arith), (start t.before.before).requires.near_y (j t.before.before) (omega (arith, (start t.before.before).requires.long)))
+    simp (x_is c.before, y_is c) ((start c.before.before).requires.near_x (j c.before.before) (omega arith), (start c.before.before).requires.near_y (j c.before.before) (omega (arith, (start c.before.before).requires.long)))
 
 -- what is seen after the turn
 turned : (c : tie.After-seen_next-seen invariant-compare decreases-compare) → let t = c in c.seen_next-seen.result ≡ seen (j t.before.before.before + 1) (arrival_in (xs t.before.before.before)) (arrival_in (ys t.before.before.before))
 turned c =
-    let t = c in
     c.seen_next-seen.ensures
-    ∙ (λ i. compared (t.compare.invariant.1 i) (read_cell absent_wide (x_is c.before.before i)) (read_cell absent_wide (y_is c.before i)))
-    ∙ seen_more (arrival_in (xs t.before.before.before)) (arrival_in (ys t.before.before.before)) (j t.before.before.before)
+    ∙ (λ i. compared (c.compare.invariant.1 i) (read_cell absent_wide (x_is c.before.before i)) (read_cell absent_wide (y_is c.before i)))
+    ∙ seen_more (arrival_in (xs c.before.before.before)) (arrival_in (ys c.before.before.before)) (j c.before.before.before)
 
 compare-preserved : tie.Need-compare-preserved invariant-compare decreases-compare
 compare-preserved c = (omega arith, turned c.before)
 
 returns-then-j-xs : tie.Need-returns-then-j-xs invariant-compare decreases-compare
 returns-then-j-xs c =
-    let l = c in
-    let s = l in
-    let a = arrival_in s.args.xs.now in
-    let b = arrival_in s.args.ys.now in
-    let e : l.compare.j ≡ length s.args.xs.now = omega (arith, c.if-j-xs.true, l.compare.invariant.0) in
-    ap difference_meaning (c.settle.ensures ∙ ap settled (l.compare.invariant.1 ∙ ap (λ (k : ℕ). seen k a b) e)) ∙ seen_common a b (length s.args.xs.now)
+    let a = arrival_in c.args.xs.now in
+    let b = arrival_in c.args.ys.now in
+    let e : c.compare.j ≡ length c.args.xs.now = omega (arith, c.if-j-xs.true, c.compare.invariant.0) in
+    ap difference_meaning (c.settle.ensures ∙ ap settled (c.compare.invariant.1 ∙ ap (λ (k : ℕ). seen k a b) e)) ∙ seen_common a b (length c.args.xs.now)
 
 returns-in-Clash : tie.Need-returns-in-Clash invariant-compare decreases-compare
 returns-in-Clash c =
-    let p = c in
-    let t = p in
-    let a = arrival_in (xs t.before.before.before.before) in
-    let b = arrival_in (ys t.before.before.before.before) in
-    sym (ap (λ (s : Seen). difference_meaning (settled s)) (seen_clash a b (j t.before.before.before.before + 1) (length (xs t.before.before.before.before)) (omega (arith, t.if-j-xs.false)) (sym (turned p.before) ∙ c.in-Clash.is)))
-    ∙ seen_common a b (length (xs t.before.before.before.before))
+    let a = arrival_in (xs c.before.before.before.before) in
+    let b = arrival_in (ys c.before.before.before.before) in
+    sym (ap (λ (s : Seen). difference_meaning (settled s)) (seen_clash a b (j c.before.before.before.before + 1) (length (xs c.before.before.before.before)) (omega (arith, c.if-j-xs.false)) (sym (turned c.before) ∙ c.in-Clash.is)))
+    ∙ seen_common a b (length (xs c.before.before.before.before))
 
 pub common_difference_spec : {M : Type 1} → statement M
 common_difference_spec =

@@ -15,24 +15,21 @@ use Rattle.plans.proofs.common.seen_next.Tie as tie
 
 returns-then-y-eq-ABSENT_WIDE : tie.Need-returns-then-y-eq-ABSENT_WIDE
 returns-then-y-eq-ABSENT_WIDE c =
-    let s = c in
-    let x = same_bits {w = w64} {b = absent_wide} s.ranges.x (sfits_lit tt) c.if-x-eq-ABSENT_WIDE.true in
-    let y = same_bits {w = w64} {b = absent_wide} s.ranges.y (sfits_lit tt) c.if-y-eq-ABSENT_WIDE.true in
-    simp (read_absent absent_wide s.args.x x, read_absent absent_wide s.args.y y) (neither s.args.seen)
+    let x = same_bits {w = w64} {b = absent_wide} c.ranges.x (sfits_lit tt) c.if-x-eq-ABSENT_WIDE.true in
+    let y = same_bits {w = w64} {b = absent_wide} c.ranges.y (sfits_lit tt) c.if-y-eq-ABSENT_WIDE.true in
+    simp (read_absent absent_wide c.args.x x, read_absent absent_wide c.args.y y) (neither c.args.seen)
 
 returns-then-x-eq-ABSENT_WIDE : tie.Need-returns-then-x-eq-ABSENT_WIDE
 returns-then-x-eq-ABSENT_WIDE c =
-    let s = c in
-    let x = same_bits {w = w64} {b = absent_wide} s.ranges.x (sfits_lit tt) c.if-x-eq-ABSENT_WIDE.true in
+    let x = same_bits {w = w64} {b = absent_wide} c.ranges.x (sfits_lit tt) c.if-x-eq-ABSENT_WIDE.true in
     let y = other_bits w64 {b = absent_wide} c.if-y-eq-ABSENT_WIDE.false in
-    simp (read_absent absent_wide s.args.x x, read_at absent_wide s.args.y y)
+    simp (read_absent absent_wide c.args.x x, read_at absent_wide c.args.y y)
 
 returns-then-y-eq-ABSENT_WIDE-2 : tie.Need-returns-then-y-eq-ABSENT_WIDE-2
 returns-then-y-eq-ABSENT_WIDE-2 c =
-    let s = c in
     let x = other_bits w64 {b = absent_wide} c.if-x-eq-ABSENT_WIDE.false in
-    let y = same_bits {w = w64} {b = absent_wide} s.ranges.y (sfits_lit tt) c.if-y-eq-ABSENT_WIDE-2.true in
-    simp (read_at absent_wide s.args.x x, read_absent absent_wide s.args.y y)
+    let y = same_bits {w = w64} {b = absent_wide} c.ranges.y (sfits_lit tt) c.if-y-eq-ABSENT_WIDE-2.true in
+    simp (read_at absent_wide c.args.x x, read_absent absent_wide c.args.y y)
 
 -- both are joined
 module _ (c : tie.Else-y-eq-ABSENT_WIDE-2) where
@@ -65,8 +62,7 @@ overflow_sub-d c = simp (to_z-of_z {w = w64} (start c).ranges.y, to_z-of_z {w = 
 
 returns-in-Nothing : tie.Need-returns-in-Nothing
 returns-in-Nothing c =
-    let e = c in
-    simp (d_is e.before, read_at absent_wide (x e.before) (x_there e.before), read_at absent_wide (y e.before) (y_there e.before), c.in-Nothing.is)
+    simp (d_is c.before, read_at absent_wide (x c.before) (x_there c.before), read_at absent_wide (y c.before) (y_there c.before), c.in-Nothing.is)
 
 -- the difference that came in, as the code has it
 e_is : (c : tie.In-One) → to_z w64 (of_z w64 c.in-One.e) ≡ c.in-One.e
@@ -74,22 +70,17 @@ e_is c = search rules
 
 returns-then-d-e : tie.Need-returns-then-d-e
 returns-then-d-e c =
-    let k = c in
-    let e = k in
-    let q = sym (d_is e.before.before) ∙ ap (to_z w64) c.if-d-e.true ∙ e_is k.before in
-    simp (e_is k.before, read_at absent_wide (x e.before.before) (x_there e.before.before), read_at absent_wide (y e.before.before) (y_there e.before.before), k.in-One.is, eq_z_same q)
+    let q = sym (d_is c.before.before) ∙ ap (to_z w64) c.if-d-e.true ∙ e_is c.before in
+    simp (e_is c.before, read_at absent_wide (x c.before.before) (x_there c.before.before), read_at absent_wide (y c.before.before) (y_there c.before.before), c.in-One.is, eq_z_same q)
 
 returns-else-d-e : tie.Need-returns-else-d-e
 returns-else-d-e c =
-    let k = c in
-    let e = k in
-    let q : y e.before.before -ℤ x e.before.before ≢ k.in-One.e = λ q. c.if-d-e.false (ap (of_z w64) (ap₂ ◌-ℤ◌ (to_z-of_z (start e.before.before).ranges.y) (to_z-of_z (start e.before.before).ranges.x) ∙ q)) in
-    simp (read_at absent_wide (x e.before.before) (x_there e.before.before), read_at absent_wide (y e.before.before) (y_there e.before.before), k.in-One.is, eq_z_other q)
+    let q : y c.before.before -ℤ x c.before.before ≢ c.in-One.e = λ q. c.if-d-e.false (ap (of_z w64) (ap₂ ◌-ℤ◌ (to_z-of_z (start c.before.before).ranges.y) (to_z-of_z (start c.before.before).ranges.x) ∙ q)) in
+    simp (read_at absent_wide (x c.before.before) (x_there c.before.before), read_at absent_wide (y c.before.before) (y_there c.before.before), c.in-One.is, eq_z_other q)
 
 returns-in-Clash : tie.Need-returns-in-Clash
 returns-in-Clash c =
-    let e = c in
-    simp (read_at absent_wide (x e.before) (x_there e.before), read_at absent_wide (y e.before) (y_there e.before), c.in-Clash.is)
+    simp (read_at absent_wide (x c.before) (x_there c.before), read_at absent_wide (y c.before) (y_there c.before), c.in-Clash.is)
 
 pub seen_next_spec : {M : Type 1} → statement M
 seen_next_spec =

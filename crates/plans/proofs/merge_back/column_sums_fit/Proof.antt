@@ -66,25 +66,22 @@ bounds-table-at c = omega (arith, row c, (start c).requires.0.room, (start c).re
 -- a turn's sum, with the number as the loop carries it
 said : (c : tie.After-sum_fits invariant-loop decreases-loop) → let i = c in right (n i.before.before) (t i.before.before) (v i.before.before) (to_z w32 (of_z w32 (start i.before.before).args.d)) (u i.before.before) ≡ c.sum_fits.result
 said c =
-    let i = c in
-    let s = start i.before.before in
+    let s = start c.before.before in
     sym (c.sum_fits.ensures
-    ∙ ap₂ (λ (x y : Delay). fits delay_limit (x ⊕ y)) (ap (read_cell absent_cell) (back w32 _ c.sum_fits-arg-1.given) ∙ sym (graph_of_at (n i.before.before) (t i.before.before) (u i.before.before) (v i.before.before) i.loop-u-test.true s.requires.1.0))
+    ∙ ap₂ (λ (x y : Delay). fits delay_limit (x ⊕ y)) (ap (read_cell absent_cell) (back w32 _ c.sum_fits-arg-1.given) ∙ sym (graph_of_at (n c.before.before) (t c.before.before) (u c.before.before) (v c.before.before) c.loop-u-test.true s.requires.1.0))
     (ap (read_cell absent_cell) (to_z-of_z s.ranges.d) ∙ delay_cell s.args.d s.requires.1.1 ∙ ap at (sym (to_z-of_z s.ranges.d))))
 
 returns-then-not-sum_fits : tie.Need-returns-then-not-sum_fits invariant-loop decreases-loop
 returns-then-not-sum_fits c =
-    let i = c in
-    sym (every_broken (n i.before.before.before) (right (n i.before.before.before) (t i.before.before.before) (v i.before.before.before) (start i.before.before.before).args.d) (u i.before.before.before) i.loop-u-test.true (rw (to_z-of_z {w = w32} (start i.before.before.before).ranges.d) at (said c.before) ∙ not-true _ c.if-not-sum_fits.true-raw))
+    sym (every_broken (n c.before.before.before) (right (n c.before.before.before) (t c.before.before.before) (v c.before.before.before) (start c.before.before.before).args.d) (u c.before.before.before) c.loop-u-test.true (rw (to_z-of_z {w = w32} (start c.before.before.before).ranges.d) at (said c.before) ∙ not-true _ c.if-not-sum_fits.true-raw))
 
 loop-u-preserved : tie.Need-loop-u-preserved invariant-loop decreases-loop
-loop-u-preserved c = let i = c in (omega (arith, i.loop-u-test.true), every_more _ _ i.loop-u.invariant.1 (said c.before ∙ not-false _ c.if-not-sum_fits.false-raw))
+loop-u-preserved c = (omega (arith, c.loop-u-test.true), every_more _ _ c.loop-u.invariant.1 (said c.before ∙ not-false _ c.if-not-sum_fits.false-raw))
 
 returns : tie.Need-returns invariant-loop decreases-loop
 returns c =
-    let s = c in
-    let e : c.loop-u.u ≡ s.args.board.vertices = omega arith in
-    sym (rw (e, to_z-of_z {w = w32} s.ranges.d) at c.loop-u.invariant.1)
+    let e : c.loop-u.u ≡ c.args.board.vertices = omega arith in
+    sym (rw (e, to_z-of_z {w = w32} c.ranges.d) at c.loop-u.invariant.1)
 
 pub column_sums_fit_spec : {M : Type 1} → statement M
 column_sums_fit_spec =

@@ -94,8 +94,7 @@ inner_said c = let i = s c.before in sym (c.is_inner.ensures ∙ ap (is_inner (m
 returns-then-not-is_inner : tie.Need-returns-then-not-is_inner
 unfolding merge_back_verdict
 returns-then-not-is_inner c =
-    let f = c in
-    simp (output (role f.before.before), inner_said c.before ∙ not-true _ c.if-not-is_inner.true-raw, and_none (eqb (fan_in (n (s f.before.before)) (g (s f.before.before)) (o (s f.before.before))) 1))
+    simp (output (role c.before.before), inner_said c.before ∙ not-true _ c.if-not-is_inner.true-raw, and_none (eqb (fan_in (n (s c.before.before)) (g (s c.before.before)) (o (s c.before.before))) 1))
 
 -- the driver is inner
 module _ (c : tie.Else-not-is_inner) where
@@ -126,30 +125,28 @@ next_into-requires c κs = ((s (first c)).requires.0, (inside (role (first c)), 
 -- what the second search says
 single : (c : tie.After-next_into) → let i = s (first c.before) in eqb c.next_into.result (n i) ≡ eqb (fan_in (n i) (g i) (o i)) 1
 single c =
-    let e = c in
-    one_says (n (s (first e.before))) (g (s (first e.before))) (o (s (first e.before))) (v (first e.before)) (first e.before).next_into-v.ensures (v_below e.before) c.next_into.result c.next_into.ensures
+    one_says (n (s (first c.before))) (g (s (first c.before))) (o (s (first c.before))) (v (first c.before)) (first c.before).next_into-v.ensures (v_below c.before) c.next_into.result c.next_into.ensures
 
 returns-then-next_into-n : tie.Need-returns-then-next_into-n
 unfolding merge_back_verdict
 returns-then-next_into-n c =
-    let e = c in
-    simp (output (role (first e.before.before)), sym (single c.before) ∙ ne_eqb _ (n (s (first e.before.before))) c.if-next_into-n.true)
+    simp (output (role (first c.before.before)), sym (single c.before) ∙ ne_eqb _ (n (s (first c.before.before))) c.if-next_into-n.true)
 
 -- one arc leads to o
 one : (c : tie.Else-next_into-n) → let i = s (first c.before.before) in eqb (fan_in (n i) (g i) (o i)) 1 ≡ true
 one c = sym (single c.before) ∙ eq-eqb _ (n (s (first c.before.before))) c.if-next_into-n.false
 
 overflow_mul-at : tie.Need-overflow_mul-at
-overflow_mul-at c = let e = c in omega (arith, row e.before.before, (s (first e.before.before)).requires.0.room)
+overflow_mul-at c = omega (arith, row c.before.before, (s (first c.before.before)).requires.0.room)
 
 overflow_add-at : tie.Need-overflow_add-at
-overflow_add-at c = let e = c in omega (arith, row e.before.before, (s (first e.before.before)).requires.0.room, inside (role (first e.before.before)))
+overflow_add-at c = omega (arith, row c.before.before, (s (first c.before.before)).requires.0.room, inside (role (first c.before.before)))
 
 offset_bounds-table-at : tie.Need-offset_bounds-table-at
-offset_bounds-table-at c = let e = c in omega (arith, row e.before.before, (s (first e.before.before)).requires.0.room, inside (role (first e.before.before)))
+offset_bounds-table-at c = omega (arith, row c.before.before, (s (first c.before.before)).requires.0.room, inside (role (first c.before.before)))
 
 bounds-table-at : tie.Need-bounds-table-at
-bounds-table-at c = let e = c in omega (arith, row e.before.before, (s (first e.before.before)).requires.0.room, inside (role (first e.before.before)))
+bounds-table-at c = omega (arith, row c.before.before, (s (first c.before.before)).requires.0.room, inside (role (first c.before.before)))
 
 -- the delay has been read
 module _ (c : tie.After-d-1) where
@@ -176,21 +173,18 @@ merge_fits-requires c κs = ((i c).requires.0, ((i c).requires.1, same_drives (v
 
 said : (c : tie.After-merge_fits) → let q = i c.before in merge_fits (n q) (g q) (driver (n q) (g q) (o q)) (o q) (driver_delay (n q) (g q) (o q)) ≡ c.merge_fits.result
 said c =
-    let a = c in
-    sym (c.merge_fits.ensures ∙ ap₂ (λ (x : ℕ) (y : ℤ). merge_fits (n (i a.before)) (g (i a.before)) x (o (i a.before)) y) (v_is (first (e a.before))) (d_is a.before))
+    sym (c.merge_fits.ensures ∙ ap₂ (λ (x : ℕ) (y : ℤ). merge_fits (n (i c.before)) (g (i c.before)) x (o (i c.before)) y) (v_is (first (e c.before))) (d_is c.before))
 
 returns-then-not-merge_fits : tie.Need-returns-then-not-merge_fits
 unfolding merge_back_verdict
 returns-then-not-merge_fits c =
-    let a = c in
-    simp (output (role (first (e a.before.before))), one a.before.before.before, inner (e a.before.before), said c.before ∙ not-true _ c.if-not-merge_fits.true-raw)
+    simp (output (role (first (e c.before.before))), one c.before.before.before, inner (e c.before.before), said c.before ∙ not-true _ c.if-not-merge_fits.true-raw)
 
 returns : tie.Need-returns
 unfolding merge_back_verdict
 returns c =
-    let a = c in
-    simp (output (role (first (e a.before.before))), one a.before.before.before, inner (e a.before.before), said c.before ∙ not-false _ c.if-not-merge_fits.false-raw)
-    (ap₂ (λ (x : ℕ) (y : ℤ). accepted (x, y)) (v_is (first (e a.before.before))) (d_is a.before.before))
+    simp (output (role (first (e c.before.before))), one c.before.before.before, inner (e c.before.before), said c.before ∙ not-false _ c.if-not-merge_fits.false-raw)
+    (ap₂ (λ (x : ℕ) (y : ℤ). accepted (x, y)) (v_is (first (e c.before.before))) (d_is c.before.before))
 
 pub merge_back_verdict_spec : {M : Type 1} → statement M
 merge_back_verdict_spec =

@@ -41,7 +41,7 @@ module _ (c : tie.Start) where
 column_sums_fit-requires : tie.Need-column_sums_fit-requires
 column_sums_fit-requires c κs = (c.requires.0, (c.requires.1.1.from_below, rw (to_z-of_z {w = w32} c.ranges.d) c.requires.1.1.legal))
 
-sums : (c : tie.After-column_sums_fit) → let s = c in every (n s.before) (λ u. fits delay_limit (g s.before u (v s.before) ⊕ at (d s.before))) ≡ c.column_sums_fit.result
+sums : (c : tie.After-column_sums_fit) → every (n c.before) (λ u. fits delay_limit (g c.before u (v c.before) ⊕ at (d c.before))) ≡ c.column_sums_fit.result
 sums c = sym (rw (to_z-of_z {w = w32} c.ranges.d) at c.column_sums_fit.ensures)
 
 returns-then-not-column_sums_fit : tie.Need-returns-then-not-column_sums_fit
@@ -49,41 +49,37 @@ unfolding merge_fits
 returns-then-not-column_sums_fit c = simp (sums c.before ∙ not-true _ c.if-not-column_sums_fit.true-raw)
 
 overflow_mul-from : tie.Need-overflow_mul-from
-overflow_mul-from c = let s = c in omega (arith, row s.before.before, s.requires.0.room)
+overflow_mul-from c = omega (arith, row c.before.before, c.requires.0.room)
 
 negated-requires : tie.Need-negated-requires
-negated-requires c κs = let s = c in rw (to_z-of_z {w = w32} s.ranges.d) s.requires.1.1.legal
+negated-requires c κs = rw (to_z-of_z {w = w32} c.ranges.d) c.requires.1.1.legal
 
 offset_bounds-table-from : tie.Need-offset_bounds-table-from
-offset_bounds-table-from c = let s = c in omega (arith, row s.before.before.before, s.requires.0.room)
+offset_bounds-table-from c = omega (arith, row c.before.before.before, c.requires.0.room)
 
 slice_bounds-row_sums_fit-count : tie.Need-slice_bounds-row_sums_fit-count
-slice_bounds-row_sums_fit-count c = let s = c in omega (arith, row s.before.before.before, s.requires.0.room)
+slice_bounds-row_sums_fit-count c = omega (arith, row c.before.before.before, c.requires.0.room)
 
 slice_bounds-row_sums_fit-start : tie.Need-slice_bounds-row_sums_fit-start
-slice_bounds-row_sums_fit-start c = let s = c in omega (arith, row s.before.before.before, s.requires.0.room)
+slice_bounds-row_sums_fit-start c = omega (arith, row c.before.before.before, c.requires.0.room)
 
 -- what the call gives
 lowered : (c : tie.After-negated) → to_z w32 (of_z w32 c.negated.result) ≡ neg_ℤ (d c.before.before.before)
-lowered c = let s = c in negated_is s.ranges.d s.requires.1.1.legal c.negated.ensures
+lowered c = negated_is c.ranges.d c.requires.1.1.legal c.negated.ensures
 
 row_sums_fit-requires : tie.Need-row_sums_fit-requires
 row_sums_fit-requires c κs =
-    let a = c in
-    let s = a in
-    (lent_long (n s.before.before.before.before) s.args.table.now (v s.before.before.before.before) s.requires.0.room s.requires.1.1.from_below, (rw (lowered a.before) (negated_fits (d s.before.before.before.before) s.requires.1.1.legal), lent_fits_lem (n s.before.before.before.before) s.args.table.now (v s.before.before.before.before) s.requires.0.room s.requires.1.1.from_below s.requires.1.0))
+    (lent_long (n c.before.before.before.before) c.args.table.now (v c.before.before.before.before) c.requires.0.room c.requires.1.1.from_below, (rw (lowered c.before) (negated_fits (d c.before.before.before.before) c.requires.1.1.legal), lent_fits_lem (n c.before.before.before.before) c.args.table.now (v c.before.before.before.before) c.requires.0.room c.requires.1.1.from_below c.requires.1.0))
 
 differences : (c : tie.After-row_sums_fit) → let s = c in every (n s.before.before.before.before.before) (λ t. eqb t s.args.o || fits delay_limit (g s.before.before.before.before.before (v s.before.before.before.before.before) t ⊕ at (neg_ℤ (d s.before.before.before.before.before)))) ≡ c.row_sums_fit.result
 differences c =
-    let a = c in
-    let s = a in
     sym (c.row_sums_fit.ensures
-    ∙ every_same (n s.before.before.before.before.before) _ _ (λ t l. ap₂ (λ (x : ℤ) (y : Delay). fits delay_limit (at x ⊕ y)) (lowered a.before.before) (lent_cell (n s.before.before.before.before.before) s.args.table.now (v s.before.before.before.before.before) s.requires.0.room s.requires.1.1.from_below t l))
-    ∙ lowered_same (n s.before.before.before.before.before) (g s.before.before.before.before.before) (v s.before.before.before.before.before) s.args.o (d s.before.before.before.before.before) s.requires.1.1.arc)
+    ∙ every_same (n c.before.before.before.before.before) _ _ (λ t l. ap₂ (λ (x : ℤ) (y : Delay). fits delay_limit (at x ⊕ y)) (lowered c.before.before) (lent_cell (n c.before.before.before.before.before) c.args.table.now (v c.before.before.before.before.before) c.requires.0.room c.requires.1.1.from_below t l))
+    ∙ lowered_same (n c.before.before.before.before.before) (g c.before.before.before.before.before) (v c.before.before.before.before.before) c.args.o (d c.before.before.before.before.before) c.requires.1.1.arc)
 
 returns : tie.Need-returns
 unfolding merge_fits
-returns c = let e = c in simp (sums e.before.before.before.before ∙ not-false _ e.if-not-column_sums_fit.false-raw, differences c)
+returns c = simp (sums c.before.before.before.before ∙ not-false _ c.if-not-column_sums_fit.false-raw, differences c)
 
 pub merge_fits_spec : {M : Type 1} → statement M
 merge_fits_spec =

@@ -25,9 +25,8 @@ use Rattle.plans.proofs.merge_back.merge_row.Tie as tie
 
 returns-then-u-v : tie.Need-returns-then-u-v
 returns-then-u-v c =
-    let t = c in
-    let a = t.args in
-    c.clear.ensures ∙ driver_row a.row.now a.via.now a.v a.o a.d a.u t.if-u-v.true
+    let a = c.args in
+    c.clear.ensures ∙ driver_row a.row.now a.via.now a.v a.o a.d a.u c.if-u-v.true
 
 offset_bounds-row-v : tie.Need-offset_bounds-row-v
 offset_bounds-row-v c = omega (arith, c.requires.redirectable.from_inside)
@@ -62,13 +61,13 @@ module _ (c : tie.After-into-1) where
   into_is = back w32 _ c.into-1.given
 
 negated-requires : tie.Need-negated-requires
-negated-requires c κs = let i = c in rw (to_z-of_z {w = w32} (start i.before.before).ranges.d) (start i.before.before).requires.redirectable.legal
+negated-requires c κs = rw (to_z-of_z {w = w32} (start c.before.before).ranges.d) (start c.before.before).requires.redirectable.legal
 
 lowered : (c : tie.After-negated) → read_cell absent_cell (to_z w32 (of_z w32 c.negated.result)) ≡ at (neg_ℤ (d c.before.before.before))
-lowered c = let i = c in negated_cell (start i.before.before.before).ranges.d (start i.before.before.before).requires.redirectable.legal c.negated.ensures
+lowered c = negated_cell (start c.before.before.before).ranges.d (start c.before.before.before).requires.redirectable.legal c.negated.ensures
 
 join_row-requires : tie.Need-join_row-requires
-join_row-requires c κs = let i = c in ((start i.before.before.before).requires.few, rw (lowered c) (start i.before.before.before).requires.lowered_fit)
+join_row-requires c κs = ((start c.before.before.before).requires.few, rw (lowered c) (start c.before.before.before).requires.lowered_fit)
 
 -- what `redirect` makes of the row that it is given
 module _ (c : tie.Joined-u-o) where
@@ -86,13 +85,12 @@ module _ (c : tie.Joined-u-o) where
 
 redirect-requires : tie.Need-redirect-requires
 redirect-requires c κs =
-    let j = c in
-    let p = (start (i j.before)).requires.redirectable in
+    let p = (start (i c.before)).requires.redirectable in
     record {
-      from_inside = omega (arith, (ready j.before).0, p.from_inside);
-      to_inside = omega (arith, (ready j.before).0, p.to_inside);
-      legal = rw (to_z-of_z {w = w32} (start (i j.before)).ranges.d) p.legal;
-      sum_fits = rw (to_z-of_z {w = w32} (start (i j.before)).ranges.d, into_is (i j.before)) p.sum_fits;
+      from_inside = omega (arith, (ready c.before).0, p.from_inside);
+      to_inside = omega (arith, (ready c.before).0, p.to_inside);
+      legal = rw (to_z-of_z {w = w32} (start (i c.before)).ranges.d) p.legal;
+      sum_fits = rw (to_z-of_z {w = w32} (start (i c.before)).ranges.d, into_is (i c.before)) p.sum_fits;
     }
 
 shape_of-row : tie.Need-shape_of-row
@@ -100,8 +98,7 @@ shape_of-row c = search (rules, (ready c.before.before.before).0)
 
 returns : tie.Need-returns
 returns c =
-    let j = c in
-    rw (to_z-of_z {w = w32} (start (i j.before.before.before)).ranges.d, into_is (i j.before.before.before)) at c.redirect.ensures ∙ (ready j.before.before.before).1
+    rw (to_z-of_z {w = w32} (start (i c.before.before.before)).ranges.d, into_is (i c.before.before.before)) at c.redirect.ensures ∙ (ready c.before.before.before).1
 
 pub merge_row_spec : {M : Type 1} → statement M
 merge_row_spec =

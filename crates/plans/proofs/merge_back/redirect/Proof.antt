@@ -24,11 +24,10 @@ bounds-row-o c = c.requires.to_inside
 
 returns : tie.Need-returns
 returns c =
-    let s = c in
-    redirected_after s.args.row.now (read_cell absent_cell s.args.into) s.args.v s.args.o s.args.d _ s.requires.from_inside s.requires.to_inside
+    redirected_after c.args.row.now (read_cell absent_cell c.args.into) c.args.v c.args.o c.args.d _ c.requires.from_inside c.requires.to_inside
     (ap (read_cell absent_cell) (back w32 _ c.sum.type_inv) ∙ c.sum.ensures
-    ∙ ap₂ (λ (x y : ℤ). read_cell absent_cell x ⊕ read_cell absent_cell y) (to_z-of_z s.ranges.into) (to_z-of_z s.ranges.d)
-    ∙ ap (λ x. read_cell absent_cell s.args.into ⊕ x) (delay_cell s.args.d s.requires.legal))
+    ∙ ap₂ (λ (x y : ℤ). read_cell absent_cell x ⊕ read_cell absent_cell y) (to_z-of_z c.ranges.into) (to_z-of_z c.ranges.d)
+    ∙ ap (λ x. read_cell absent_cell c.args.into ⊕ x) (delay_cell c.args.d c.requires.legal))
 
 pub redirect_spec : {M : Type 1} → statement M
 redirect_spec =

@@ -43,21 +43,20 @@ module _ (c : tie.In-Shrink) where
       (record { past = s.past; upto = omega (arith, s.upto); untouched = λ u a b. (ne u a b, absent_bit (g u k) (s.none u a b)) })
 
 next_before-requires : tie.Need-next_before-requires
-next_before-requires c κs = let h = c in ((start h.before).requires.0, (inside h.before, (c.if-from-k.true, omega (arith, inside h.before))))
+next_before-requires c κs = ((start c.before).requires.0, (inside c.before, (c.if-from-k.true, omega (arith, inside c.before))))
 
 returns-then-from-k : tie.Need-returns-then-from-k
 returns-then-from-k c =
-    let h = c in
-    found h.before.before (k h.before.before) _ (omega (arith, inside h.before.before)) c.next_before.ensures (λ u a b e. omega (arith, c.next_before.ensures.upto))
+    found c.before.before (k c.before.before) _ (omega (arith, inside c.before.before)) c.next_before.ensures (λ u a b e. omega (arith, c.next_before.ensures.upto))
 
 next_before-requires-in-Shrink : tie.Need-next_before-requires-in-Shrink
-next_before-requires-in-Shrink c κs = let h = c in ((start h.before).requires.0, (inside h.before, ((start h.before).requires.1.1, omega arith)))
+next_before-requires-in-Shrink c κs = ((start c.before).requires.0, (inside c.before, ((start c.before).requires.1.1, omega arith)))
 
 returns-in-Shrink : tie.Need-returns-in-Shrink
-returns-in-Shrink c = let h = c in found h.before.before (n h.before.before) _ (omega arith) c.next_before-in-Shrink.ensures (λ u a b e. omega (arith, c.if-from-k.false))
+returns-in-Shrink c = found c.before.before (n c.before.before) _ (omega arith) c.next_before-in-Shrink.ensures (λ u a b e. omega (arith, c.if-from-k.false))
 
 returns : tie.Need-returns
-returns c = let s = c in record { past = omega arith; upto = s.requires.1.1; untouched = λ u a b. absurd (omega arith) }
+returns c = record { past = omega arith; upto = c.requires.1.1; untouched = λ u a b. absurd (omega arith) }
 
 pub next_changed_spec : {M : Type 1} → statement M
 next_changed_spec =

@@ -58,16 +58,15 @@ overflow_mul-from : tie.Need-overflow_mul-from invariant-loop decreases-loop
 overflow_mul-from c = omega (arith, row_k c, room c)
 
 row_copy-via-requires : tie.Need-row_copy-via-requires invariant-loop decreases-loop
-row_copy-via-requires c κs = let o = c in ((start o).requires.0.sized.few, omega (arith, row_k o, room o))
+row_copy-via-requires c κs = ((start c).requires.0.sized.few, omega (arith, row_k c, room c))
 
 next_changed-u-requires : tie.Need-next_changed-u-requires invariant-loop decreases-loop
-next_changed-u-requires c κs = let o = c in ((start o.before).requires.0, (origin-below (how o.before) (n o.before) (t o.before) (start o.before).requires.1, omega arith))
+next_changed-u-requires c κs = ((start c.before).requires.0, (origin-below (how c.before) (n c.before) (t c.before) (start c.before).requires.1, omega arith))
 
 loop-u-init : tie.Need-loop-u-init invariant-loop decreases-loop
 loop-u-init c =
-    let o = c in
     let s = c.next_changed-u.ensures in
-    (s.upto, refl, passed (n o.before.before) (t o.before.before) (t o.before.before) (how o.before.before) 0 (rows_none (n o.before.before) (new o.before.before) (t o.before.before)) (room o.before.before) _ s)
+    (s.upto, refl, passed (n c.before.before) (t c.before.before) (t c.before.before) (how c.before.before) 0 (rows_none (n c.before.before) (new c.before.before) (t c.before.before)) (room c.before.before) _ s)
 
 -- a turn
 module _ (c : tie.In-loop-u invariant-loop decreases-loop) where
@@ -120,9 +119,8 @@ slice_bounds-rewrite_row-end c = omega (arith, row c, room (o c))
 
 rewrite_row-requires : tie.Need-rewrite_row-requires invariant-loop decreases-loop
 rewrite_row-requires c κs =
-    let i = c in
-    let b = o i.before.before in
-    row_fit (n b) (t b) (via i.before.before) (u i.before.before) i.loop-u-test.true (lent i.before.before) (lent_is i.before.before) (how b) (copied i.before.before) (start b).requires.1
+    let b = o c.before.before in
+    row_fit (n b) (t b) (via c.before.before) (u c.before.before) c.loop-u-test.true (lent c.before.before) (lent_is c.before.before) (how b) (copied c.before.before) (start b).requires.1
 
 -- the row is back
 module _ (c : tie.After-table-1 invariant-loop decreases-loop) where
@@ -141,23 +139,21 @@ module _ (c : tie.After-table-1 invariant-loop decreases-loop) where
   back_long = c.table-1.given.1 ∙ i.loop-u.invariant.1
 
 overflow_add-u : tie.Need-overflow_add-u invariant-loop decreases-loop
-overflow_add-u c = let a = c in omega (arith, (i a).loop-u-test.true, (start (o (i a))).requires.0.sized.few)
+overflow_add-u c = omega (arith, (i c).loop-u-test.true, (start (o (i c))).requires.0.sized.few)
 
 next_changed-u-requires-in-loop-u : tie.Need-next_changed-u-requires-in-loop-u invariant-loop decreases-loop
 next_changed-u-requires-in-loop-u c κs =
-    let a = c in
-    let b = o (i a) in
-    (record { sized = (start b).requires.0.sized; room = omega (arith, back_long a, room b) }, (origin-below (how b) (n b) (t b) (start b).requires.1, omega (arith, (i a).loop-u-test.true)))
+    let b = o (i c) in
+    (record { sized = (start b).requires.0.sized; room = omega (arith, back_long c, room b) }, (origin-below (how b) (n b) (t b) (start b).requires.1, omega (arith, (i c).loop-u-test.true)))
 
 loop-u-smaller : tie.Need-loop-u-smaller invariant-loop decreases-loop
 loop-u-smaller c = omega (arith, (i c.before).loop-u-test.true, c.next_changed-u-in-loop-u.ensures.past)
 
 loop-u-preserved : tie.Need-loop-u-preserved invariant-loop decreases-loop
 loop-u-preserved c =
-    let a = c in
-    let b = o (i a.before) in
+    let b = o (i c.before) in
     let s = c.next_changed-u-in-loop-u.ensures in
-    (s.upto, back_long a.before, passed (n b) (t b) (back a.before) (how b) (u (i a.before) + 1) (back_is a.before) (room b) _ s)
+    (s.upto, back_long c.before, passed (n b) (t b) (back c.before) (how b) (u (i c.before) + 1) (back_is c.before) (room b) _ s)
 
 shape_of-table : tie.Need-shape_of-table invariant-loop decreases-loop
 shape_of-table c = c.loop-u.invariant.1

@@ -31,36 +31,32 @@ carried : (f : ℤ → Rewriting) (d : ℤ) {h : Rewriting} → h ≡ f d → to
 carried f d e q = e ∙ sym (ap f q)
 
 shrink_row-requires : tie.Need-shrink_row-requires
-shrink_row-requires c κs = let k = c in asked k.before.before _ k.in-Shrink.is
+shrink_row-requires c κs = asked c.before.before _ c.in-Shrink.is
 
 share_inputs_row-requires : tie.Need-share_inputs_row-requires
-share_inputs_row-requires c κs = let k = c in asked k.before.before _ k.in-ShareInputs.is
+share_inputs_row-requires c κs = asked c.before.before _ c.in-ShareInputs.is
 
 share_outputs_row-requires : tie.Need-share_outputs_row-requires
-share_outputs_row-requires c κs = let k = c in asked k.before.before _ k.in-ShareOutputs.is
+share_outputs_row-requires c κs = asked c.before.before _ c.in-ShareOutputs.is
 
 merge_row-requires : tie.Need-merge_row-requires
 merge_row-requires c κs =
-    let k = c in
-    asked k.before.before _ (carried (MergeBack k.in-MergeBack.v k.in-MergeBack.o) k.in-MergeBack.d k.in-MergeBack.is (search rules))
+    asked c.before.before _ (carried (MergeBack c.in-MergeBack.v c.in-MergeBack.o) c.in-MergeBack.d c.in-MergeBack.is (search rules))
 
 returns-in-Shrink : tie.Need-returns-in-Shrink
-returns-in-Shrink c = let k = c in left k.before.before.before.before _ k.in-Shrink.is _ c.shrink_row.ensures
+returns-in-Shrink c = left c.before.before.before.before _ c.in-Shrink.is _ c.shrink_row.ensures
 
 returns-in-ShareInputs : tie.Need-returns-in-ShareInputs
 returns-in-ShareInputs c =
-    let k = c in
-    left k.before.before.before.before _ (carried (ShareInputs k.in-ShareInputs.a k.in-ShareInputs.b k.in-ShareInputs.k) k.in-ShareInputs.e k.in-ShareInputs.is (search rules)) _ c.share_inputs_row.ensures
+    left c.before.before.before.before _ (carried (ShareInputs c.in-ShareInputs.a c.in-ShareInputs.b c.in-ShareInputs.k) c.in-ShareInputs.e c.in-ShareInputs.is (search rules)) _ c.share_inputs_row.ensures
 
 returns-in-ShareOutputs : tie.Need-returns-in-ShareOutputs
 returns-in-ShareOutputs c =
-    let k = c in
-    left k.before.before.before.before _ (carried (ShareOutputs k.in-ShareOutputs.a k.in-ShareOutputs.b) k.in-ShareOutputs.e k.in-ShareOutputs.is (search rules)) _ c.share_outputs_row.ensures
+    left c.before.before.before.before _ (carried (ShareOutputs c.in-ShareOutputs.a c.in-ShareOutputs.b) c.in-ShareOutputs.e c.in-ShareOutputs.is (search rules)) _ c.share_outputs_row.ensures
 
 returns-in-MergeBack : tie.Need-returns-in-MergeBack
 returns-in-MergeBack c =
-    let k = c in
-    left k.before.before.before.before _ (carried (MergeBack k.in-MergeBack.v k.in-MergeBack.o) k.in-MergeBack.d k.in-MergeBack.is (search rules)) _ c.merge_row.ensures
+    left c.before.before.before.before _ (carried (MergeBack c.in-MergeBack.v c.in-MergeBack.o) c.in-MergeBack.d c.in-MergeBack.is (search rules)) _ c.merge_row.ensures
 
 pub rewrite_row_spec : {M : Type 1} → statement M
 rewrite_row_spec =

@@ -26,20 +26,18 @@ module _ (c : tie.Else-not-is_inner) where
 
 returns-then-fan_out-ne0 : tie.Need-returns-then-fan_out-ne0
 returns-then-fan_out-ne0 c =
-    let f = c in
-    let s = start f.before.before in
+    let s = start c.before.before in
     let n = s.args.board.vertices in
-    simp (inner f.before.before, used n (graph_of n s.args.table.now) s.args.k (λ e. c.if-fan_out-ne0.true (f.fan_out.ensures ∙ e)))
+    simp (inner c.before.before, used n (graph_of n s.args.table.now) s.args.k (λ e. c.if-fan_out-ne0.true (c.fan_out.ensures ∙ e)))
 
 none_into-requires : tie.Need-none_into-requires
 none_into-requires c κs = c.requires
 
 returns : tie.Need-returns
 returns c =
-    let f = c in
-    let s = start f.before.before.before in
+    let s = start c.before.before.before in
     let n = s.args.board.vertices in
-    simp (inner f.before.before.before, used_in n (graph_of n s.args.table.now) s.args.k (sym f.fan_out.ensures ∙ c.if-fan_out-ne0.false), c.none_into.ensures)
+    simp (inner c.before.before.before, used_in n (graph_of n s.args.table.now) s.args.k (sym c.fan_out.ensures ∙ c.if-fan_out-ne0.false), c.none_into.ensures)
 
 pub is_free_spec : {M : Type 1} → statement M
 is_free_spec =

@@ -21,8 +21,7 @@ loop-v-init c = (omega arith, refl, stored-start _ _ _)
 
 loop-v-preserved : tie.Need-loop-v-preserved invariant-loop decreases-loop
 loop-v-preserved c =
-    let l = c in
-    let more = stored_turn l.loop-v.invariant.2 (omega arith) _ (back w32 _ c.copy-1.given) in
+    let more = stored_turn c.loop-v.invariant.2 (omega arith) _ (back w32 _ c.copy-1.given) in
     (omega arith, more.size, more)
 
 returns : tie.Need-returns invariant-loop decreases-loop

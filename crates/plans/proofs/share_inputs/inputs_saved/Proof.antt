@@ -18,7 +18,7 @@ returns-then-not-enough_out : tie.Need-returns-then-not-enough_out
 returns-then-not-enough_out c = simp (sym c.enough_out.ensures ∙ not-true _ c.if-not-enough_out.true-raw)
 
 -- b has three arcs out
-enough : (c : tie.Else-not-enough_out) → let s = c in let n = s.args.board.vertices in enough_out n (graph_of n s.args.table.now) s.args.b ≡ true
+enough : (c : tie.Else-not-enough_out) → let n = c.args.board.vertices in enough_out n (graph_of n c.args.table.now) c.args.b ≡ true
 enough c = sym c.enough_out.ensures ∙ not-false _ c.if-not-enough_out.false-raw
 
 -- the difference, as the code has it
@@ -30,8 +30,7 @@ returns-then-not-in_range c = simp (enough c.before.before, said c.before ∙ no
 
 returns : tie.Need-returns
 returns c =
-    let s = c in
-    simp (enough c.before.before, said c.before ∙ not-false _ c.if-not-in_range.false-raw, to_z-of_z {w = w64} s.ranges.e)
+    simp (enough c.before.before, said c.before ∙ not-false _ c.if-not-in_range.false-raw, to_z-of_z {w = w64} c.ranges.e)
 
 pub inputs_saved_spec : {M : Type 1} → statement M
 inputs_saved_spec =

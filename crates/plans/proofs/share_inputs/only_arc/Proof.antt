@@ -14,12 +14,10 @@ use Rattle.plans.proofs.share_inputs.only_arc.Tie as tie
 
 returns : tie.Need-returns
 returns c =
-    let w = c in
-    let s = w in
-    let n = length s.args.row.now in
-    set_cell w.clear.new.row n s.args.k _ (λ _. absent_cell) (ap length w.clear.ensures ∙ length-tabulate (λ _. absent_cell) n) s.requires
-    (λ t l. ap (λ (r : List ℤ). get_or r t (pos 0)) w.clear.ensures ∙ get_d_tabulate (λ _. absent_cell) n t (pos 0) l)
-    ∙ ap (λ (d : ℤ). tabulate n (only_arc s.args.k d)) (to_z-of_z s.ranges.d)
+    let n = length c.args.row.now in
+    set_cell c.clear.new.row n c.args.k _ (λ _. absent_cell) (ap length c.clear.ensures ∙ length-tabulate (λ _. absent_cell) n) c.requires
+    (λ t l. ap (λ (r : List ℤ). get_or r t (pos 0)) c.clear.ensures ∙ get_d_tabulate (λ _. absent_cell) n t (pos 0) l)
+    ∙ ap (λ (d : ℤ). tabulate n (only_arc c.args.k d)) (to_z-of_z c.ranges.d)
 
 pub only_arc_spec : {M : Type 1} → statement M
 only_arc_spec = tie.close (tie.spec

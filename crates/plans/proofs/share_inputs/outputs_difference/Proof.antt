@@ -26,22 +26,22 @@ slice_bounds-common_difference-end : tie.Need-slice_bounds-common_difference-end
 slice_bounds-common_difference-end c = omega (arith, c.requires.room, c.requires.sized.roles)
 
 offset_bounds-delays-from : tie.Need-offset_bounds-delays-from
-offset_bounds-delays-from c = let s = c in omega (arith, s.requires.room, s.requires.sized.roles)
+offset_bounds-delays-from c = omega (arith, c.requires.room, c.requires.sized.roles)
 
 slice_bounds-common_difference-count-2 : tie.Need-slice_bounds-common_difference-count-2
-slice_bounds-common_difference-count-2 c = let s = c in omega (arith, s.requires.room, s.requires.sized.roles)
+slice_bounds-common_difference-count-2 c = omega (arith, c.requires.room, c.requires.sized.roles)
 
 slice_bounds-common_difference-start-2 : tie.Need-slice_bounds-common_difference-start-2
-slice_bounds-common_difference-start-2 c = let s = c in omega (arith, s.requires.room, s.requires.sized.roles)
+slice_bounds-common_difference-start-2 c = omega (arith, c.requires.room, c.requires.sized.roles)
 
 slice_bounds-common_difference-end-2 : tie.Need-slice_bounds-common_difference-end-2
-slice_bounds-common_difference-end-2 c = let s = c in omega (arith, s.requires.room, s.requires.sized.roles)
+slice_bounds-common_difference-end-2 c = omega (arith, c.requires.room, c.requires.sized.roles)
 
 common_difference-requires : tie.Need-common_difference-requires
-common_difference-requires c κs = let s = c in outputs_comparable s.args.board s.args.delays.now s.requires
+common_difference-requires c κs = outputs_comparable c.args.board c.args.delays.now c.requires
 
 returns : tie.Need-returns
-returns c = let s = c in c.common_difference.ensures ∙ outputs_common s.args.board s.args.delays.now s.requires
+returns c = c.common_difference.ensures ∙ outputs_common c.args.board c.args.delays.now c.requires
 
 pub outputs_difference_spec : {M : Type 1} → statement M
 outputs_difference_spec =

@@ -23,9 +23,8 @@ slice_bounds-chains-end c = sym c.cell_bytes-chain.ensures
 
 chains-requires : tie.Need-chains-requires
 chains-requires c κs =
-    let s = c in
-    let l = s.requires.0 in
-    (l, omega (arith, c.cell_bytes-chain.ensures, board_area s.args.board l.checked.lent.sized))
+    let l = c.requires.0 in
+    (l, omega (arith, c.cell_bytes-chain.ensures, board_area c.args.board l.checked.lent.sized))
 
 -- the chains' room
 sized : (m : tie.After-chains) → length m.chains.new.chain ≡ 8100
@@ -35,7 +34,7 @@ slice_bounds-delays_from-end : tie.Need-slice_bounds-delays_from-end
 slice_bounds-delays_from-end c = sym (sized c.before.before)
 
 delays_from-requires : tie.Need-delays_from-requires
-delays_from-requires c κs = let m = c in let s = m in (s.requires.0, (m.chains.ensures, (a_in s.before.before.before.before.before.before, omega (arith, s.requires.1.0))))
+delays_from-requires c κs = (c.requires.0, (c.chains.ensures, (a_in c.before.before.before.before.before.before, omega (arith, c.requires.1.0))))
 
 -- the delays from a are there
 module _ (c : tie.After-delays_from) where
@@ -61,19 +60,18 @@ slice_bounds-delays_from-end-2 : tie.Need-slice_bounds-delays_from-end-2
 slice_bounds-delays_from-end-2 c = sym (sized (made c.before.before))
 
 offset_bounds-scratch-n : tie.Need-offset_bounds-scratch-n
-offset_bounds-scratch-n c = let d = c in omega (arith, (start d.before.before).requires.0.checked.lent.sized.few)
+offset_bounds-scratch-n c = omega (arith, (start c.before.before).requires.0.checked.lent.sized.few)
 
 slice_bounds-delays_from-count : tie.Need-slice_bounds-delays_from-count
-slice_bounds-delays_from-count c = let d = c in omega (arith, long d.before.before, (start d.before.before).requires.1.0)
+slice_bounds-delays_from-count c = omega (arith, long c.before.before, (start c.before.before).requires.1.0)
 
 slice_bounds-delays_from-start : tie.Need-slice_bounds-delays_from-start
-slice_bounds-delays_from-start c = let d = c in omega (arith, long d.before.before, (start d.before.before).requires.1.0)
+slice_bounds-delays_from-start c = omega (arith, long c.before.before, (start c.before.before).requires.1.0)
 
 delays_from-requires-2 : tie.Need-delays_from-requires-2
 delays_from-requires-2 c κs =
-    let d = c in
-    let s = start d.before.before.before in
-    (s.requires.0, ((made d.before.before.before).chains.ensures, (b_in s, rest_room s.requires.0 s.args.a s.args.b (a_in s) (b_in s) (before d.before.before.before) (first d.before.before.before) (first d.before.before.before) s.requires.1.0 d.delays_from.ensures)))
+    let s = start c.before.before.before in
+    (s.requires.0, ((made c.before.before.before).chains.ensures, (b_in s, rest_room s.requires.0 s.args.a s.args.b (a_in s) (b_in s) (before c.before.before.before) (first c.before.before.before) (first c.before.before.before) s.requires.1.0 c.delays_from.ensures)))
 
 -- and those from b
 module _ (c : tie.After-delays_from-2) where
@@ -88,16 +86,14 @@ module _ (c : tie.After-delays_from-2) where
 
 outputs_difference-requires : tie.Need-outputs_difference-requires
 outputs_difference-requires c κs =
-    let k = c in
-    both_vectors (s k.before).requires.0 (s k.before).args.a (s k.before).args.b (a_in (s k.before)) (b_in (s k.before)) (before (d k.before)) (first (d k.before)) (second k.before) (s k.before).requires.1.0 (d k.before).delays_from.ensures k.delays_from-2.ensures
+    both_vectors (s c.before).requires.0 (s c.before).args.a (s c.before).args.b (a_in (s c.before)) (b_in (s c.before)) (before (d c.before)) (first (d c.before)) (second c.before) (s c.before).requires.1.0 (d c.before).delays_from.ensures c.delays_from-2.ensures
 
 returns : tie.Need-returns
-returns c =
-    let k = c in (
-      c.outputs_difference.ensures
-          ∙ both_common (s k.before.before).requires.0 (s k.before.before).args.a (s k.before.before).args.b (a_in (s k.before.before)) (b_in (s k.before.before)) (before (d k.before.before)) (first (d k.before.before)) (second k.before.before) (s k.before.before).requires.1.0 (d k.before.before).delays_from.ensures k.delays_from-2.ensures (s k.before.before).requires.1.1.0 (s k.before.before).requires.1.1.1,
-      both_past (s k.before.before).requires.0 (s k.before.before).args.a (s k.before.before).args.b (a_in (s k.before.before)) (b_in (s k.before.before)) (before (d k.before.before)) (first (d k.before.before)) (second k.before.before) (s k.before.before).requires.1.0 (d k.before.before).delays_from.ensures k.delays_from-2.ensures,
-    )
+returns c = (
+  c.outputs_difference.ensures
+      ∙ both_common (s c.before.before).requires.0 (s c.before.before).args.a (s c.before.before).args.b (a_in (s c.before.before)) (b_in (s c.before.before)) (before (d c.before.before)) (first (d c.before.before)) (second c.before.before) (s c.before.before).requires.1.0 (d c.before.before).delays_from.ensures c.delays_from-2.ensures (s c.before.before).requires.1.1.0 (s c.before.before).requires.1.1.1,
+  both_past (s c.before.before).requires.0 (s c.before.before).args.a (s c.before.before).args.b (a_in (s c.before.before)) (b_in (s c.before.before)) (before (d c.before.before)) (first (d c.before.before)) (second c.before.before) (s c.before.before).requires.1.0 (d c.before.before).delays_from.ensures c.delays_from-2.ensures,
+)
 
 pub rows_difference_spec : {M : Type 1} → statement M
 rows_difference_spec =

@@ -14,29 +14,25 @@ only_arc-requires c κs = c.requires.1
 
 returns-then-u-a : tie.Need-returns-then-u-a
 returns-then-u-a c =
-    let i = c in
-    let x = i.args in
-    c.only_arc.ensures ∙ row_a x.row.now x.via.now x.a x.b x.k x.e x.u i.if-u-a.true
+    let x = c.args in
+    c.only_arc.ensures ∙ row_a x.row.now x.via.now x.a x.b x.k x.e x.u c.if-u-a.true
 
 only_arc-requires-then-u-b : tie.Need-only_arc-requires-then-u-b
 only_arc-requires-then-u-b c κs = c.requires.1
 
 returns-then-u-b : tie.Need-returns-then-u-b
 returns-then-u-b c =
-    let i = c in
-    let s = i in
-    let x = s.args in
-    c.only_arc-then-u-b.ensures ∙ ap (λ (z : ℤ). tabulate (length x.row.now) (only_arc x.k z)) (to_z-of_z s.ranges.e)
-    ∙ row_b x.row.now x.via.now x.a x.b x.k x.e x.u i.if-u-a.false i.if-u-b.true
+    let x = c.args in
+    c.only_arc-then-u-b.ensures ∙ ap (λ (z : ℤ). tabulate (length x.row.now) (only_arc x.k z)) (to_z-of_z c.ranges.e)
+    ∙ row_b x.row.now x.via.now x.a x.b x.k x.e x.u c.if-u-a.false c.if-u-b.true
 
 take_over-requires : tie.Need-take_over-requires
 take_over-requires c κs = c.requires.0
 
 returns-then-u-k : tie.Need-returns-then-u-k
 returns-then-u-k c =
-    let i = c in
-    let x = i.args in
-    c.take_over.ensures ∙ row_k x.row.now x.via.now x.a x.b x.k x.e x.u i.if-u-a.false i.if-u-b.false i.if-u-k.true
+    let x = c.args in
+    c.take_over.ensures ∙ row_k x.row.now x.via.now x.a x.b x.k x.e x.u c.if-u-a.false c.if-u-b.false c.if-u-k.true
 
 returns-else-u-k : tie.Need-returns-else-u-k
 returns-else-u-k c =

@@ -22,9 +22,8 @@ use Rattle.plans.proofs.share_inputs.share_inputs_verdict.Tie as tie
 
 returns-then-not-two_inputs : tie.Need-returns-then-not-two_inputs
 returns-then-not-two_inputs c =
-    let s = c in
-    let d = s.args.board in
-    (inputs_wrong d.inputs d.outputs d.vertices s.args.a s.args.b s.args.k (graph_of d.vertices s.args.table.now) (sym c.two_inputs.ensures ∙ not-true _ c.if-not-two_inputs.true-raw), refl)
+    let d = c.args.board in
+    (inputs_wrong d.inputs d.outputs d.vertices c.args.a c.args.b c.args.k (graph_of d.vertices c.args.table.now) (sym c.two_inputs.ensures ∙ not-true _ c.if-not-two_inputs.true-raw), refl)
 
 -- a, b and k have passed
 module _ (c : tie.Else-not-two_inputs) where
@@ -69,8 +68,7 @@ is_free-requires c κs = ((start c).requires.0.checked.lent, (inputs c).2)
 
 returns-then-not-is_free : tie.Need-returns-then-not-is_free
 returns-then-not-is_free c =
-    let e = c in
-    (number_taken (m e.before.before) (n e.before.before) (N e.before.before) (a e.before.before) (b e.before.before) (k e.before.before) (g e.before.before) (right e.before.before) (sym c.is_free.ensures ∙ not-true _ c.if-not-is_free.true-raw), refl)
+    (number_taken (m c.before.before) (n c.before.before) (N c.before.before) (a c.before.before) (b c.before.before) (k c.before.before) (g c.before.before) (right c.before.before) (sym c.is_free.ensures ∙ not-true _ c.if-not-is_free.true-raw), refl)
 
 -- and k is free
 module _ (c : tie.Else-not-is_free) where
@@ -105,19 +103,16 @@ found_is c = search rules
 
 returns-in-Common : tie.Need-returns-in-Common
 returns-in-Common c =
-    let w = c in
-    let d = w in
-    let i = e d.before.before.before in (
-      c.inputs_saved.ensures ∙ ap (inputs_saved (N i) (g i) (b i)) (found_is w.before)
-          ∙ inputs_common (m i) (n i) (N i) (a i) (b i) (k i) (g i) (right i) (free (there d.before.before.before)) d.rows_difference-found.result d.rows_difference-found.ensures.0 _ w.in-Common.is,
-      past d.before.before.before,
+    let i = e c.before.before.before in (
+      c.inputs_saved.ensures ∙ ap (inputs_saved (N i) (g i) (b i)) (found_is c.before)
+          ∙ inputs_common (m i) (n i) (N i) (a i) (b i) (k i) (g i) (right i) (free (there c.before.before.before)) c.rows_difference-found.result c.rows_difference-found.ensures.0 _ c.in-Common.is,
+      past c.before.before.before,
     )
 
 returns : tie.Need-returns
 returns c =
-    let d = c in
-    let i = e d.before.before in
-    (inputs_refused (m i) (n i) (N i) (a i) (b i) (k i) (g i) (right i) (free (there d.before.before)) d.rows_difference-found.result d.rows_difference-found.ensures.0 _ c.in_default.is, past d.before.before)
+    let i = e c.before.before in
+    (inputs_refused (m i) (n i) (N i) (a i) (b i) (k i) (g i) (right i) (free (there c.before.before)) c.rows_difference-found.result c.rows_difference-found.ensures.0 _ c.in_default.is, past c.before.before)
 
 pub share_inputs_verdict_spec : {M : Type 1} → statement M
 share_inputs_verdict_spec =

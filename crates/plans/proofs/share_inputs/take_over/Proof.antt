@@ -43,9 +43,7 @@ loop-t-smaller c = omega arith
 
 loop-t-preserved : tie.Need-loop-t-preserved invariant-loop decreases-loop
 loop-t-preserved c =
-    let l = c in
-    let s = l in
-    (omega arith, simp length-set l.loop-t.invariant.1, fill_turn (cells s.args.via.now) s.args.row.now l.loop-t.row l.loop-t.t _ (omega arith) l.loop-t.invariant.2 (back w32 _ c.row-1.given))
+    (omega arith, simp length-set c.loop-t.invariant.1, fill_turn (cells c.args.via.now) c.args.row.now c.loop-t.row c.loop-t.t _ (omega arith) c.loop-t.invariant.2 (back w32 _ c.row-1.given))
 
 shape_of-row : tie.Need-shape_of-row invariant-loop decreases-loop
 shape_of-row c = c.loop-t.invariant.1

@@ -13,8 +13,7 @@ returns-then-a-b c = simp (lt-ltb _ _ c.if-a-m.false, lt-ltb _ _ c.if-b-m.false,
 
 returns : tie.Need-returns
 returns c =
-    let e = c in
-    simp (lt-ltb _ _ e.if-a-m.false, lt-ltb _ _ e.if-b-m.false, ne_eqb _ _ e.if-a-b.false)
+    simp (lt-ltb _ _ c.if-a-m.false, lt-ltb _ _ c.if-b-m.false, ne_eqb _ _ c.if-a-b.false)
 
 pub two_inputs_spec : {M : Type 1} → statement M
 two_inputs_spec = tie.close (tie.spec

@@ -38,9 +38,8 @@ slice_bounds-chains-end c = sym c.cell_bytes-chain.ensures
 
 chains-requires : tie.Need-chains-requires invariant-compare decreases-compare
 chains-requires c κs =
-    let s = c in
-    let l = s.requires.0 in
-    (l, omega (arith, c.cell_bytes-chain.ensures, board_area s.args.board l.checked.lent.sized))
+    let l = c.requires.0 in
+    (l, omega (arith, c.cell_bytes-chain.ensures, board_area c.args.board l.checked.lent.sized))
 
 compare-init : tie.Need-compare-init invariant-compare decreases-compare
 compare-init c = (omega arith, refl, refl, seen_none _ _)
@@ -81,7 +80,7 @@ slice_bounds-delays_from-end : tie.Need-slice_bounds-delays_from-end invariant-c
 slice_bounds-delays_from-end c = let m = made c.before in sym (m.chains.auto.chain ∙ m.cell_bytes-chain.ensures)
 
 delays_from-requires : tie.Need-delays_from-requires invariant-compare decreases-compare
-delays_from-requires c κs = let e = c in ((start e.before.before).requires.0, ((made e.before.before).chains.ensures, (inside e.before.before, room e.before.before)))
+delays_from-requires c κs = ((start c.before.before).requires.0, ((made c.before.before).chains.ensures, (inside c.before.before, room c.before.before)))
 
 -- the delays from input i are there
 module _ (c : tie.After-delays_from invariant-compare decreases-compare) where
@@ -107,76 +106,69 @@ module _ (c : tie.After-delays_from invariant-compare decreases-compare) where
   there v h no-input = held (start turn).requires.0 (i turn) (inside turn) before after (room turn) c.delays_from.ensures v h (λ e. omega (arith, turn.if-i-m.false))
 
 offset_bounds-scratch-a : tie.Need-offset_bounds-scratch-a invariant-compare decreases-compare
-offset_bounds-scratch-a c = let d = c in let e = turn d.before in omega (arith, (start e).requires.1.1.below_a, (start e).requires.0.checked.lent.sized.few)
+offset_bounds-scratch-a c = let e = turn c.before in omega (arith, (start e).requires.1.1.below_a, (start e).requires.0.checked.lent.sized.few)
 
 slice_copy_out-seen_next : tie.Need-slice_copy_out-seen_next invariant-compare decreases-compare
-slice_copy_out-seen_next c = let d = c in let e = turn d.before in omega (arith, (start e).requires.1.1.below_a, room e, long d.before)
+slice_copy_out-seen_next c = let e = turn c.before in omega (arith, (start e).requires.1.1.below_a, room e, long c.before)
 
 offset_bounds-scratch-b : tie.Need-offset_bounds-scratch-b invariant-compare decreases-compare
-offset_bounds-scratch-b c = let d = c in let e = turn d.before.before in omega (arith, (start e).requires.1.1.below_b, (start e).requires.0.checked.lent.sized.few)
+offset_bounds-scratch-b c = let e = turn c.before.before in omega (arith, (start e).requires.1.1.below_b, (start e).requires.0.checked.lent.sized.few)
 
 slice_copy_out-seen_next-in-compare : tie.Need-slice_copy_out-seen_next-in-compare invariant-compare decreases-compare
-slice_copy_out-seen_next-in-compare c = let d = c in let e = turn d.before.before in omega (arith, (start e).requires.1.1.below_b, room e, long d.before.before)
+slice_copy_out-seen_next-in-compare c = let e = turn c.before.before in omega (arith, (start e).requires.1.1.below_b, room e, long c.before.before)
 
 -- the two cells, as the code has them
-a_is : (c : tie.After-seen_next-arg-1 invariant-compare decreases-compare) → let d = c in to_z w64 (of_z w64 (get_or (after d.before.before) (a (turn d.before.before)) (pos 0))) ≡ get_or (after d.before.before) (a (turn d.before.before)) (pos 0)
+a_is : (c : tie.After-seen_next-arg-1 invariant-compare decreases-compare) → to_z w64 (of_z w64 (get_or (after c.before.before) (a (turn c.before.before)) (pos 0))) ≡ get_or (after c.before.before) (a (turn c.before.before)) (pos 0)
 a_is c = back w64 _ c.seen_next-arg-1.given
 
-b_is : (c : tie.After-seen_next-arg-in-compare-1 invariant-compare decreases-compare) → let d = c in to_z w64 (of_z w64 (get_or (after d.before.before.before) (b (turn d.before.before.before)) (pos 0))) ≡ get_or (after d.before.before.before) (b (turn d.before.before.before)) (pos 0)
+b_is : (c : tie.After-seen_next-arg-in-compare-1 invariant-compare decreases-compare) → to_z w64 (of_z w64 (get_or (after c.before.before.before) (b (turn c.before.before.before)) (pos 0))) ≡ get_or (after c.before.before.before) (b (turn c.before.before.before)) (pos 0)
 b_is c = back w64 _ c.seen_next-arg-in-compare-1.given
 
 seen_next-seen-requires : tie.Need-seen_next-seen-requires invariant-compare decreases-compare
 seen_next-seen-requires c κs =
-    let d = c in
-    let s = start (turn d.before.before.before) in
-    simp (a_is c.before, b_is c) (near d.before.before.before s.args.a s.requires.1.1.below_a, near d.before.before.before s.args.b s.requires.1.1.below_b)
+    let s = start (turn c.before.before.before) in
+    simp (a_is c.before, b_is c) (near c.before.before.before s.args.a s.requires.1.1.below_a, near c.before.before.before s.args.b s.requires.1.1.below_b)
 
 -- what is seen after the turn
 turned : (c : tie.After-seen_next-seen invariant-compare decreases-compare) → let e = turn c.before.before.before.before in c.seen_next-seen.result ≡ seen (i e + 1) (into (N e) (t e) (a e)) (into (N e) (t e) (b e))
 turned c =
-    let d = c in
-    let e = turn d.before.before.before.before in
+    let e = turn c.before.before.before.before in
     let s = start e in
     c.seen_next-seen.ensures
     ∙ (λ k. compared ((loop e).compare.invariant.3 k)
-    ((ap (read_cell absent_wide) (a_is c.before.before) ∙ there d.before.before.before.before s.args.a s.requires.1.1.below_a s.requires.1.1.no_input_a) k)
-    ((ap (read_cell absent_wide) (b_is c.before) ∙ there d.before.before.before.before s.args.b s.requires.1.1.below_b s.requires.1.1.no_input_b) k))
+    ((ap (read_cell absent_wide) (a_is c.before.before) ∙ there c.before.before.before.before s.args.a s.requires.1.1.below_a s.requires.1.1.no_input_a) k)
+    ((ap (read_cell absent_wide) (b_is c.before) ∙ there c.before.before.before.before s.args.b s.requires.1.1.below_b s.requires.1.1.no_input_b) k))
     ∙ seen_more (into (N e) (t e) (a e)) (into (N e) (t e) (b e)) (i e)
 
 compare-preserved : tie.Need-compare-preserved invariant-compare decreases-compare
 compare-preserved c =
-    let d = c in
-    let l = loop (turn d.before.before.before.before.before) in
-    (omega (arith, (turn d.before.before.before.before.before).if-i-m.false), long d.before.before.before.before.before ∙ l.compare.invariant.1, past d.before.before.before.before.before ∙ l.compare.invariant.2, turned c.before)
+    let l = loop (turn c.before.before.before.before.before) in
+    (omega (arith, (turn c.before.before.before.before.before).if-i-m.false), long c.before.before.before.before.before ∙ l.compare.invariant.1, past c.before.before.before.before.before ∙ l.compare.invariant.2, turned c.before)
 
 shape_of-scratch-then-i-m : tie.Need-shape_of-scratch-then-i-m invariant-compare decreases-compare
 shape_of-scratch-then-i-m c = c.compare.invariant.1
 
 returns-then-i-m : tie.Need-returns-then-i-m invariant-compare decreases-compare
 returns-then-i-m c =
-    let l = c in
-    let s = l in
-    let n = s.args.board.vertices in
-    let f = into n s.args.table.now s.args.a in
-    let g = into n s.args.table.now s.args.b in
-    let e : l.compare.i ≡ s.args.board.inputs = omega (arith, c.if-i-m.true, l.compare.invariant.0) in (
-      ap difference_meaning (c.settle.ensures ∙ ap settled (l.compare.invariant.3 ∙ ap (λ (k : ℕ). seen k f g) e)) ∙ seen_common f g s.args.board.inputs,
-      l.compare.invariant.2,
+    let n = c.args.board.vertices in
+    let f = into n c.args.table.now c.args.a in
+    let g = into n c.args.table.now c.args.b in
+    let e : c.compare.i ≡ c.args.board.inputs = omega (arith, c.if-i-m.true, c.compare.invariant.0) in (
+      ap difference_meaning (c.settle.ensures ∙ ap settled (c.compare.invariant.3 ∙ ap (λ (k : ℕ). seen k f g) e)) ∙ seen_common f g c.args.board.inputs,
+      c.compare.invariant.2,
     )
 
 shape_of-scratch-in-Clash : tie.Need-shape_of-scratch-in-Clash invariant-compare decreases-compare
-shape_of-scratch-in-Clash c = let d = c in long d.before.before.before.before.before ∙ (loop (turn d.before.before.before.before.before)).compare.invariant.1
+shape_of-scratch-in-Clash c = long c.before.before.before.before.before ∙ (loop (turn c.before.before.before.before.before)).compare.invariant.1
 
 returns-in-Clash : tie.Need-returns-in-Clash invariant-compare decreases-compare
 returns-in-Clash c =
-    let p = c in
-    let d = p in
-    let e = turn d.before.before.before.before.before in
+    let e = turn c.before.before.before.before.before in
     let m = (start e).args.board.inputs in
     let f = into (N e) (t e) (a e) in
     let g = into (N e) (t e) (b e) in (
-      sym (ap (λ (s : Seen). difference_meaning (settled s)) (seen_clash f g (i e + 1) m (omega (arith, e.if-i-m.false)) (sym (turned p.before) ∙ c.in-Clash.is))) ∙ seen_common f g m,
-      past d.before.before.before.before.before ∙ (loop e).compare.invariant.2,
+      sym (ap (λ (s : Seen). difference_meaning (settled s)) (seen_clash f g (i e + 1) m (omega (arith, e.if-i-m.false)) (sym (turned c.before) ∙ c.in-Clash.is))) ∙ seen_common f g m,
+      past c.before.before.before.before.before ∙ (loop e).compare.invariant.2,
     )
 
 pub columns_difference_spec : {M : Type 1} → statement M

@@ -50,13 +50,11 @@ said c = sym (c.in_range.ensures ∙ ap (λ (z : ℤ). fits delay_limit (at z)) 
 
 returns-then-not-in_range : tie.Need-returns-then-not-in_range
 returns-then-not-in_range c a q =
-    let e = c in
-    simp (sym q ∙ (free e.before.before).if-back.false, enough e.before.before, said c.before ∙ not-true _ c.if-not-in_range.true-raw)
+    simp (sym q ∙ (free c.before.before).if-back.false, enough c.before.before, said c.before ∙ not-true _ c.if-not-in_range.true-raw)
 
 returns : tie.Need-returns
 returns c a q =
-    let e = c in
-    simp (sym q ∙ (free e.before.before).if-back.false, enough e.before.before, said c.before ∙ not-false _ c.if-not-in_range.false-raw, to_z-of_z {w = w64} (start e.before.before).ranges.e)
+    simp (sym q ∙ (free c.before.before).if-back.false, enough c.before.before, said c.before ∙ not-false _ c.if-not-in_range.false-raw, to_z-of_z {w = w64} (start c.before.before).ranges.e)
 
 pub outputs_saved_spec : {M : Type 1} → statement M
 outputs_saved_spec = tie.close (tie.spec

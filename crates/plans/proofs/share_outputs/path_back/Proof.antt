@@ -50,9 +50,8 @@ is_ahead-requires c κs = c.requires.0.lent.sized.few
 
 returns-then-is_ahead : tie.Need-returns-then-is_ahead
 returns-then-is_ahead c =
-    let s = c in
     let ahead = c.is_ahead.ensures c.if-is_ahead.true in
-    (sym (no_path_back (s.requires.1.0 ahead.0).order (a s.before.before.before) (b s.before.before.before) s.requires.1.1.0.below_b ahead.1), s.requires.1.1.1)
+    (sym (no_path_back (c.requires.1.0 ahead.0).order (a c.before.before.before) (b c.before.before.before) c.requires.1.1.0.below_b ahead.1), c.requires.1.1.1)
 
 overflow_mul-at : tie.Need-overflow_mul-at
 overflow_mul-at c = omega (arith, cell_in c.before.before.before)
@@ -69,30 +68,26 @@ bounds-table-at c = cell_in c.before.before.before
 -- the arc b→a, as the code has it
 said : (c : tie.After-is_arc) → let s = c in present (g s.before.before.before.before.before (b s.before.before.before.before.before) (a s.before.before.before.before.before)) ≡ c.is_arc.result
 said c =
-    let s = c in
-    ap present (graph_of_at (N s.before.before.before.before.before) s.args.table.now (b s.before.before.before.before.before) (a s.before.before.before.before.before) s.requires.1.1.0.below_b s.requires.1.1.0.below_a)
+    ap present (graph_of_at (N c.before.before.before.before.before) c.args.table.now (b c.before.before.before.before.before) (a c.before.before.before.before.before) c.requires.1.1.0.below_b c.requires.1.1.0.below_a)
     ∙ sym (c.is_arc.ensures ∙ ap (λ (z : ℤ). present (read_cell absent_cell z)) (back w32 _ c.is_arc-arg-1.given))
 
 returns-then-is_arc : tie.Need-returns-then-is_arc
-returns-then-is_arc c = let s = c in (sym (arc_path s.before.before.before.before.before.before (said c.before ∙ c.if-is_arc.true)), s.requires.1.1.1)
+returns-then-is_arc c = (sym (arc_path c.before.before.before.before.before.before (said c.before ∙ c.if-is_arc.true)), c.requires.1.1.1)
 
 index-requires : tie.Need-index-requires
-index-requires c κs = let s = c in (s.requires.0.lent, s.requires.1.1.1)
+index-requires c κs = (c.requires.0.lent, c.requires.1.1.1)
 
 -- with the row sets
 rowed : (c : tie.After-index) → let s = c in Rowed (N s.before.before.before.before.before.before.before.before) (g s.before.before.before.before.before.before.before.before) c.index.new.words
-rowed c = let s = c in record { sets = c.index.ensures; inside = (within s.before.before.before.before.before.before.before.before).in_range }
+rowed c = record { sets = c.index.ensures; inside = (within c.before.before.before.before.before.before.before.before).in_range }
 
 leads-found-requires : tie.Need-leads-found-requires
 leads-found-requires c κs =
-    let x = c in
-    let s = x in
-    (s.requires.0.lent.sized.few, (s.requires.1.1.0.below_b, (s.requires.1.1.0.below_a, (g s.before.before.before.before.before.before.before.before.before.before, rowed x.before.before))))
+    (c.requires.0.lent.sized.few, (c.requires.1.1.0.below_b, (c.requires.1.1.0.below_a, (g c.before.before.before.before.before.before.before.before.before.before, rowed c.before.before))))
 
 returns : tie.Need-returns
 returns c =
-    let x = c in
-    (c.leads-found.ensures (g x.before.before.before.before.before.before.before.before.before.before.before) (rowed x.before.before.before), record { long = x.index.ensures.long; sets = λ _. x.index.ensures })
+    (c.leads-found.ensures (g c.before.before.before.before.before.before.before.before.before.before.before) (rowed c.before.before.before), record { long = c.index.ensures.long; sets = λ _. c.index.ensures })
 
 pub path_back_spec : {M : Type 1} → statement M
 path_back_spec =

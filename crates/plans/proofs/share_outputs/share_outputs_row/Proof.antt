@@ -10,15 +10,13 @@ use Rattle.plans.proofs.share_outputs.share_outputs_row.Tie as tie
 
 returns-then-u-a : tie.Need-returns-then-u-a
 returns-then-u-a c =
-    let s = c in
-    outputs_stored s.args.row.now s.args.a s.args.b s.args.e s.args.u _ s.requires
-    (to_z-of_z s.ranges.e ∙ sym (ap (λ (t : Bool). cond t s.args.e absent_cell) (eq-eqb s.args.u s.args.a c.if-u-a.true)))
+    outputs_stored c.args.row.now c.args.a c.args.b c.args.e c.args.u _ c.requires
+    (to_z-of_z c.ranges.e ∙ sym (ap (λ (t : Bool). cond t c.args.e absent_cell) (eq-eqb c.args.u c.args.a c.if-u-a.true)))
 
 returns : tie.Need-returns
 returns c =
-    let s = c in
-    outputs_stored s.args.row.now s.args.a s.args.b s.args.e s.args.u _ s.requires
-    (sym (ap (λ (t : Bool). cond t s.args.e absent_cell) (ne_eqb s.args.u s.args.a c.if-u-a.false)))
+    outputs_stored c.args.row.now c.args.a c.args.b c.args.e c.args.u _ c.requires
+    (sym (ap (λ (t : Bool). cond t c.args.e absent_cell) (ne_eqb c.args.u c.args.a c.if-u-a.false)))
 
 pub share_outputs_row_spec : {M : Type 1} → statement M
 share_outputs_row_spec =

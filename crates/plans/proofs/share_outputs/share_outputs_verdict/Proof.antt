@@ -28,9 +28,8 @@ two_outputs-requires c κs = c.requires.0.checked.lent.sized
 
 returns-then-not-two_outputs : tie.Need-returns-then-not-two_outputs
 returns-then-not-two_outputs c =
-    let s = c in
-    let d = s.args.board in
-    (outputs_wrong d.inputs d.outputs d.vertices s.args.a s.args.b (graph_of d.vertices s.args.table.now) (sym c.two_outputs.ensures ∙ not-true _ c.if-not-two_outputs.true-raw), refl)
+    let d = c.args.board in
+    (outputs_wrong d.inputs d.outputs d.vertices c.args.a c.args.b (graph_of d.vertices c.args.table.now) (sym c.two_outputs.ensures ∙ not-true _ c.if-not-two_outputs.true-raw), refl)
 
 -- a and b have passed
 module _ (c : tie.Else-not-two_outputs) where
@@ -62,7 +61,7 @@ module _ (c : tie.Else-not-two_outputs) where
   fits = vector_fits board start.requires.0.checked.lent.sized
 
 columns_difference-found-requires : tie.Need-columns_difference-found-requires
-columns_difference-found-requires c κs = let e = c in ((start e.before).requires.0, (omega (arith, (start e.before).requires.1, fits e.before), outputs e.before))
+columns_difference-found-requires c κs = ((start c.before).requires.0, (omega (arith, (start c.before).requires.1, fits c.before), outputs c.before))
 
 -- the columns have been compared
 module _ (c : tie.After-columns_difference-found) where
@@ -84,30 +83,25 @@ slice_bounds-path_back-end c = sym c.words-words.ensures
 
 path_back-looked-requires : tie.Need-path_back-looked-requires
 path_back-looked-requires c κs =
-    let w = c in
-    let e = passed w.before.before.before.before in
+    let e = passed c.before.before.before.before in
     let few = (start e).requires.0.checked.lent.sized.few in
-    ((start e).requires.0.checked, ((λ _. (start e).requires.0), (outputs e, record { long = omega (arith, w.words-words.ensures, few); sets = λ q. absurd (let z : ◌≡◌ {A = ℕ} 0 1 = cc in omega arith) })))
+    ((start e).requires.0.checked, ((λ _. (start e).requires.0), (outputs e, record { long = omega (arith, c.words-words.ensures, few); sets = λ q. absurd (let z : ◌≡◌ {A = ℕ} 0 1 = cc in omega arith) })))
 
 outputs_saved-requires : tie.Need-outputs_saved-requires
 outputs_saved-requires c κs = let e = passed c.before.before.before.before.before.before in ((start e).requires.0.checked.lent, (outputs e).below_b)
 
 returns-in-Common : tie.Need-returns-in-Common
 returns-in-Common c =
-    let x = c in
-    let k = x in
-    let d = k in
-    let e = passed d.before.before.before.before.before.before.before in (
-      c.outputs_saved.ensures (a e) x.path_back-looked.ensures.0 ∙ ap (outputs_saved (N e) (g e) (a e) (b e)) (e_is k.before.before.before.before.before)
-          ∙ outputs_common (board e).inputs (board e).outputs (N e) (a e) (b e) (g e) (right e) d.columns_difference-found.result d.columns_difference-found.ensures.0 _ k.in-Common.is,
-      past d.before.before.before.before.before.before.before,
+    let e = passed c.before.before.before.before.before.before.before in (
+      c.outputs_saved.ensures (a e) c.path_back-looked.ensures.0 ∙ ap (outputs_saved (N e) (g e) (a e) (b e)) (e_is c.before.before.before.before.before)
+          ∙ outputs_common (board e).inputs (board e).outputs (N e) (a e) (b e) (g e) (right e) c.columns_difference-found.result c.columns_difference-found.ensures.0 _ c.in-Common.is,
+      past c.before.before.before.before.before.before.before,
     )
 
 returns : tie.Need-returns
 returns c =
-    let d = c in
-    let e = passed d.before.before in
-    (outputs_refused (board e).inputs (board e).outputs (N e) (a e) (b e) (g e) (right e) d.columns_difference-found.result d.columns_difference-found.ensures.0 _ c.in_default.is, past d.before.before)
+    let e = passed c.before.before in
+    (outputs_refused (board e).inputs (board e).outputs (N e) (a e) (b e) (g e) (right e) c.columns_difference-found.result c.columns_difference-found.ensures.0 _ c.in_default.is, past c.before.before)
 
 pub share_outputs_verdict_spec : {M : Type 1} → statement M
 share_outputs_verdict_spec =

@@ -14,13 +14,11 @@ is_output-requires-2 c κs = c.requires
 
 returns-then-not-is_output-2 : tie.Need-returns-then-not-is_output-2
 returns-then-not-is_output-2 c =
-    let f = c in
-    simp (sym f.is_output.ensures ∙ not-false _ f.if-not-is_output.false-raw, sym c.is_output-2.ensures ∙ not-true _ c.if-not-is_output-2.true-raw)
+    simp (sym c.is_output.ensures ∙ not-false _ c.if-not-is_output.false-raw, sym c.is_output-2.ensures ∙ not-true _ c.if-not-is_output-2.true-raw)
 
 returns : tie.Need-returns
 returns c =
-    let f = c in
-    simp (sym f.is_output.ensures ∙ not-false _ f.if-not-is_output.false-raw, sym c.is_output-2.ensures ∙ not-false _ c.if-not-is_output-2.false-raw)
+    simp (sym c.is_output.ensures ∙ not-false _ c.if-not-is_output.false-raw, sym c.is_output-2.ensures ∙ not-false _ c.if-not-is_output-2.false-raw)
 
 pub two_outputs_spec : {M : Type 1} → statement M
 two_outputs_spec =

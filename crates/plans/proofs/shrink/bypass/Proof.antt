@@ -43,23 +43,21 @@ module _ (c : tie.After-into-1) where
 
 returns-then-not-is_arc : tie.Need-returns-then-not-is_arc
 returns-then-not-is_arc c =
-    let i = c in
-    bypassed_before (row i.before.before) (via i.before.before) (k i.before.before) (ap (λ (z : ℤ). present (read_cell absent_cell z)) (sym (into_is i.before.before)) ∙ sym c.is_arc.ensures ∙ not-true _ c.if-not-is_arc.true-raw)
+    bypassed_before (row c.before.before) (via c.before.before) (k c.before.before) (ap (λ (z : ℤ). present (read_cell absent_cell z)) (sym (into_is c.before.before)) ∙ sym c.is_arc.ensures ∙ not-true _ c.if-not-is_arc.true-raw)
 
 join_row-requires : tie.Need-join_row-requires
-join_row-requires c κs = let i = c in ((start i.before.before.before).requires.few, rw (into_is i.before.before.before) (start i.before.before.before).requires.legal)
+join_row-requires c κs = ((start c.before.before.before).requires.few, rw (into_is c.before.before.before) (start c.before.before.before).requires.legal)
 
 offset_bounds-row-k-2 : tie.Need-offset_bounds-row-k-2
-offset_bounds-row-k-2 c = let i = c in omega (arith, (start i.before.before.before.before.before).requires.inside)
+offset_bounds-row-k-2 c = omega (arith, (start c.before.before.before.before.before).requires.inside)
 
 slice_set_of-row : tie.Need-slice_set_of-row
-slice_set_of-row c = let i = c in omega (arith, (start i.before.before.before.before.before).requires.inside)
+slice_set_of-row c = omega (arith, (start c.before.before.before.before.before).requires.inside)
 
 returns : tie.Need-returns
 returns c =
-    let i = c in
-    bypassed_after (row i.before.before.before.before.before) (via i.before.before.before.before.before) (k i.before.before.before.before.before) c.join_row.new.row
-    (c.join_row.ensures ∙ ap (λ (z : ℤ). tabulate (length (row i.before.before.before.before.before)) (joined_cell (row i.before.before.before.before.before) (via i.before.before.before.before.before) (read_cell absent_cell z))) (into_is i.before.before.before.before.before)) (start i.before.before.before.before.before).requires.inside
+    bypassed_after (row c.before.before.before.before.before) (via c.before.before.before.before.before) (k c.before.before.before.before.before) c.join_row.new.row
+    (c.join_row.ensures ∙ ap (λ (z : ℤ). tabulate (length (row c.before.before.before.before.before)) (joined_cell (row c.before.before.before.before.before) (via c.before.before.before.before.before) (read_cell absent_cell z))) (into_is c.before.before.before.before.before)) (start c.before.before.before.before.before).requires.inside
 
 pub bypass_spec : {M : Type 1} → statement M
 bypass_spec =

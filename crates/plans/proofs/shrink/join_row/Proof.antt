@@ -65,24 +65,21 @@ join-requires c κs =
 -- the cell that the call gives
 given : (c : tie.After-join invariant-loop decreases-loop) → let a = c in to_z w32 (of_z w32 c.join.result) ≡ joined_cell (old a.before) (via a.before) (read_cell absent_cell (into a.before)) (t a.before)
 given c =
-    let a = c in
     back w32 _ c.join.type_inv ∙ c.join.ensures
-    ∙ ap₂ (λ (x y : ℤ). write_cell absent_cell (read_cell absent_cell x ⋓ (read_cell absent_cell (into a.before) ⊕ read_cell absent_cell y))) (old_is a.before) (via_is a.before)
+    ∙ ap₂ (λ (x y : ℤ). write_cell absent_cell (read_cell absent_cell x ⋓ (read_cell absent_cell (into c.before) ⊕ read_cell absent_cell y))) (old_is c.before) (via_is c.before)
 
 loop-t-preserved : tie.Need-loop-t-preserved invariant-loop decreases-loop
 loop-t-preserved c =
-    let a = c in
-    let l = loop a.before in
-    (omega arith, simp length-set l.loop-t.invariant.1, fill_turn (joined_cell (old a.before) (via a.before) (read_cell absent_cell (into a.before))) (old a.before) l.loop-t.row (t a.before) _ (omega arith) l.loop-t.invariant.2 (given c))
+    let l = loop c.before in
+    (omega arith, simp length-set l.loop-t.invariant.1, fill_turn (joined_cell (old c.before) (via c.before) (read_cell absent_cell (into c.before))) (old c.before) l.loop-t.row (t c.before) _ (omega arith) l.loop-t.invariant.2 (given c))
 
 shape_of-row : tie.Need-shape_of-row invariant-loop decreases-loop
 shape_of-row c = c.loop-t.invariant.1
 
 returns : tie.Need-returns invariant-loop decreases-loop
 returns c =
-    let s = c in
     c.loop-t.invariant.2 ∙ fill_all _ _ c.loop-t.t (omega arith)
-    ∙ ap (λ (z : ℤ). tabulate (length s.args.row.now) (joined_cell s.args.row.now s.args.via.now (read_cell absent_cell z))) (to_z-of_z s.ranges.into)
+    ∙ ap (λ (z : ℤ). tabulate (length c.args.row.now) (joined_cell c.args.row.now c.args.via.now (read_cell absent_cell z))) (to_z-of_z c.ranges.into)
 
 pub join_row_spec : {M : Type 1} → statement M
 join_row_spec =

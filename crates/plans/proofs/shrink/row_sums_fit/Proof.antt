@@ -38,22 +38,20 @@ overflow_sub-high c = subst (SFits w32) (sym (part c (pos delay_limit))) (high c
 
 returns-then-into-ge0 : tie.Need-returns-then-into-ge0
 returns-then-into-ge0 c =
-    let s = c in
-    let positive : pos 0 ≤ℤ a s.before.before = record { le = true_is (rw (to_z-of_z {w = w32} s.ranges.into) at c.if-into-ge0.true) } in
+    let positive : pos 0 ≤ℤ a c.before.before = record { le = true_is (rw (to_z-of_z {w = w32} c.ranges.into) at c.if-into-ge0.true) } in
     c.row_upto.ensures
-    ∙ every_same s.args.n _ _
-    (λ v l. ap (λ (y : ℤ). le_z (get_or s.args.via.now v (pos 0)) y) (high_is s.before.before)
-    ∙ upto_sum (a s.before.before) (get_or s.args.via.now v (pos 0)) positive s.requires.1.0 (every_at s.args.n (λ t. fits delay_limit (cell_at s.args.via.now t)) s.requires.1.1 v l))
+    ∙ every_same c.args.n _ _
+    (λ v l. ap (λ (y : ℤ). le_z (get_or c.args.via.now v (pos 0)) y) (high_is c.before.before)
+    ∙ upto_sum (a c.before.before) (get_or c.args.via.now v (pos 0)) positive c.requires.1.0 (every_at c.args.n (λ t. fits delay_limit (cell_at c.args.via.now t)) c.requires.1.1 v l))
 
 overflow_sub-low : tie.Need-overflow_sub-low
-overflow_sub-low c = let s = c in subst (SFits w32) (sym (part s.before (neg_ℤ (pos delay_limit)))) (low s.before)
+overflow_sub-low c = subst (SFits w32) (sym (part c.before (neg_ℤ (pos delay_limit)))) (low c.before)
 
 returns : tie.Need-returns
 returns c =
-    let s = c in
     c.row_within.ensures
-    ∙ ap₂ (λ (x y : ℤ). every s.args.n (λ v. between x y (cell_at s.args.via.now v))) (handed w32 (part s.before.before (neg_ℤ (pos delay_limit))) (low s.before.before)) (high_is s.before.before)
-    ∙ every_same s.args.n _ _ (λ v _. between-sum delay_limit (a s.before.before) (cell_at s.args.via.now v))
+    ∙ ap₂ (λ (x y : ℤ). every c.args.n (λ v. between x y (cell_at c.args.via.now v))) (handed w32 (part c.before.before (neg_ℤ (pos delay_limit))) (low c.before.before)) (high_is c.before.before)
+    ∙ every_same c.args.n _ _ (λ v _. between-sum delay_limit (a c.before.before) (cell_at c.args.via.now v))
 
 pub row_sums_fit_spec : {M : Type 1} → statement M
 row_sums_fit_spec = tie.close (tie.spec

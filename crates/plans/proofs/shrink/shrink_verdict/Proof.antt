@@ -47,7 +47,7 @@ unfolding shrink_verdict
 returns-then-not-is_relay c = simp (inner c.before.before, sym c.is_relay.ensures ∙ not-true _ c.if-not-is_relay.true-raw)
 
 sums_fit-requires : tie.Need-sums_fit-requires
-sums_fit-requires c κs = let i = c in ((start i.before.before).requires.0, ((start i.before.before).requires.1, inside i.before.before))
+sums_fit-requires c κs = ((start c.before.before).requires.0, ((start c.before.before).requires.1, inside c.before.before))
 
 -- k has passed the second condition
 module _ (c : tie.Else-not-is_relay) where
@@ -72,14 +72,12 @@ said c = sym c.sums_fit.ensures
 returns-then-not-sums_fit : tie.Need-returns-then-not-sums_fit
 unfolding shrink_verdict
 returns-then-not-sums_fit c =
-    let f = c in
-    simp (inner (first f.before.before), relay f.before.before, said c.before ∙ not-true _ c.if-not-sums_fit.true-raw)
+    simp (inner (first c.before.before), relay c.before.before, said c.before ∙ not-true _ c.if-not-sums_fit.true-raw)
 
 returns : tie.Need-returns
 unfolding shrink_verdict
 returns c =
-    let f = c in
-    simp (inner (first f.before.before), relay f.before.before, said c.before ∙ not-false _ c.if-not-sums_fit.false-raw)
+    simp (inner (first c.before.before), relay c.before.before, said c.before ∙ not-false _ c.if-not-sums_fit.false-raw)
 
 pub shrink_verdict_spec : {M : Type 1} → statement M
 shrink_verdict_spec =

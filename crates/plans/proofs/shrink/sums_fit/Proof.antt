@@ -109,51 +109,44 @@ bounds-table-at : tie.Need-bounds-table-at invariant-loop decreases-loop
 bounds-table-at c = omega (arith, row c, room c, inside c)
 
 offset_bounds-table-from : tie.Need-offset_bounds-table-from invariant-loop decreases-loop
-offset_bounds-table-from c = let i = c in omega (arith, row_k i.before, room i.before)
+offset_bounds-table-from c = omega (arith, row_k c.before, room c.before)
 
 slice_bounds-row_sums_fit-count : tie.Need-slice_bounds-row_sums_fit-count invariant-loop decreases-loop
-slice_bounds-row_sums_fit-count c = let i = c in omega (arith, row_k i.before, room i.before)
+slice_bounds-row_sums_fit-count c = omega (arith, row_k c.before, room c.before)
 
 slice_bounds-row_sums_fit-start : tie.Need-slice_bounds-row_sums_fit-start invariant-loop decreases-loop
-slice_bounds-row_sums_fit-start c = let i = c in omega (arith, row_k i.before, room i.before)
+slice_bounds-row_sums_fit-start c = omega (arith, row_k c.before, room c.before)
 
 -- the cell as it was read
-read : (c : tie.After-row_sums_fit-arg-1 invariant-loop decreases-loop) → let i = c in at (to_z w32 (of_z w32 (get_or (t i.before) (n i.before * u i.before + k i.before) (pos 0)))) ≡ g i.before (u i.before) (k i.before)
+read : (c : tie.After-row_sums_fit-arg-1 invariant-loop decreases-loop) → at (to_z w32 (of_z w32 (get_or (t c.before) (n c.before * u c.before + k c.before) (pos 0)))) ≡ g c.before (u c.before) (k c.before)
 read c = ap at (back w32 _ c.row_sums_fit-arg-1.given) ∙ sym (arc c.before)
 
 row_sums_fit-requires : tie.Need-row_sums_fit-requires invariant-loop decreases-loop
 row_sums_fit-requires c κs =
-    let r = c in
-    let i = r in
-    (lent_long (n i.before.before) (t i.before.before) (k i.before.before) (room i.before.before) (inside i.before.before), (subst (λ (d : Delay). T (fits delay_limit d)) (sym (read r.before)) ((start i.before.before).requires.1.0 (u i.before.before) (k i.before.before)), lent_fits_lem (n i.before.before) (t i.before.before) (k i.before.before) (room i.before.before) (inside i.before.before) (start i.before.before).requires.1.0))
+    (lent_long (n c.before.before) (t c.before.before) (k c.before.before) (room c.before.before) (inside c.before.before), (subst (λ (d : Delay). T (fits delay_limit d)) (sym (read c.before)) ((start c.before.before).requires.1.0 (u c.before.before) (k c.before.before)), lent_fits_lem (n c.before.before) (t c.before.before) (k c.before.before) (room c.before.before) (inside c.before.before) (start c.before.before).requires.1.0))
 
 said : (c : tie.After-row_sums_fit invariant-loop decreases-loop) → let i = c in right (n i.before.before.before) (g i.before.before.before) (k i.before.before.before) (u i.before.before.before) ≡ c.row_sums_fit.result
 said c =
-    let r = c in
-    let i = r in
-    sym (c.row_sums_fit.ensures ∙ every_same (n i.before.before.before) _ _
-    (λ x l. ap₂ (λ (a b : Delay). fits delay_limit (a ⊕ b)) (read r.before.before) (lent_cell (n i.before.before.before) (t i.before.before.before) (k i.before.before.before) (room i.before.before.before) (inside i.before.before.before) x l)))
+    sym (c.row_sums_fit.ensures ∙ every_same (n c.before.before.before) _ _
+    (λ x l. ap₂ (λ (a b : Delay). fits delay_limit (a ⊕ b)) (read c.before.before) (lent_cell (n c.before.before.before) (t c.before.before.before) (k c.before.before.before) (room c.before.before.before) (inside c.before.before.before) x l)))
 
 returns-then-not-row_sums_fit : tie.Need-returns-then-not-row_sums_fit invariant-loop decreases-loop
 returns-then-not-row_sums_fit c =
-    let i = c in
-    sym (every_broken (n i.before.before.before.before) (right (n i.before.before.before.before) (g i.before.before.before.before) (k i.before.before.before.before)) (u i.before.before.before.before) i.loop-u-test.true (said c.before ∙ not-true _ c.if-not-row_sums_fit.true-raw))
+    sym (every_broken (n c.before.before.before.before) (right (n c.before.before.before.before) (g c.before.before.before.before) (k c.before.before.before.before)) (u c.before.before.before.before) c.loop-u-test.true (said c.before ∙ not-true _ c.if-not-row_sums_fit.true-raw))
 
 overflow_add-u : tie.Need-overflow_add-u invariant-loop decreases-loop
-overflow_add-u c = let i = c in omega (arith, i.loop-u-test.true, (start i.before.before.before.before).requires.0.sized.few)
+overflow_add-u c = omega (arith, c.loop-u-test.true, (start c.before.before.before.before).requires.0.sized.few)
 
 next_into-u-requires-in-loop-u : tie.Need-next_into-u-requires-in-loop-u invariant-loop decreases-loop
-next_into-u-requires-in-loop-u c κs = let i = c in ((start i.before.before.before.before).requires.0, (inside i.before.before.before.before, omega (arith, i.loop-u-test.true)))
+next_into-u-requires-in-loop-u c κs = ((start c.before.before.before.before).requires.0, (inside c.before.before.before.before, omega (arith, c.loop-u-test.true)))
 
 loop-u-smaller : tie.Need-loop-u-smaller invariant-loop decreases-loop
-loop-u-smaller c = let i = c in omega (arith, i.loop-u-test.true, c.next_into-u-in-loop-u.ensures.past)
+loop-u-smaller c = omega (arith, c.loop-u-test.true, c.next_into-u-in-loop-u.ensures.past)
 
 loop-u-preserved : tie.Need-loop-u-preserved invariant-loop decreases-loop
 loop-u-preserved c =
-    let e = c in
-    let i = e in
     let s = c.next_into-u-in-loop-u.ensures in
-    (s.upto, passed (n i.before.before.before.before.before) (g i.before.before.before.before.before) (k i.before.before.before.before.before) (u i.before.before.before.before.before + 1) _ (every_more _ _ i.loop-u.invariant.1 (said e.before.before ∙ not-false _ e.if-not-row_sums_fit.false-raw)) s, s.arc)
+    (s.upto, passed (n c.before.before.before.before.before) (g c.before.before.before.before.before) (k c.before.before.before.before.before) (u c.before.before.before.before.before + 1) _ (every_more _ _ c.loop-u.invariant.1 (said c.before.before ∙ not-false _ c.if-not-row_sums_fit.false-raw)) s, s.arc)
 
 returns : tie.Need-returns invariant-loop decreases-loop
 returns c =

@@ -14,11 +14,10 @@ sum-requires c κs = simp (to_z-of_z {w = w32} c.ranges.a, to_z-of_z {w = w32} c
 
 returns : tie.Need-returns
 returns c =
-    let s = c in
     back w32 _ c.larger.type_inv ∙ c.larger.ensures
-    ∙ ap₂ (λ (x y : Delay). write_cell absent_cell (x ⋓ y)) (ap (read_cell absent_cell) (to_z-of_z s.ranges.old))
+    ∙ ap₂ (λ (x y : Delay). write_cell absent_cell (x ⋓ y)) (ap (read_cell absent_cell) (to_z-of_z c.ranges.old))
     (ap (read_cell absent_cell) (back w32 _ c.sum.type_inv) ∙ c.sum.ensures
-    ∙ ap₂ (λ (x y : ℤ). read_cell absent_cell x ⊕ read_cell absent_cell y) (to_z-of_z s.ranges.a) (to_z-of_z s.ranges.b))
+    ∙ ap₂ (λ (x y : ℤ). read_cell absent_cell x ⊕ read_cell absent_cell y) (to_z-of_z c.ranges.a) (to_z-of_z c.ranges.b))
 
 pub join_spec : {M : Type 1} → statement M
 join_spec = tie.close (tie.spec

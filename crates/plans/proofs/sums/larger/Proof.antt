@@ -7,13 +7,11 @@ use Rattle.plans.proofs.sums.larger.Tie as tie
 
 returns-then-a-b : tie.Need-returns-then-a-b
 returns-then-a-b c =
-    let s = c in
-    to_z-of_z s.ranges.b ∙ larger_second s.args.a s.args.b s.ranges.a (rw (to_z-of_z {w = w32} s.ranges.a, to_z-of_z {w = w32} s.ranges.b) at c.if-a-b.true)
+    to_z-of_z c.ranges.b ∙ larger_second c.args.a c.args.b c.ranges.a (rw (to_z-of_z {w = w32} c.ranges.a, to_z-of_z {w = w32} c.ranges.b) at c.if-a-b.true)
 
 returns : tie.Need-returns
 returns c =
-    let s = c in
-    to_z-of_z s.ranges.a ∙ larger_first s.args.a s.args.b s.ranges.b (rw (to_z-of_z {w = w32} s.ranges.a, to_z-of_z {w = w32} s.ranges.b) at c.if-a-b.false)
+    to_z-of_z c.ranges.a ∙ larger_first c.args.a c.args.b c.ranges.b (rw (to_z-of_z {w = w32} c.ranges.a, to_z-of_z {w = w32} c.ranges.b) at c.if-a-b.false)
 
 pub larger_spec : {M : Type 1} → statement M
 larger_spec = tie.close (tie.spec

@@ -17,13 +17,11 @@ use Rattle.plans.proofs.sums.sum.Tie as tie
 
 returns-then-not-is_arc : tie.Need-returns-then-not-is_arc
 returns-then-not-is_arc c =
-    let s = c in
-    read_absent absent_cell absent_cell refl ∙ sym (sum_absent_l s.args.a s.args.b (arc_said s.ranges.a c.is_arc.ensures ∙ not-true _ c.if-not-is_arc.true-raw))
+    read_absent absent_cell absent_cell refl ∙ sym (sum_absent_l c.args.a c.args.b (arc_said c.ranges.a c.is_arc.ensures ∙ not-true _ c.if-not-is_arc.true-raw))
 
 returns-then-not-is_arc-2 : tie.Need-returns-then-not-is_arc-2
 returns-then-not-is_arc-2 c =
-    let s = c in
-    read_absent absent_cell absent_cell refl ∙ sym (sum_absent_r s.args.a s.args.b (arc_said s.ranges.b c.is_arc-2.ensures ∙ not-true _ c.if-not-is_arc-2.true-raw))
+    read_absent absent_cell absent_cell refl ∙ sym (sum_absent_r c.args.a c.args.b (arc_said c.ranges.b c.is_arc-2.ensures ∙ not-true _ c.if-not-is_arc-2.true-raw))
 
 -- both parts are there
 module _ (c : tie.Else-not-is_arc-2) where

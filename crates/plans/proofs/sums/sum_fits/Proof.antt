@@ -11,19 +11,16 @@ use Rattle.plans.proofs.sums.sum_fits.Statement.{statement}
 use Rattle.plans.proofs.sums.sum_fits.Tie as tie
 
 returns-then-not-is_arc : tie.Need-returns-then-not-is_arc
-returns-then-not-is_arc c = let s = c in sym (ap (fits delay_limit) (sum_absent_l s.args.a s.args.b (arc_said s.ranges.a c.is_arc.ensures ∙ not-true _ c.if-not-is_arc.true-raw)))
+returns-then-not-is_arc c = sym (ap (fits delay_limit) (sum_absent_l c.args.a c.args.b (arc_said c.ranges.a c.is_arc.ensures ∙ not-true _ c.if-not-is_arc.true-raw)))
 
 returns-then-not-is_arc-2 : tie.Need-returns-then-not-is_arc-2
-returns-then-not-is_arc-2 c = let s = c in sym (ap (fits delay_limit) (sum_absent_r s.args.a s.args.b (arc_said s.ranges.b c.is_arc-2.ensures ∙ not-true _ c.if-not-is_arc-2.true-raw)))
+returns-then-not-is_arc-2 c = sym (ap (fits delay_limit) (sum_absent_r c.args.a c.args.b (arc_said c.ranges.b c.is_arc-2.ensures ∙ not-true _ c.if-not-is_arc-2.true-raw)))
 
 returns : tie.Need-returns
 returns c =
-    let e = c in
-    let f = e in
-    let s = f in
     c.in_range.ensures
-    ∙ ap (λ (z : ℤ). fits delay_limit (at z)) (handed w64 (c.wide_sum.ensures ∙ ap₂ ◌+ℤ◌ (to_z-of_z s.ranges.a) (to_z-of_z s.ranges.b)) (sum_widens s.ranges.a s.ranges.b))
-    ∙ sym (ap (fits delay_limit) (sum_at s.args.a s.args.b (arc_said s.ranges.a f.is_arc.ensures ∙ not-false _ f.if-not-is_arc.false-raw) (arc_said s.ranges.b e.is_arc-2.ensures ∙ not-false _ e.if-not-is_arc-2.false-raw)))
+    ∙ ap (λ (z : ℤ). fits delay_limit (at z)) (handed w64 (c.wide_sum.ensures ∙ ap₂ ◌+ℤ◌ (to_z-of_z c.ranges.a) (to_z-of_z c.ranges.b)) (sum_widens c.ranges.a c.ranges.b))
+    ∙ sym (ap (fits delay_limit) (sum_at c.args.a c.args.b (arc_said c.ranges.a c.is_arc.ensures ∙ not-false _ c.if-not-is_arc.false-raw) (arc_said c.ranges.b c.is_arc-2.ensures ∙ not-false _ c.if-not-is_arc-2.false-raw)))
 
 pub sum_fits_spec : {M : Type 1} → statement M
 sum_fits_spec =

@@ -11,15 +11,14 @@ use Rattle.plans.proofs.sums.wide_sum.Tie as tie
 -- the two numbers as the sum reads them
 parts : (c : tie.After-wide-2) → let s = c in to_z w64 (of_z w64 c.wide.result) +ℤ to_z w64 (of_z w64 c.wide-2.result) ≡ s.args.a +ℤ s.args.b
 parts c =
-    let s = c in
-    ap₂ ◌+ℤ◌ (handed w64 (c.wide.ensures ∙ to_z-of_z s.ranges.a) (widens s.ranges.a))
-    (handed w64 (c.wide-2.ensures ∙ to_z-of_z s.ranges.b) (widens s.ranges.b))
+    ap₂ ◌+ℤ◌ (handed w64 (c.wide.ensures ∙ to_z-of_z c.ranges.a) (widens c.ranges.a))
+    (handed w64 (c.wide-2.ensures ∙ to_z-of_z c.ranges.b) (widens c.ranges.b))
 
 overflow_add-result : tie.Need-overflow_add-result
-overflow_add-result c = let s = c in subst (SFits w64) (sym (parts c)) (sum_widens s.ranges.a s.ranges.b)
+overflow_add-result c = subst (SFits w64) (sym (parts c)) (sum_widens c.ranges.a c.ranges.b)
 
 returns : tie.Need-returns
-returns c = let s = c in handed w64 (parts c) (sum_widens s.ranges.a s.ranges.b)
+returns c = handed w64 (parts c) (sum_widens c.ranges.a c.ranges.b)
 
 pub wide_sum_spec : {M : Type 1} → statement M
 wide_sum_spec = tie.close (tie.spec

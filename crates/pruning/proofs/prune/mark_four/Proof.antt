@@ -23,12 +23,11 @@ abbrev decreases-loop : tie.decreases-loop-l
 decreases-loop board table order chain i f₀ marks₀ n l₀ f marks l = 4 - l
 
 delays_from_four-requires : tie.Need-delays_from_four-requires invariant-loop decreases-loop
-delays_from_four-requires c κs = let s = c in (s.requires.0, (s.requires.1.0, (omega (arith, s.requires.1.1.0, s.requires.0.checked.sound.room), s.requires.1.1.1.0)))
+delays_from_four-requires c κs = (c.requires.0, (c.requires.1.0, (omega (arith, c.requires.1.1.0, c.requires.0.checked.sound.room), c.requires.1.1.1.0)))
 
 loop-l-init : tie.Need-loop-l-init invariant-loop decreases-loop
 loop-l-init c =
-    let s = c in
-    (omega arith, refl, lanes_start _ _ _, none_yet s.args.board.vertices (λ k. decider s.args.board s.args.table.now (s.args.i + k)) s.args.marks.now)
+    (omega arith, refl, lanes_start _ _ _, none_yet c.args.board.vertices (λ k. decider c.args.board c.args.table.now (c.args.i + k)) c.args.marks.now)
 
 -- after the pass forwards
 module _ (h : tie.At-loop-l invariant-loop decreases-loop) where
@@ -85,14 +84,13 @@ slice_bounds-sweep-end c = omega (arith, room c, (h c).loop-l.invariant.2.size)
 
 sweep-requires : tie.Need-sweep-requires invariant-loop decreases-loop
 sweep-requires c κs =
-    let t = c in
-    let a = h t.before.before in
+    let a = h c.before.before in
     let b = s a in (
       b.requires.0,
       (
         b.requires.1.0,
         (
-          record { input = b.args.i + l t.before.before; delays = subst (DelaysIn b.args.board b.args.table.now (b.args.i + l t.before.before)) (sym (lanes_part a.loop-l.invariant.2)) (delays t.before.before) },
+          record { input = b.args.i + l c.before.before; delays = subst (DelaysIn b.args.board b.args.table.now (b.args.i + l c.before.before)) (sym (lanes_part a.loop-l.invariant.2)) (delays c.before.before) },
           omega (arith, b.requires.1.1.1.1, a.loop-l.invariant.1),
         ),
       ),
@@ -125,18 +123,17 @@ loop-l-preserved c =
     )
 
 shape_of-f : tie.Need-shape_of-f invariant-loop decreases-loop
-shape_of-f c = let a = c in a.loop-l.invariant.2.size ∙ (d a.before).delays_from_four.auto.f
+shape_of-f c = c.loop-l.invariant.2.size ∙ (d c.before).delays_from_four.auto.f
 
 shape_of-marks : tie.Need-shape_of-marks invariant-loop decreases-loop
 shape_of-marks c = c.loop-l.invariant.1
 
 returns : tie.Need-returns invariant-loop decreases-loop
 returns c =
-    let a = c in
-    let b = s a.before in
-    let e : a.loop-l.l ≡ 4 = omega (arith, a.loop-l.invariant.0, c.loop-l-test.false) in (
-      subst (λ (k : ℕ). AlsoMarked (n a.before) (up_to (λ x. decider b.args.board b.args.table.now (b.args.i + x)) k) b.args.marks.now a.loop-l.marks) e a.loop-l.invariant.3,
-      subst (λ (k : ℕ). drop (n a.before * k) a.loop-l.f ≡ drop (n a.before * k) (f₀ a.before)) e (lanes_past a.loop-l.invariant.2) ∙ (d a.before).delays_from_four.ensures.1,
+    let b = s c.before in
+    let e : c.loop-l.l ≡ 4 = omega (arith, c.loop-l.invariant.0, c.loop-l-test.false) in (
+      subst (λ (k : ℕ). AlsoMarked (n c.before) (up_to (λ x. decider b.args.board b.args.table.now (b.args.i + x)) k) b.args.marks.now c.loop-l.marks) e c.loop-l.invariant.3,
+      subst (λ (k : ℕ). drop (n c.before * k) c.loop-l.f ≡ drop (n c.before * k) (f₀ c.before)) e (lanes_past c.loop-l.invariant.2) ∙ (d c.before).delays_from_four.ensures.1,
     )
 
 pub mark_four_spec : {M : Type 1} → statement M

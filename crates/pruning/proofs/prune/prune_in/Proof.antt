@@ -39,7 +39,7 @@ abbrev marked_of : tie.After-some_unmarked → tie.After-prune_marks
 marked_of c = c.before.before.before.before
 
 some_unmarked-requires : tie.Need-some_unmarked-requires
-some_unmarked-requires c κs = let k = c in ((s k.before.before.before).requires.0.checked.lent, room k.before.before.before)
+some_unmarked-requires c κs = ((s c.before.before.before).requires.0.checked.lent, room c.before.before.before)
 
 -- prune's plan, from its verdict
 abbrev kept : tie.Start → Unit {0} → Graph
@@ -60,13 +60,11 @@ thin-requires c κs = let k = marked_of c.before.before in ((s k).requires.0.che
 returns : tie.Need-returns
 unfolding plan
 returns c =
-    let w = c in
-    let e = w in
-    let k = marked_of e.before.before.before.before in
+    let k = marked_of c.before.before.before.before in
     let b = (s k).args.board in
     let t = (s k).args.table.now in
-    let go = some_go b t (marks k) (marked k) (sym e.some_unmarked.ensures ∙ not-false _ e.if-not-some_unmarked.false-raw) in
-    (step_done b t prune (kept (s k)) tt go refl w.thin.new.table (w.thin.ensures ∙ same_table b t (marks k) (marked k)), k.prune_marks.ensures.1)
+    let go = some_go b t (marks k) (marked k) (sym c.some_unmarked.ensures ∙ not-false _ c.if-not-some_unmarked.false-raw) in
+    (step_done b t prune (kept (s k)) tt go refl c.thin.new.table (c.thin.ensures ∙ same_table b t (marks k) (marked k)), k.prune_marks.ensures.1)
 
 pub prune_in_spec : {M : Type 1} → statement M
 prune_in_spec =

@@ -34,9 +34,8 @@ slice_bounds-chains-end c = sym c.cell_bytes-chain.ensures
 
 chains-requires : tie.Need-chains-requires invariant-loop decreases-loop invariant-loop2 decreases-loop2
 chains-requires c κs =
-    let s = c in
-    let l = s.requires.0 in
-    (l, omega (arith, c.cell_bytes-chain.ensures, board_area s.args.board l.checked.lent.sized))
+    let l = c.requires.0 in
+    (l, omega (arith, c.cell_bytes-chain.ensures, board_area c.args.board l.checked.lent.sized))
 
 -- the loop begins
 module _ (h : tie.At-loop-i invariant-loop decreases-loop invariant-loop2 decreases-loop2) where
@@ -57,8 +56,7 @@ module _ (h : tie.At-loop-i invariant-loop decreases-loop invariant-loop2 decrea
 
 loop-i-init : tie.Need-loop-i-init invariant-loop decreases-loop invariant-loop2 decreases-loop2
 loop-i-init c =
-    let s = c in
-    (omega arith, refl, refl, refl, none_yet s.args.board.vertices (decider s.args.board s.args.table.now) s.args.marks.now)
+    (omega arith, refl, refl, refl, none_yet c.args.board.vertices (decider c.args.board c.args.table.now) c.args.marks.now)
 
 -- ---- four inputs
 
@@ -77,10 +75,9 @@ module _ (t : tie.In-loop-i invariant-loop decreases-loop invariant-loop2 decrea
 
 mark_four-requires : tie.Need-mark_four-requires invariant-loop decreases-loop invariant-loop2 decreases-loop2
 mark_four-requires c κs =
-    let t = c in
-    let a = h t.before.before.before in
+    let a = h c.before.before.before in
     let s = start a in
-    (s.requires.0, ((made a).chains.ensures, (t.loop-i-test.true, (omega (arith, a.loop-i.invariant.1, s.requires.1.0, lanes t.before.before.before), omega (arith, a.loop-i.invariant.2, s.requires.1.1)))))
+    (s.requires.0, ((made a).chains.ensures, (c.loop-i-test.true, (omega (arith, a.loop-i.invariant.1, s.requires.1.0, lanes c.before.before.before), omega (arith, a.loop-i.invariant.2, s.requires.1.1)))))
 
 abbrev marked : tie.After-slice_known-in-loop-i-1 invariant-loop decreases-loop invariant-loop2 decreases-loop2 → tie.After-mark_four invariant-loop decreases-loop invariant-loop2 decreases-loop2
 marked c = c.before.before.before
@@ -124,11 +121,10 @@ slice_bounds-mark_from-end c = chain_long (from c.before)
 
 mark_from-requires : tie.Need-mark_from-requires invariant-loop decreases-loop invariant-loop2 decreases-loop2
 mark_from-requires c κs =
-    let t = c in
-    let a = from t.before.before.before in
+    let a = from c.before.before.before in
     let s = start a in (
       s.requires.0,
-      ((made a).chains.ensures, (t.loop-i-2-test.true, (omega (arith, (r t.before.before.before).loop-i-2.invariant.1, a.loop-i.invariant.1, s.requires.1.0, vector_fits s.args.board s.requires.0.checked.lent.sized), omega (arith, (r t.before.before.before).loop-i-2.invariant.2, a.loop-i.invariant.2, s.requires.1.1)))),
+      ((made a).chains.ensures, (c.loop-i-2-test.true, (omega (arith, (r c.before.before.before).loop-i-2.invariant.1, a.loop-i.invariant.1, s.requires.1.0, vector_fits s.args.board s.requires.0.checked.lent.sized), omega (arith, (r c.before.before.before).loop-i-2.invariant.2, a.loop-i.invariant.2, s.requires.1.1)))),
     )
 
 abbrev marked_2 : tie.After-slice_known-in-loop-i-2-1 invariant-loop decreases-loop invariant-loop2 decreases-loop2 → tie.After-mark_from invariant-loop decreases-loop invariant-loop2 decreases-loop2
@@ -158,18 +154,16 @@ loop-i-2-preserved c =
     )
 
 shape_of-scratch : tie.Need-shape_of-scratch invariant-loop decreases-loop invariant-loop2 decreases-loop2
-shape_of-scratch c = let l = c in l.loop-i-2.invariant.1 ∙ l.loop-i.invariant.1
+shape_of-scratch c = c.loop-i-2.invariant.1 ∙ c.loop-i.invariant.1
 
 shape_of-marks : tie.Need-shape_of-marks invariant-loop decreases-loop invariant-loop2 decreases-loop2
-shape_of-marks c = let l = c in l.loop-i-2.invariant.2 ∙ l.loop-i.invariant.2
+shape_of-marks c = c.loop-i-2.invariant.2 ∙ c.loop-i.invariant.2
 
 returns : tie.Need-returns invariant-loop decreases-loop invariant-loop2 decreases-loop2
 returns c =
-    let l = c in
-    let a = l in
-    let s = start a.before.before.before in (
-      all_inputs s.args.board s.args.table.now s.args.marks.now l.loop-i-2.marks l.loop-i-2.i (omega (arith, l.loop-i-2.invariant.0, c.loop-i-2-test.false)) (l.loop-i-2.invariant.4 s.args.marks.now a.loop-i.invariant.4),
-      l.loop-i-2.invariant.3 ∙ a.loop-i.invariant.3,
+    let s = start c.before.before.before in (
+      all_inputs s.args.board s.args.table.now s.args.marks.now c.loop-i-2.marks c.loop-i-2.i (omega (arith, c.loop-i-2.invariant.0, c.loop-i-2-test.false)) (c.loop-i-2.invariant.4 s.args.marks.now c.loop-i.invariant.4),
+      c.loop-i-2.invariant.3 ∙ c.loop-i.invariant.3,
     )
 
 pub prune_marks_spec : {M : Type 1} → statement M

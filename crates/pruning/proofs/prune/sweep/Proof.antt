@@ -86,13 +86,13 @@ bounds-order-p : tie.Need-bounds-order-p invariant-loop decreases-loop
 bounds-order-p c = omega (arith, c.loop-p-test.true, (going c.before (i (h c.before)) (S (h c.before))).upto, (s (h c.before)).requires.0.checked.lent.sized.few)
 
 overflow_cast-u : tie.Need-overflow_cast-u invariant-loop decreases-loop
-overflow_cast-u c = let t = c in omega (arith, vertex t.before.before, (s (h t.before.before)).requires.0.checked.lent.sized.few)
+overflow_cast-u c = omega (arith, vertex c.before.before, (s (h c.before.before)).requires.0.checked.lent.sized.few)
 
 offset_bounds-f-u : tie.Need-offset_bounds-f-u invariant-loop decreases-loop
-offset_bounds-f-u c = let t = c in omega (arith, vertex t.before.before, (s (h t.before.before)).requires.0.checked.lent.sized.few)
+offset_bounds-f-u c = omega (arith, vertex c.before.before, (s (h c.before.before)).requires.0.checked.lent.sized.few)
 
 slice_copy_out-a : tie.Need-slice_copy_out-a invariant-loop decreases-loop
-slice_copy_out-a c = let t = c in omega (arith, vertex t.before.before, (S (h t.before.before)).delays.room, (going t.before.before (i (h t.before.before)) (S (h t.before.before))).long)
+slice_copy_out-a c = omega (arith, vertex c.before.before, (S (h c.before.before)).delays.room, (going c.before.before (i (h c.before.before)) (S (h c.before.before))).long)
 
 overflow_mul-at : tie.Need-overflow_mul-at invariant-loop decreases-loop
 overflow_mul-at c = let t = turn_of c in omega (arith, row t, vertex t, area t)
@@ -134,12 +134,11 @@ module _ (k : tie.Then-a invariant-loop decreases-loop) where
 
 mark_row-found-requires : tie.Need-mark_row-found-requires invariant-loop decreases-loop
 mark_row-found-requires c κs =
-    let k = c in
-    let t = turn_of k.before.before.before in
+    let t = turn_of c.before.before.before in
     let b = s (h t) in
     let p = b.requires.0 in (
-      subst Reached (sym (back w64 _ k.a-1.given)) (reached k.before.before.before),
-      subst (λ (z : ℕ). Pushable z (lent (n (h t)) b.args.table.now (x t) p.checked.lent.room (vertex t)) (lent_chain b.requires.1.0 (x t) p.checked.lent.room (vertex t)) (h t).loop-p.f) (sym (part k.before.before.before))
+      subst Reached (sym (back w64 _ c.a-1.given)) (reached c.before.before.before),
+      subst (λ (z : ℕ). Pushable z (lent (n (h t)) b.args.table.now (x t) p.checked.lent.room (vertex t)) (lent_chain b.requires.1.0 (x t) p.checked.lent.room (vertex t)) (h t).loop-p.f) (sym (part c.before.before.before))
           (pushable p b.requires.1.0 (x t) (vertex t) (h t).loop-p.f (omega (arith, (S (h t)).delays.room, (going t (i (h t)) (S (h t))).long))),
     )
 
@@ -181,9 +180,8 @@ loop-p-smaller-then-not-is_alive c = omega (arith, (now c.before).loop-p-test.tr
 
 loop-p-preserved-then-not-is_alive : tie.Need-loop-p-preserved-then-not-is_alive invariant-loop decreases-loop
 loop-p-preserved-then-not-is_alive c j w =
-    let e = c in
-    let t = now e.before in
-    A.turn_dead w (h t).loop-p.f (h t).loop-p.marks (q t) (going t j w) (s (h t)).requires.1.0 (ys e.before) (r e.before).mark_row-found.result e.is_alive.result (marked e.before j w) (other_bits w64 (k e.before).if-a.true) e.is_alive.ensures (r e.before).mark_row-found.auto.marks
+    let t = now c.before in
+    A.turn_dead w (h t).loop-p.f (h t).loop-p.marks (q t) (going t j w) (s (h t)).requires.1.0 (ys c.before) (r c.before).mark_row-found.result c.is_alive.result (marked c.before j w) (other_bits w64 (k c.before).if-a.true) c.is_alive.ensures (r c.before).mark_row-found.auto.marks
     (not-true _ c.if-not-is_alive.true-raw)
 
 loop-p-smaller-else-not-is_alive : tie.Need-loop-p-smaller-else-not-is_alive invariant-loop decreases-loop
@@ -191,9 +189,8 @@ loop-p-smaller-else-not-is_alive c = omega (arith, (now c.before).loop-p-test.tr
 
 loop-p-preserved-else-not-is_alive : tie.Need-loop-p-preserved-else-not-is_alive invariant-loop decreases-loop
 loop-p-preserved-else-not-is_alive c j w =
-    let e = c in
-    let t = now e.before in
-    A.turn_alive w (h t).loop-p.f (h t).loop-p.marks (q t) (going t j w) (s (h t)).requires.1.0 (ys e.before) (r e.before).mark_row-found.result e.is_alive.result (marked e.before j w) (other_bits w64 (k e.before).if-a.true) e.is_alive.ensures (r e.before).mark_row-found.auto.marks
+    let t = now c.before in
+    A.turn_alive w (h t).loop-p.f (h t).loop-p.marks (q t) (going t j w) (s (h t)).requires.1.0 (ys c.before) (r c.before).mark_row-found.result c.is_alive.result (marked c.before j w) (other_bits w64 (k c.before).if-a.true) c.is_alive.ensures (r c.before).mark_row-found.auto.marks
     (not-false _ c.if-not-is_alive.false-raw)
 
 loop-p-smaller : tie.Need-loop-p-smaller invariant-loop decreases-loop
@@ -201,22 +198,20 @@ loop-p-smaller c = omega (arith, c.loop-p-test.true)
 
 loop-p-preserved : tie.Need-loop-p-preserved invariant-loop decreases-loop
 loop-p-preserved c j w =
-    let t = c in
-    A.skip w (h t.before.before.before.before).loop-p.f (h t.before.before.before.before).loop-p.marks (q t.before.before.before.before) (going t.before.before.before.before j w) (same_bits {w = w64} {b = absent_wide} (record { sfits = c.a-1.given }) (sfits_lit tt) c.if-a.false)
+    A.skip w (h c.before.before.before.before).loop-p.f (h c.before.before.before.before).loop-p.marks (q c.before.before.before.before) (going c.before.before.before.before j w) (same_bits {w = w64} {b = absent_wide} (record { sfits = c.a-1.given }) (sfits_lit tt) c.if-a.false)
 
 shape_of-f : tie.Need-shape_of-f invariant-loop decreases-loop
-shape_of-f c = let l = c in (l.loop-p.invariant (i l.before) (S l.before)).long
+shape_of-f c = (c.loop-p.invariant (i c.before) (S c.before)).long
 
 shape_of-marks : tie.Need-shape_of-marks invariant-loop decreases-loop
-shape_of-marks c = let l = c in (l.loop-p.invariant (i l.before) (S l.before)).size
+shape_of-marks c = (c.loop-p.invariant (i c.before) (S c.before)).size
 
 returns : tie.Need-returns invariant-loop decreases-loop
 returns c =
-    let l = c in
-    let e : l.loop-p.p ≡ 0 = omega (arith, c.loop-p-test.false) in (
-      λ j D. A.end (from l.before j D) l.loop-p.f l.loop-p.marks
-          (subst (λ (k : ℕ). A.Going (s l.before).args.board j (s l.before).args.table.now (from l.before j D).passable.order.rank (s l.before).args.f.now l.loop-p.f (s l.before).args.marks.now l.loop-p.marks k) e (l.loop-p.invariant j (from l.before j D))),
-      (l.loop-p.invariant (i l.before) (S l.before)).past,
+    let e : c.loop-p.p ≡ 0 = omega (arith, c.loop-p-test.false) in (
+      λ j D. A.end (from c.before j D) c.loop-p.f c.loop-p.marks
+          (subst (λ (k : ℕ). A.Going (s c.before).args.board j (s c.before).args.table.now (from c.before j D).passable.order.rank (s c.before).args.f.now c.loop-p.f (s c.before).args.marks.now c.loop-p.marks k) e (c.loop-p.invariant j (from c.before j D))),
+      (c.loop-p.invariant (i c.before) (S c.before)).past,
     )
 
 pub sweep_spec : {M : Type 1} → statement M

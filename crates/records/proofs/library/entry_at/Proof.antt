@@ -36,10 +36,10 @@ returns-in-Cell : tie.Need-returns-in-Cell
 returns-in-Cell c = marked c.before _ c.in-Cell.is
 
 returns-in-End : tie.Need-returns-in-End
-returns-in-End c = let o = c in c.count_at.ensures ∙ marked o.before.before _ o.in-End.is
+returns-in-End c = c.count_at.ensures ∙ marked c.before.before _ c.in-End.is
 
 returns-in-Library : tie.Need-returns-in-Library
-returns-in-Library c = let o = c in c.ticks_at.ensures ∙ marked o.before.before _ o.in-Library.is
+returns-in-Library c = c.ticks_at.ensures ∙ marked c.before.before _ c.in-Library.is
 
 returns-in-Other : tie.Need-returns-in-Other
 returns-in-Other c = marked c.before _ c.in-Other.is

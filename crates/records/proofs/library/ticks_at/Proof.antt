@@ -43,7 +43,7 @@ module _ (b : tie.After-byte-code) where
   code_is = sym b.byte-code.ensures.0
 
 returns-then-code-ge-CODES : tie.Need-returns-then-code-ge-CODES
-returns-then-code-ge-CODES c = let b = c in simp (whole b.before, code_is b.before, le-ltb b.byte-code.result library_cells c.if-code-ge-CODES.true)
+returns-then-code-ge-CODES c = simp (whole c.before, code_is c.before, le-ltb c.byte-code.result library_cells c.if-code-ge-CODES.true)
 
 -- the code is below 32, and the ticks are asked
 module _ (f : tie.After-ticks_fit) where
@@ -69,9 +69,8 @@ narrow-requires c κs = below-fits ticks_limit (to_z w64 (of_z w64 c.decode-tick
 
 returns : tie.Need-returns
 returns c =
-    let f = c in
-    (λ i. accepted (E.Ticks (e f.before.before).byte-code.result ((back w32 _ c.narrow.type_inv ∙ c.narrow.ensures ∙ handed_on f.before.before) i)))
-    ∙ sym (entry f.before.before true (not-false _ c.if-not-ticks_fit.false-raw))
+    (λ i. accepted (E.Ticks (e c.before.before).byte-code.result ((back w32 _ c.narrow.type_inv ∙ c.narrow.ensures ∙ handed_on c.before.before) i)))
+    ∙ sym (entry c.before.before true (not-false _ c.if-not-ticks_fit.false-raw))
 
 pub ticks_at_spec : {M : Type 1} → statement M
 ticks_at_spec =

@@ -7,14 +7,11 @@ use Rattle.records.proofs.lines.arc_line.Tie as tie
 
 triple_line-requires : tie.Need-triple_line-requires
 triple_line-requires c κs =
-    let s = c in
-    simp (to_z-of_z {w = w32} s.ranges.delay) (omega (arith, s.requires.0), (omega (arith, s.requires.1.0), s.requires.1.1))
+    simp (to_z-of_z {w = w32} c.ranges.delay) (omega (arith, c.requires.0), (omega (arith, c.requires.1.0), c.requires.1.1))
 
 returns : tie.Need-returns
 returns c =
-    let l = c in
-    let s = l in
-    rw (to_z-of_z {w = w32} s.ranges.delay) at l.triple_line.ensures
+    rw (to_z-of_z {w = w32} c.ranges.delay) at c.triple_line.ensures
 
 pub arc_line_spec : {M : Type 1} → statement M
 arc_line_spec = tie.close (tie.spec

@@ -16,14 +16,11 @@ held s = to_z_pos w32 (omega (arith, s.requires.1.1.0))
 
 triple_line-requires : tie.Need-triple_line-requires
 triple_line-requires c κs =
-    let s = c in
-    simp (held s.before.before.before.before) (omega (arith, s.requires.0), (omega (arith, s.requires.1.0), (le→leb s.args.vertices delay_limit (omega (arith, s.requires.1.1.0)), s.requires.1.1.1)))
+    simp (held c.before.before.before.before) (omega (arith, c.requires.0), (omega (arith, c.requires.1.0), (le→leb c.args.vertices delay_limit (omega (arith, c.requires.1.1.0)), c.requires.1.1.1)))
 
 returns : tie.Need-returns
 returns c =
-    let l = c in
-    let s = l in
-    rw (held s.before.before.before.before.before.before.before) at l.triple_line.ensures
+    rw (held c.before.before.before.before.before.before.before) at c.triple_line.ensures
 
 pub board_line_spec : {M : Type 1} → statement M
 board_line_spec =

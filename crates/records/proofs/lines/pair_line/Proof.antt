@@ -57,29 +57,26 @@ module _ (c : tie.After-put_number-e) where
 
 put_text-a-requires : tie.Need-put_text-a-requires
 put_text-a-requires c κs =
-    let s = c in
-    first_fits (first s.before.before.before.before) (x s.before.before.before.before ∷ second s.before.before.before.before ∷ y s.before.before.before.before ∷ []) s.args.out.now s.args.at s.requires.1.1
+    first_fits (first c.before.before.before.before) (x c.before.before.before.before ∷ second c.before.before.before.before ∷ y c.before.before.before.before ∷ []) c.args.out.now c.args.at c.requires.1.1
 
 put_number-b-requires : tie.Need-put_number-b-requires
-put_number-b-requires c κs = let t = c in ((s t.before.before.before).requires.0, word_fits (left_x t.before.before.before) (s t.before.before.before).requires.1.1)
+put_number-b-requires c κs = ((s c.before.before.before).requires.0, word_fits (left_x c.before.before.before) (s c.before.before.before).requires.1.1)
 
 put_byte-c-requires : tie.Need-put_byte-c-requires
-put_byte-c-requires c κs = let t = c in omega (arith, word_fits (left_second t.before.before.before) (s (a t.before.before.before)).requires.1.1)
+put_byte-c-requires c κs = omega (arith, word_fits (left_second c.before.before.before) (s (a c.before.before.before)).requires.1.1)
 
 put_text-d-requires : tie.Need-put_text-d-requires
 put_text-d-requires c κs =
-    let space = c in
-    let t = space in
-    omega (arith, word_fits (left_second t.before.before.before.before.before.before.before) (s (a t.before.before.before.before.before.before.before)).requires.1.1, space.put_byte-c.ensures.end, space.put_byte-c.auto.out)
+    omega (arith, word_fits (left_second c.before.before.before.before.before.before.before) (s (a c.before.before.before.before.before.before.before)).requires.1.1, c.put_byte-c.ensures.end, c.put_byte-c.auto.out)
 
 put_number-e-requires : tie.Need-put_number-e-requires
-put_number-e-requires c κs = let t = c in ((s (a (b t.before.before.before))).requires.1.0, word_fits (left_y t.before.before.before) (s (a (b t.before.before.before))).requires.1.1)
+put_number-e-requires c κs = ((s (a (b c.before.before.before))).requires.1.0, word_fits (left_y c.before.before.before) (s (a (b c.before.before.before))).requires.1.1)
 
 put_byte-requires : tie.Need-put_byte-requires
-put_byte-requires c κs = let t = c in omega (arith, end_fits (left_none t.before.before.before) (s (a (b (d t.before.before.before)))).requires.1.1)
+put_byte-requires c κs = omega (arith, end_fits (left_none c.before.before.before) (s (a (b (d c.before.before.before)))).requires.1.1)
 
 returns : tie.Need-returns
-returns c = let end = c in line_end (left_none end.before.before.before.before.before.before) end.put_byte.ensures
+returns c = line_end (left_none c.before.before.before.before.before.before) c.put_byte.ensures
 
 pub pair_line_spec : {M : Type 1} → statement M
 pair_line_spec =

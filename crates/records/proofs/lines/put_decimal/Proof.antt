@@ -49,19 +49,15 @@ module _ (i : tie.In-loop-power invariant-loop decreases-loop) where
 
 put_byte-next-requires : tie.Need-put_byte-next-requires invariant-loop decreases-loop
 put_byte-next-requires c κs =
-    let i = c in
-    let room = remains_fits (loop i.before.before).loop-power.invariant.2 (loop i.before.before).requires.1 (c.digit.result ∷ []) (digits (some i.before.before).0 (x i.before.before)) (first_digit i.before.before c.digit.result c.digit.ensures) in
+    let room = remains_fits (loop c.before.before).loop-power.invariant.2 (loop c.before.before).requires.1 (c.digit.result ∷ []) (digits (some c.before.before).0 (x c.before.before)) (first_digit c.before.before c.digit.result c.digit.ensures) in
     omega (arith, room)
 
 loop-power-smaller : tie.Need-loop-power-smaller invariant-loop decreases-loop
-loop-power-smaller c = let i = c in omega (arith, i.loop-power-test.true)
+loop-power-smaller c = omega (arith, c.loop-power-test.true)
 
 loop-power-preserved : tie.Need-loop-power-preserved invariant-loop decreases-loop
 loop-power-preserved c =
-    let b = c in
-    let d = b in
-    let i = d in
-    ((some i.before.before.before.before.before).0, ap (λ (p : ℕ). p / 10) ((loop i.before.before.before.before.before).loop-power.invariant.1 ∙ (some i.before.before.before.before.before).2), remains_next (loop i.before.before.before.before.before).loop-power.invariant.2 (first_digit i.before.before.before.before.before d.digit.result d.digit.ensures) b.put_byte-next.ensures)
+    ((some c.before.before.before.before.before).0, ap (λ (p : ℕ). p / 10) ((loop c.before.before.before.before.before).loop-power.invariant.1 ∙ (some c.before.before.before.before.before).2), remains_next (loop c.before.before.before.before.before).loop-power.invariant.2 (first_digit c.before.before.before.before.before c.digit.result c.digit.ensures) c.put_byte-next.ensures)
 
 shape_of-out : tie.Need-shape_of-out invariant-loop decreases-loop
 shape_of-out c = remains_length c.loop-power.invariant.2

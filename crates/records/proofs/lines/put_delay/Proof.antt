@@ -24,16 +24,15 @@ module _ (c : tie.Start) where
   held = to_z-of_z {w = w32} c.ranges.d
 
 signed : (c : tie.Then-d-lt0) → Below (d c.before.before)
-signed c = let s = c in below (d s.before.before) s.ranges.d s.requires.0 (less_yes (d s.before.before) (pos 0) (rw (held s.before.before) at c.if-d-lt0.true))
+signed c = below (d c.before.before) c.ranges.d c.requires.0 (less_yes (d c.before.before) (pos 0) (rw (held c.before.before) at c.if-d-lt0.true))
 
 unsigned : (c : tie.Else-d-lt0) → Above (d c.before.before)
-unsigned c = let s = c in above (d s.before.before) s.ranges.d s.requires.0 (rw (held s.before.before) at c.if-d-lt0.false)
+unsigned c = above (d c.before.before) c.ranges.d c.requires.0 (rw (held c.before.before) at c.if-d-lt0.false)
 
 put_byte-next-requires : tie.Need-put_byte-next-requires
 put_byte-next-requires c κs =
-    let s = c in
     let b = signed c.before in
-    omega (arith, s.requires.1, ap length (minus (d s.before.before.before) (b.k + 1) b.value (omega arith)))
+    omega (arith, c.requires.1, ap length (minus (d c.before.before.before) (b.k + 1) b.value (omega arith)))
 
 module _ (c : tie.After-negated) where
   abbrev sign : tie.After-put_byte-next
@@ -50,24 +49,19 @@ put_decimal-requires c κs = (c.negated.ensures.2, omega (arith, (start c).requi
 
 returns-then-d-lt0 : tie.Need-returns-then-d-lt0
 returns-then-d-lt0 c =
-    let digits = c in
-    let n = digits in
-    appends_same (sym (printed n.before.before.before)) (appends_more (sign n.before.before.before).put_byte-next.ensures digits.put_decimal.ensures)
+    appends_same (sym (printed c.before.before.before)) (appends_more (sign c.before.before.before).put_byte-next.ensures c.put_decimal.ensures)
 
 overflow_cast-d : tie.Need-overflow_cast-d
 overflow_cast-d c = let u = unsigned c.before in simp (held c.before.before.before) (u.sign, u.fits)
 
 put_decimal-requires-2 : tie.Need-put_decimal-requires-2
 put_decimal-requires-2 c κs =
-    let s = c in
     let u = unsigned c.before in
-    simp (held s.before.before.before) (u.small, omega (arith, s.requires.1, ap length u.plain))
+    simp (held c.before.before.before) (u.small, omega (arith, c.requires.1, ap length u.plain))
 
 returns : tie.Need-returns
 returns c =
-    let digits = c in
-    let e = digits in
-    appends_same (ap (λ (z : ℤ). decimal (nat_abs z)) (held e.before.before.before.before.before.before) ∙ sym (unsigned e.before.before.before.before).plain) digits.put_decimal-2.ensures
+    appends_same (ap (λ (z : ℤ). decimal (nat_abs z)) (held c.before.before.before.before.before.before) ∙ sym (unsigned c.before.before.before.before).plain) c.put_decimal-2.ensures
 
 pub put_delay_spec : {M : Type 1} → statement M
 put_delay_spec =

@@ -4,7 +4,7 @@ use Rattle.records.proofs.lines.put_number.Statement.{statement}
 use Rattle.records.proofs.lines.put_number.Tie as tie
 
 returns : tie.Need-returns
-returns c = let d = c in appends_more d.put_byte-next.ensures d.put_decimal.ensures
+returns c = appends_more c.put_byte-next.ensures c.put_decimal.ensures
 
 pub put_number_spec : {M : Type 1} → statement M
 put_number_spec = tie.close (tie.spec

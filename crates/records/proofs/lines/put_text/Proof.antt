@@ -39,23 +39,19 @@ bounds-text-i c = c.loop-i-test.true
 
 put_byte-next-requires : tie.Need-put_byte-next-requires invariant-loop decreases-loop
 put_byte-next-requires c κs =
-    let t = c in
-    let room = remains_fits (head t.before.before).loop-i.invariant.1 (s t.before.before).requires (get_or (text t.before.before) (i t.before.before) 0 ∷ []) (drop (i t.before.before + 1) (text t.before.before)) (next_left t.before.before) in
+    let room = remains_fits (head c.before.before).loop-i.invariant.1 (s c.before.before).requires (get_or (text c.before.before) (i c.before.before) 0 ∷ []) (drop (i c.before.before + 1) (text c.before.before)) (next_left c.before.before) in
     omega (arith, room)
 
 loop-i-preserved : tie.Need-loop-i-preserved invariant-loop decreases-loop
 loop-i-preserved c =
-    let p = c in
-    let t = p in
-    (omega (arith, t.loop-i-test.true), remains_next (head t.before.before.before.before.before).loop-i.invariant.1 (next_left t.before.before.before.before.before) p.put_byte-next.ensures)
+    (omega (arith, c.loop-i-test.true), remains_next (head c.before.before.before.before.before).loop-i.invariant.1 (next_left c.before.before.before.before.before) c.put_byte-next.ensures)
 
 shape_of-out : tie.Need-shape_of-out invariant-loop decreases-loop
 shape_of-out c = remains_length c.loop-i.invariant.1
 
 returns : tie.Need-returns invariant-loop decreases-loop
 returns c =
-    let l = c in
-    remains_none l.loop-i.invariant.1 (drop_of_length-le l.args.text.now {i = l.loop-i.i} (omega (arith, c.loop-i-test.false)))
+    remains_none c.loop-i.invariant.1 (drop_of_length-le c.args.text.now {i = c.loop-i.i} (omega (arith, c.loop-i-test.false)))
 
 pub put_text_spec : {M : Type 1} → statement M
 put_text_spec =

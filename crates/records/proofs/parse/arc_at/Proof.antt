@@ -23,7 +23,7 @@ use Rattle.records.proofs.parse.arc_at.Statement.{statement}
 use Rattle.records.proofs.parse.arc_at.Tie as tie
 
 decode-d-requires : tie.Need-decode-d-requires
-decode-d-requires c κs = let o = c in search (rules, (ends_legal _ _ _ 8 _ _ (said ends_meaning o.ends_at-ends.ensures o.in-Of.is)).0)
+decode-d-requires c κs = search (rules, (ends_legal _ _ _ 8 _ _ (said ends_meaning c.ends_at-ends.ensures c.in-Of.is)).0)
 
 -- both ends are vertices, and the delay is handed on as its bits
 module _ (r : tie.After-in_range) where
@@ -62,12 +62,11 @@ narrow-requires e κs = true_is (sym e.in_range.ensures ∙ not-false _ e.if-not
 
 returns-else-not-in_range : tie.Need-returns-else-not-in_range
 returns-else-not-in_range a =
-    let r = a in
-    (λ i. accepted (R.Arc (u r.before.before) (v r.before.before) ((back w32 _ a.narrow.type_inv ∙ a.narrow.ensures ∙ handed_on r.before.before) i)))
-    ∙ sym (arc r.before.before true (not-false _ a.if-not-in_range.false-raw))
+    (λ i. accepted (R.Arc (u a.before.before) (v a.before.before) ((back w32 _ a.narrow.type_inv ∙ a.narrow.ensures ∙ handed_on a.before.before) i)))
+    ∙ sym (arc a.before.before true (not-false _ a.if-not-in_range.false-raw))
 
 returns-in-Refused : tie.Need-returns-in-Refused
-returns-in-Refused c = let o = c in sym (arc_is _ _ _ (said ends_meaning o.ends_at-ends.ensures o.in-Refused.is))
+returns-in-Refused c = sym (arc_is _ _ _ (said ends_meaning c.ends_at-ends.ensures c.in-Refused.is))
 
 pub arc_at_spec : {M : Type 1} → statement M
 arc_at_spec =

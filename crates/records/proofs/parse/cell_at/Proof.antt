@@ -13,13 +13,13 @@ ends_are : (k : tie.After-ends_at-ends) (x : Ends) → k.ends_at-ends.result ≡
 ends_are k x e = said ends_meaning k.ends_at-ends.ensures e
 
 bounds-bytes-at : tie.Need-bounds-bytes-at
-bounds-bytes-at c = let o = c in omega (arith, (ends_legal _ _ _ 5 _ _ (ends_are o.before.before _ o.in-Of.is)).0)
+bounds-bytes-at c = omega (arith, (ends_legal _ _ _ 5 _ _ (ends_are c.before.before _ c.in-Of.is)).0)
 
 returns-in-Of : tie.Need-returns-in-Of
-returns-in-Of c = let o = c in sym (cell_is _ _ _ (ends_are o.before.before _ o.in-Of.is))
+returns-in-Of c = sym (cell_is _ _ _ (ends_are c.before.before _ c.in-Of.is))
 
 returns-in-Refused : tie.Need-returns-in-Refused
-returns-in-Refused c = let o = c in sym (cell_is _ _ _ (ends_are o.before _ o.in-Refused.is))
+returns-in-Refused c = sym (cell_is _ _ _ (ends_are c.before _ c.in-Refused.is))
 
 pub cell_at_spec : {M : Type 1} → statement M
 cell_at_spec =

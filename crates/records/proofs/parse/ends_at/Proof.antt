@@ -31,11 +31,11 @@ module _ (v : tie.After-vertices) where
 
 returns-then-not-vertices : tie.Need-returns-then-not-vertices
 unfolding ends_of
-returns-then-not-vertices c = let v = c in simp (whole v.before, from_is v.before, to_is v.before, sym v.vertices.ensures ∙ not-true _ c.if-not-vertices.true-raw)
+returns-then-not-vertices c = simp (whole c.before, from_is c.before, to_is c.before, sym c.vertices.ensures ∙ not-true _ c.if-not-vertices.true-raw)
 
 returns : tie.Need-returns
 unfolding ends_of
-returns c = let v = c in simp (whole v.before, from_is v.before, to_is v.before, sym v.vertices.ensures ∙ not-false _ c.if-not-vertices.false-raw)
+returns c = simp (whole c.before, from_is c.before, to_is c.before, sym c.vertices.ensures ∙ not-false _ c.if-not-vertices.false-raw)
 
 pub ends_at_spec : {M : Type 1} → statement M
 ends_at_spec =

@@ -9,9 +9,8 @@ returns-then-bytes-at c = let a = c.args in simp (ne_eqb (byte_at a.bytes.now a.
 
 returns : tie.Need-returns
 returns c =
-    let e = c in
-    let a = e.args in
-    simp (eq-eqb (byte_at a.bytes.now a.at) a.x e.if-bytes-at.false)
+    let a = c.args in
+    simp (eq-eqb (byte_at a.bytes.now a.at) a.x c.if-bytes-at.false)
 
 pub letters_spec : {M : Type 1} → statement M
 letters_spec =

@@ -22,8 +22,7 @@ no_arc c = sym c.letters-2.ensures ∙ c.if-letters-2.false
 returns-then-letters-3 : tie.Need-returns-then-letters-3
 unfolding mark_at
 returns-then-letters-3 c =
-    let e = c in
-    simp (no_board e.before.before.before.before, no_arc e.before.before, sym c.letters-3.ensures ∙ c.if-letters-3.true)
+    simp (no_board c.before.before.before.before, no_arc c.before.before, sym c.letters-3.ensures ∙ c.if-letters-3.true)
 
 no_cell : (c : tie.Else-letters-3) → let a = c.args in letters 67 69 a.bytes.now a.at ≡ false
 no_cell c = sym c.letters-3.ensures ∙ c.if-letters-3.false
@@ -31,9 +30,7 @@ no_cell c = sym c.letters-3.ensures ∙ c.if-letters-3.false
 returns-then-letters-4 : tie.Need-returns-then-letters-4
 unfolding mark_at
 returns-then-letters-4 c =
-    let f = c in
-    let e = f in
-    simp (no_board e.before.before.before.before.before.before, no_arc e.before.before.before.before, no_cell f.before.before, sym c.letters-4.ensures ∙ c.if-letters-4.true)
+    simp (no_board c.before.before.before.before.before.before, no_arc c.before.before.before.before, no_cell c.before.before, sym c.letters-4.ensures ∙ c.if-letters-4.true)
 
 no_end : (c : tie.Else-letters-4) → let a = c.args in letters 69 78 a.bytes.now a.at ≡ false
 no_end c = sym c.letters-4.ensures ∙ c.if-letters-4.false
@@ -41,18 +38,12 @@ no_end c = sym c.letters-4.ensures ∙ c.if-letters-4.false
 returns-then-letters-5 : tie.Need-returns-then-letters-5
 unfolding mark_at
 returns-then-letters-5 c =
-    let g = c in
-    let f = g in
-    let e = f in
-    simp (no_board e.before.before.before.before.before.before.before.before, no_arc e.before.before.before.before.before.before, no_cell f.before.before.before.before, no_end g.before.before, sym c.letters-5.ensures ∙ c.if-letters-5.true)
+    simp (no_board c.before.before.before.before.before.before.before.before, no_arc c.before.before.before.before.before.before, no_cell c.before.before.before.before, no_end c.before.before, sym c.letters-5.ensures ∙ c.if-letters-5.true)
 
 returns : tie.Need-returns
 unfolding mark_at
 returns c =
-    let g = c in
-    let f = g in
-    let e = f in
-    simp (no_board e.before.before.before.before.before.before.before.before, no_arc e.before.before.before.before.before.before, no_cell f.before.before.before.before, no_end g.before.before, sym c.letters-5.ensures ∙ c.if-letters-5.false)
+    simp (no_board c.before.before.before.before.before.before.before.before, no_arc c.before.before.before.before.before.before, no_cell c.before.before.before.before, no_end c.before.before, sym c.letters-5.ensures ∙ c.if-letters-5.false)
 
 pub mark_at_spec : {M : Type 1} → statement M
 mark_at_spec =

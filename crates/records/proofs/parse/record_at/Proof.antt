@@ -33,16 +33,14 @@ returns-in-Board : tie.Need-returns-in-Board
 returns-in-Board c = marked c.before _ c.in-Board.is
 
 returns-in-Arc : tie.Need-returns-in-Arc
-returns-in-Arc c = let o = c in c.arc_at.ensures ∙ marked o.before.before _ o.in-Arc.is
+returns-in-Arc c = c.arc_at.ensures ∙ marked c.before.before _ c.in-Arc.is
 
 returns-in-Cell : tie.Need-returns-in-Cell
-returns-in-Cell c = let o = c in c.cell_at.ensures ∙ marked o.before.before _ o.in-Cell.is
+returns-in-Cell c = c.cell_at.ensures ∙ marked c.before.before _ c.in-Cell.is
 
 returns-in-End : tie.Need-returns-in-End
 returns-in-End c =
-    let o = c in
-    let m = o in
-    c.end_at.ensures (n m.before.before) ∙ marked m.before.before _ o.in-End.is
+    c.end_at.ensures (n c.before.before) ∙ marked c.before.before _ c.in-End.is
 
 returns-in-Library : tie.Need-returns-in-Library
 returns-in-Library c = marked c.before _ c.in-Library.is

@@ -4,7 +4,7 @@ use Rattle.records.proofs.put.put_mark.Statement.{statement}
 use Rattle.records.proofs.put.put_mark.Tie as tie
 
 returns : tie.Need-returns
-returns c = let b = c in appends_more b.put_byte-next.ensures b.put_byte.ensures
+returns c = appends_more c.put_byte-next.ensures c.put_byte.ensures
 
 pub put_mark_spec : {M : Type 1} → statement M
 put_mark_spec = tie.close (tie.spec

@@ -13,10 +13,8 @@ use Rattle.records.proofs.put.put_signed.Tie as tie
 
 returns : tie.Need-returns
 returns c =
-    let a = c in
-    let s = a in
-    let w = s.args.width in
-    subst (λ (z : ℤ). Appends (tabulate w (byte_of (pattern w z))) s.args.out.now s.args.at a.encode.new.bytes (s.args.at + w)) (to_z-of_z {w = w64} s.ranges.x) (appends_number _ _ _ _ _ a.encode.ensures)
+    let w = c.args.width in
+    subst (λ (z : ℤ). Appends (tabulate w (byte_of (pattern w z))) c.args.out.now c.args.at c.encode.new.bytes (c.args.at + w)) (to_z-of_z {w = w64} c.ranges.x) (appends_number _ _ _ _ _ c.encode.ensures)
 
 pub put_signed_spec : {M : Type 1} → statement M
 put_signed_spec = tie.close (tie.spec

@@ -4,7 +4,7 @@ use Rattle.records.proofs.put.put_unsigned.Statement.{statement}
 use Rattle.records.proofs.put.put_unsigned.Tie as tie
 
 returns : tie.Need-returns
-returns c = let a = c in appends_number _ _ _ _ _ a.put_number.ensures
+returns c = appends_number _ _ _ _ _ c.put_number.ensures
 
 pub put_unsigned_spec : {M : Type 1} → statement M
 put_unsigned_spec = tie.close (tie.spec

@@ -16,11 +16,10 @@ decreases-loop sizes table₀ room library₀ page₀ at₀ held₀ left₀ tabl
 
 loop-left-preserved : tie.Need-loop-left-preserved invariant-loop decreases-loop
 loop-left-preserved c =
-    let call = c in
-    let ends = EndsOn call.turn-played.new.page in
+    let ends = EndsOn c.turn-played.new.page in
     split c.match-played.branch-raw
-    (λ w. let on = subst ends w.in-Printed.is call.turn-played.ensures in search rules)
-    (λ w. let on = subst ends w.in-Put.is call.turn-played.ensures in search rules)
+    (λ w. let on = subst ends w.in-Printed.is c.turn-played.ensures in search rules)
+    (λ w. let on = subst ends w.in-Put.is c.turn-played.ensures in search rules)
 
 pub turns_spec : {M : Type 1} → statement M
 turns_spec =

@@ -50,8 +50,7 @@ returns-then-x-lt0 c = let b = below c in simp b.flipped (omega (arith, b.value)
 
 overflow_cast-result-2 : tie.Need-overflow_cast-result-2
 overflow_cast-result-2 c =
-    let s = c in
-    simp (held s.before) (stays _ s.ranges.x (rw (held s.before) at c.if-x-lt0.false))
+    simp (held c.before) (stays _ c.ranges.x (rw (held c.before) at c.if-x-lt0.false))
 
 returns : tie.Need-returns
 returns c = simp (held c.before)

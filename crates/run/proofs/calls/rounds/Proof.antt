@@ -29,25 +29,20 @@ abbrev decreases-loop : tie.decreases-loop-more
 decreases-loop board table₀ list₀ scratch₀ matrix steps₀ more₀ first₀ table list scratch steps more first = rounds_left board.vertices more table
 
 fill_matrix-requires : tie.Need-fill_matrix-requires invariant-loop decreases-loop
-fill_matrix-requires c κs = let s = c in (s.requires.0, (s.requires.1.1, pairs_fit s.requires.0.checked.lent.sized))
+fill_matrix-requires c κs = (c.requires.0, (c.requires.1.1, pairs_fit c.requires.0.checked.lent.sized))
 
 loop-more-init : tie.Need-loop-more-init invariant-loop decreases-loop
 unfolding reduce
 loop-more-init c =
-    let f = c in
-    let s = f in
-    (running_start s.requires.0, held_start s.requires.0 _ _ f.fill_matrix.ensures.0, s.requires.1.0, refl, refl, refl, λ q room. refl, λ _. s.requires.0, λ e. absurd (let z : ◌≡◌ {A = ℕ} 0 1 = cc in omega arith))
+    (running_start c.requires.0, held_start c.requires.0 _ _ c.fill_matrix.ensures.0, c.requires.1.0, refl, refl, refl, λ q room. refl, λ _. c.requires.0, λ e. absurd (let z : ◌≡◌ {A = ℕ} 0 1 = cc in omega arith))
 
 slice_bounds-round-end : tie.Need-slice_bounds-round-end invariant-loop decreases-loop
 slice_bounds-round-end c = sym c.fill_matrix.auto.destination
 
 round-after-requires : tie.Need-round-after-requires invariant-loop decreases-loop
 round-after-requires c κs =
-    let l = c in
-    let f = l in
-    let s = f in
-    let h = l.loop-more.invariant in
-    (h.0, (h.1, (h.2, (h.7, (h.8, omega (arith, s.requires.1.1, h.4, f.fill_matrix.auto.scratch))))))
+    let h = c.loop-more.invariant in
+    (h.0, (h.1, (h.2, (h.7, (h.8, omega (arith, c.requires.1.1, h.4, c.fill_matrix.auto.scratch))))))
 
 -- after a round
 module _ (r : tie.After-round-after invariant-loop decreases-loop) where
@@ -84,28 +79,26 @@ module _ (r : tie.After-round-after invariant-loop decreases-loop) where
 
 loop-more-smaller : tie.Need-loop-more-smaller invariant-loop decreases-loop
 loop-more-smaller c =
-    let r = c in
-    let d = b r.before.before in
+    let d = b c.before.before in
     let q = scratch_cells d.vertices in
-    subst (λ (x : Bool). rounds_left d.vertices (not (eqb (after r.before.before).steps (before r.before.before).steps)) (after r.before.before).table < rounds_left d.vertices x (before r.before.before).table) (sym (due r.before.before))
-    (fewer_left d.inputs d.outputs d.vertices q (before r.before.before) (after r.before.before) (r.round-after.ensures.0 q (omega arith)))
+    subst (λ (x : Bool). rounds_left d.vertices (not (eqb (after c.before.before).steps (before c.before.before).steps)) (after c.before.before).table < rounds_left d.vertices x (before c.before.before).table) (sym (due c.before.before))
+    (fewer_left d.inputs d.outputs d.vertices q (before c.before.before) (after c.before.before) (c.round-after.ensures.0 q (omega arith)))
 
 loop-more-preserved : tie.Need-loop-more-preserved invariant-loop decreases-loop
 loop-more-preserved c =
-    let r = c in
-    let d = b r.before.before in
+    let d = b c.before.before in
     let goal = reduce d.inputs d.outputs d.vertices in
-    let t = (start r.before.before).args.table.now in (
-      running r.before.before,
-      held r.before.before,
-      r.round-after.ensures.1.1.0,
-      table_long r.before.before,
-      r.round-after.auto.scratch ∙ (loop r.before.before).loop-more.invariant.4,
-      r.round-after.ensures.1.1.1 ∙ (loop r.before.before).loop-more.invariant.5,
-      λ q room. toward_next d.inputs d.outputs d.vertices q (before r.before.before) (after r.before.before) (r.round-after.ensures.0 q room) (goal q t)
-          (subst (λ (x : Bool). Toward d.inputs d.outputs d.vertices q (goal q t) x (before r.before.before)) (due r.before.before) ((loop r.before.before).loop-more.invariant.6 q room)),
+    let t = (start c.before.before).args.table.now in (
+      running c.before.before,
+      held c.before.before,
+      c.round-after.ensures.1.1.0,
+      table_long c.before.before,
+      c.round-after.auto.scratch ∙ (loop c.before.before).loop-more.invariant.4,
+      c.round-after.ensures.1.1.1 ∙ (loop c.before.before).loop-more.invariant.5,
+      λ q room. toward_next d.inputs d.outputs d.vertices q (before c.before.before) (after c.before.before) (c.round-after.ensures.0 q room) (goal q t)
+          (subst (λ (x : Bool). Toward d.inputs d.outputs d.vertices q (goal q t) x (before c.before.before)) (due c.before.before) ((loop c.before.before).loop-more.invariant.6 q room)),
       λ e. absurd (let z : ◌≡◌ {A = ℕ} 0 1 = cc in omega arith),
-      λ _. r.round-after.ensures.1.0,
+      λ _. c.round-after.ensures.1.0,
     )
 
 arcs-left-requires : tie.Need-arcs-left-requires invariant-loop decreases-loop
@@ -115,20 +108,16 @@ shape_of-table : tie.Need-shape_of-table invariant-loop decreases-loop
 shape_of-table c = c.loop-more.invariant.3
 
 shape_of-scratch : tie.Need-shape_of-scratch invariant-loop decreases-loop
-shape_of-scratch c = let l = c in l.loop-more.invariant.4 ∙ l.fill_matrix.auto.scratch
+shape_of-scratch c = c.loop-more.invariant.4 ∙ c.fill_matrix.auto.scratch
 
 returns : tie.Need-returns invariant-loop decreases-loop
 returns c =
-    let e = c in
-    let l = e in
-    let f = l in
-    let a = f in
-    let d = a.args.board in
-    let s = length a.args.scratch.now in
-    let goal = reduce d.inputs d.outputs d.vertices s a.args.table.now in
-    let there = subst (λ (x : Bool). Toward d.inputs d.outputs d.vertices s goal x (progress l.loop-more.table l.loop-more.steps)) e.loop-more-test.false (l.loop-more.invariant.6 s a.requires.1.1) in (
-      runs_done d.inputs d.outputs d.vertices s a.args.table.now l.loop-more.table l.loop-more.steps c.arcs-left.result (sym there) c.arcs-left.ensures,
-      l.loop-more.invariant.5 ∙ f.fill_matrix.ensures.1,
+    let d = c.args.board in
+    let s = length c.args.scratch.now in
+    let goal = reduce d.inputs d.outputs d.vertices s c.args.table.now in
+    let there = subst (λ (x : Bool). Toward d.inputs d.outputs d.vertices s goal x (progress c.loop-more.table c.loop-more.steps)) c.loop-more-test.false (c.loop-more.invariant.6 s c.requires.1.1) in (
+      runs_done d.inputs d.outputs d.vertices s c.args.table.now c.loop-more.table c.loop-more.steps c.arcs-left.result (sym there) c.arcs-left.ensures,
+      c.loop-more.invariant.5 ∙ c.fill_matrix.ensures.1,
     )
 
 pub rounds_spec : {M : Type 1} → statement M

@@ -7,22 +7,18 @@ use Rattle.run.proofs.calls.run.Tie as tie
 
 rounds-requires : tie.Need-rounds-requires
 rounds-requires c κs =
-    let k = c in
-    let h = k.checked-lent.ensures in
-    let p = h.passable _ k.in-Board.is in
-    (p.0, (h.long _ k.in-Board.is, p.1))
+    let h = c.checked-lent.ensures in
+    let p = h.passable _ c.in-Board.is in
+    (p.0, (h.long _ c.in-Board.is, p.1))
 
 returns-in-Board : tie.Need-returns-in-Board
 returns-in-Board c =
-    let a = c in
-    let k = a in
-    let h = k.checked-lent.ensures in
-    (run_done h _ k.in-Board.is _ _ a.rounds.ensures.0, scratch_on h _ k.in-Board.is _ _ refl a.rounds.ensures.1)
+    let h = c.checked-lent.ensures in
+    (run_done h _ c.in-Board.is _ _ c.rounds.ensures.0, scratch_on h _ c.in-Board.is _ _ refl c.rounds.ensures.1)
 
 returns-in-Refused : tie.Need-returns-in-Refused
 returns-in-Refused c =
-    let k = c in
-    (run_refused k.checked-lent.ensures _ k.in-Refused.is, scratch_same)
+    (run_refused c.checked-lent.ensures _ c.in-Refused.is, scratch_same)
 
 pub run_spec : {M : Type 1} → statement M
 run_spec =

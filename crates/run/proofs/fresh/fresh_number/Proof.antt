@@ -23,31 +23,25 @@ is_free-requires c κs = (c.requires, c.loop-k-test.true)
 
 returns-then-is_free : tie.Need-returns-then-is_free invariant-loop decreases-loop
 returns-then-is_free c =
-    let l = c in
-    let s = l in
-    let b = s.args.board in
-    fresh_found b.inputs b.outputs b.vertices (graph_of b.vertices s.args.table.now) l.loop-k.k l.loop-k.invariant.0 c.loop-k-test.true l.loop-k.invariant.2 (sym c.if-is_free.true ∙ c.is_free.ensures)
+    let b = c.args.board in
+    fresh_found b.inputs b.outputs b.vertices (graph_of b.vertices c.args.table.now) c.loop-k.k c.loop-k.invariant.0 c.loop-k-test.true c.loop-k.invariant.2 (sym c.if-is_free.true ∙ c.is_free.ensures)
 
 overflow_add-k-in-loop-k : tie.Need-overflow_add-k-in-loop-k invariant-loop decreases-loop
-overflow_add-k-in-loop-k c = let l = c in omega (arith, c.loop-k-test.true, l.requires.sized.few)
+overflow_add-k-in-loop-k c = omega (arith, c.loop-k-test.true, c.requires.sized.few)
 
 loop-k-smaller : tie.Need-loop-k-smaller invariant-loop decreases-loop
-loop-k-smaller c = let l = c in omega (arith, c.loop-k-test.true)
+loop-k-smaller c = omega (arith, c.loop-k-test.true)
 
 loop-k-preserved : tie.Need-loop-k-preserved invariant-loop decreases-loop
 loop-k-preserved c =
-    let l = c in
-    let s = l in
-    let b = s.args.board in
+    let b = c.args.board in
     let low = c.loop-k-test.true in
-    (omega (arith, l.loop-k.invariant.0), omega (arith, low), none_more b.inputs b.outputs b.vertices (graph_of b.vertices s.args.table.now) l.loop-k.k l.loop-k.invariant.0 low l.loop-k.invariant.2 (sym c.if-is_free.false ∙ c.is_free.ensures))
+    (omega (arith, c.loop-k.invariant.0), omega (arith, low), none_more b.inputs b.outputs b.vertices (graph_of b.vertices c.args.table.now) c.loop-k.k c.loop-k.invariant.0 low c.loop-k.invariant.2 (sym c.if-is_free.false ∙ c.is_free.ensures))
 
 returns : tie.Need-returns invariant-loop decreases-loop
 returns c =
-    let l = c in
-    let s = l in
-    let b = s.args.board in
-    fresh_none b.inputs b.outputs b.vertices (graph_of b.vertices s.args.table.now) s.requires.sized.roles (λ x h. l.loop-k.invariant.2 x (omega (arith, h, c.loop-k-test.false)))
+    let b = c.args.board in
+    fresh_none b.inputs b.outputs b.vertices (graph_of b.vertices c.args.table.now) c.requires.sized.roles (λ x h. c.loop-k.invariant.2 x (omega (arith, h, c.loop-k-test.false)))
 
 pub fresh_number_spec : {M : Type 1} → statement M
 fresh_number_spec =

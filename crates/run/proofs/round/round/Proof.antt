@@ -20,7 +20,7 @@ use Rattle.run.proofs.round.round.Statement.{statement}
 use Rattle.run.proofs.round.round.Tie as tie
 
 shares-one-requires : tie.Need-shares-one-requires
-shares-one-requires c κs = let s = c in (s.requires.0, (s.requires.1.0, s.requires.1.1.1.0))
+shares-one-requires c κs = (c.requires.0, (c.requires.1.0, c.requires.1.1.1.0))
 
 -- after each part: the progress, and that the run goes on
 module _ (c : tie.After-shares-one) where
@@ -43,7 +43,7 @@ module _ (c : tie.After-shares-one) where
   held_1 = held_on b (share_tries b.inputs b.outputs b.vertices Inputs) progress_0 progress_1 (share_tries_gain b.inputs b.outputs b.vertices Inputs) c.shares-one.ensures.0 start.args.matrix.now start.requires.1.0
 
 shares-two-requires : tie.Need-shares-two-requires
-shares-two-requires c κs = let d = c in (running_1 d.before.before, (held_1 d.before.before, d.shares-one.ensures.1))
+shares-two-requires c κs = (running_1 c.before.before, (held_1 c.before.before, c.shares-one.ensures.1))
 
 module _ (c : tie.After-shares-two) where
   abbrev part_1 : tie.After-shares-one
@@ -70,10 +70,8 @@ module _ (c : tie.After-shares-two) where
 
 try_prune-three-requires : tie.Need-try_prune-three-requires
 try_prune-three-requires c κs =
-    let l = c in
-    let d = l in
-    let s = start (part_1 d.before.before.before.before.before) in
-    (running_2 d.before.before.before.before.before, (s.requires.1.1.0, (d.shares-two.ensures.1, ((λ q. let u = l.is_lean-lean.ensures q in subst (LeanOn s.args.board) (sym (quiet d.before.before.before.before.before u.1)) (s.requires.1.1.1.1.0 u.0)), s.requires.1.1.1.1.1))))
+    let s = start (part_1 c.before.before.before.before.before) in
+    (running_2 c.before.before.before.before.before, (s.requires.1.1.0, (c.shares-two.ensures.1, ((λ q. let u = c.is_lean-lean.ensures q in subst (LeanOn s.args.board) (sym (quiet c.before.before.before.before.before u.1)) (s.requires.1.1.1.1.0 u.0)), s.requires.1.1.1.1.1))))
 
 module _ (c : tie.After-try_prune-three) where
   abbrev part_2 : tie.After-shares-two
@@ -89,7 +87,7 @@ module _ (c : tie.After-try_prune-three) where
   lean_3 = lean_pruned (b (part_1 part_2)) (progress_2 part_2) progress_3 (running_2 part_2) c.try_prune-three.ensures.0
 
 vertex_tries-four-requires : tie.Need-vertex_tries-four-requires
-vertex_tries-four-requires c κs = let d = c in (running_3 d.before.before.before, lean_3 d.before.before.before)
+vertex_tries-four-requires c κs = (running_3 c.before.before.before, lean_3 c.before.before.before)
 
 module _ (c : tie.After-vertex_tries-four) where
   abbrev part_3 : tie.After-try_prune-three
@@ -105,21 +103,19 @@ module _ (c : tie.After-vertex_tries-four) where
   lean_4 = lean_on (b (part_1 (part_2 part_3))) Shrink (progress_3 part_3) progress_4 c.vertex_tries-four.ensures (lean_3 part_3)
 
 vertex_tries-requires : tie.Need-vertex_tries-requires
-vertex_tries-requires c κs = let d = c in (running_4 d.before.before, lean_4 d.before.before)
+vertex_tries-requires c κs = (running_4 c.before.before, lean_4 c.before.before)
 
 returns : tie.Need-returns
 returns c =
-    let e = c in
-    let p4 = e in
-    let p3 = part_3 p4.before.before.before.before in
+    let p3 = part_3 c.before.before.before.before in
     let p2 = part_2 p3 in
     let p1 = part_1 p2 in
     let d = b p1 in
-    let progress-5 = progress e.vertex_tries.new.table e.vertex_tries.result in (
-      reaches_round d.inputs d.outputs d.vertices (progress_0 p1) (progress_1 p1) (progress_2 p2) (progress_3 p3) (progress_4 p4.before.before.before.before) progress-5
-          p1.shares-one.ensures.0 p2.shares-two.ensures.0 p3.try_prune-three.ensures.0 p4.vertex_tries-four.ensures e.vertex_tries.ensures,
+    let progress-5 = progress c.vertex_tries.new.table c.vertex_tries.result in (
+      reaches_round d.inputs d.outputs d.vertices (progress_0 p1) (progress_1 p1) (progress_2 p2) (progress_3 p3) (progress_4 c.before.before.before.before) progress-5
+          p1.shares-one.ensures.0 p2.shares-two.ensures.0 p3.try_prune-three.ensures.0 c.vertex_tries-four.ensures c.vertex_tries.ensures,
       (
-        lean_on d MergeBack (progress_4 p4.before.before.before.before) progress-5 e.vertex_tries.ensures (lean_4 p4.before.before.before.before),
+        lean_on d MergeBack (progress_4 c.before.before.before.before) progress-5 c.vertex_tries.ensures (lean_4 c.before.before.before.before),
         (p3.try_prune-three.ensures.1.0, p3.try_prune-three.ensures.1.1),
       ),
     )

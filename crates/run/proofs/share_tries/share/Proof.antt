@@ -35,34 +35,24 @@ module _ (s : tie.Start) (x : Side) (is : s.args.side ≡ x) where
 
 share_rows-accepted-requires : tie.Need-share_rows-accepted-requires
 share_rows-accepted-requires c κs =
-    let w = c in
-    let s = w in
-    let is = w.in-Inputs.is in
-    (s.requires.0, (pair s.before.before.before Inputs is, (compared s.before.before.before Inputs is, s.requires.1.0.fresh is)))
+    let is = c.in-Inputs.is in
+    (c.requires.0, (pair c.before.before.before Inputs is, (compared c.before.before.before Inputs is, c.requires.1.0.fresh is)))
 
 share_columns-requires : tie.Need-share_columns-requires
 share_columns-requires c κs =
-    let w = c in
-    let s = w in
-    let is = w.in-Outputs.is in
-    let rows = s.requires.1.1.0 in
-    (s.requires.0, (s.requires.1.0.order, (pair s.before.before.before.before Outputs is, (compared s.before.before.before.before Outputs is, record { long = omega (arith, rows.long, s.requires.0.lent.sized.few); sets = rows.sets }))))
+    let is = c.in-Outputs.is in
+    let rows = c.requires.1.1.0 in
+    (c.requires.0, (c.requires.1.0.order, (pair c.before.before.before.before Outputs is, (compared c.before.before.before.before Outputs is, record { long = omega (arith, rows.long, c.requires.0.lent.sized.few); sets = rows.sets }))))
 
 returns-in-Inputs : tie.Need-returns-in-Inputs
 returns-in-Inputs c =
-    let f = c in
-    let w = f in
-    let s = w in
-    (trying s.before.before.before.before.before Inputs w.in-Inputs.is f.share_rows-accepted.new.table f.share_rows-accepted.result f.share_rows-accepted.ensures, s.requires.1.1.0)
+    (trying c.before.before.before.before.before Inputs c.in-Inputs.is c.share_rows-accepted.new.table c.share_rows-accepted.result c.share_rows-accepted.ensures, c.requires.1.1.0)
 
 returns-in-Outputs : tie.Need-returns-in-Outputs
 returns-in-Outputs c =
-    let f = c in
-    let w = f in
-    let s = w in
-    let is = w.in-Outputs.is in
-    let x = f.share_columns in
-    (trying s.before.before.before.before.before.before.before.before Outputs is x.new.table x.result.accepted x.ensures.0, record { long = x.auto.words ∙ s.requires.1.1.0.long; outputs = λ _. is; sets = x.ensures.1.sets })
+    let is = c.in-Outputs.is in
+    let x = c.share_columns in
+    (trying c.before.before.before.before.before.before.before.before Outputs is x.new.table x.result.accepted x.ensures.0, record { long = x.auto.words ∙ c.requires.1.1.0.long; outputs = λ _. is; sets = x.ensures.1.sets })
 
 pub share_spec : {M : Type 1} → statement M
 share_spec =

@@ -45,16 +45,14 @@ module _ (s : tie.Start) where
 
 returns-then-not-in_range : tie.Need-returns-then-not-in_range
 returns-then-not-in_range c =
-    let r = c in
-    let s = r in
-    let far = ap (λ (z : ℤ). fits delay_limit (at z)) (sym (to_z-of_z s.ranges.e)) ∙ sym r.in_range.ensures ∙ not-true _ c.if-not-in_range.true-raw in
-    (share_left (board s.before.before.before) (t s.before.before.before) Outputs s.args.a s.args.b 0 (columns_far (board s.before.before.before) (t s.before.before.before) s.args.a s.args.b s.args.e s.requires.1.1.0 s.requires.1.1.1.0 far), s.requires.1.1.1.1)
+    let far = ap (λ (z : ℤ). fits delay_limit (at z)) (sym (to_z-of_z c.ranges.e)) ∙ sym c.in_range.ensures ∙ not-true _ c.if-not-in_range.true-raw in
+    (share_left (board c.before.before.before) (t c.before.before.before) Outputs c.args.a c.args.b 0 (columns_far (board c.before.before.before) (t c.before.before.before) c.args.a c.args.b c.args.e c.requires.1.1.0 c.requires.1.1.1.0 far), c.requires.1.1.1.1)
 
 path_back-looked-requires : tie.Need-path_back-looked-requires
-path_back-looked-requires c κs = let s = c in (s.requires.0, (s.requires.1.0, (outputs s.before.before.before.before, s.requires.1.1.1.1)))
+path_back-looked-requires c κs = (c.requires.0, (c.requires.1.0, (outputs c.before.before.before.before, c.requires.1.1.1.1)))
 
 outputs_saved-saved-requires : tie.Need-outputs_saved-saved-requires
-outputs_saved-saved-requires c κs = let s = c in (s.requires.0.lent, (outputs s.before.before.before.before.before.before.before).below_b)
+outputs_saved-saved-requires c κs = (c.requires.0.lent, (outputs c.before.before.before.before.before.before.before).below_b)
 
 module _ (d : tie.After-outputs_saved-saved) where
   abbrev looked : tie.After-path_back-looked
@@ -83,25 +81,21 @@ module _ (c : tie.In-Common) where
   ready = let s = start asked in share_outputs_ready (board s).inputs (board s).outputs (board s).vertices s.args.a s.args.b (g s) e s.requires.0.lent.sized.roles found
 
 narrow-d-requires : tie.Need-narrow-d-requires
-narrow-d-requires c κs = let d = c in narrow_fits (e d) (ready d).1
+narrow-d-requires c κs = narrow_fits (e c) (ready c).1
 
 rewrite-requires : tie.Need-rewrite-requires
 rewrite-requires c κs =
-    let d = c in
-    ((start (asked d.before.before)).requires.0.lent, (ready d.before.before).0)
+    ((start (asked c.before.before)).requires.0.lent, (ready c.before.before).0)
 
 returns-in-Common : tie.Need-returns-in-Common
 returns-in-Common c =
-    let w = c in
-    let d = w in
-    let s = start (asked d.before.before.before.before) in
-    (share_taken (board s) (t s) Outputs s.args.a s.args.b 0 (found d.before.before.before.before) (narrowed (e d.before.before.before.before) (ready d.before.before.before.before).1 _ w.narrow-d.type_inv w.narrow-d.ensures) w.rewrite.new.table w.rewrite.ensures, (looked (asked d.before.before.before.before)).path_back-looked.ensures.1)
+    let s = start (asked c.before.before.before.before) in
+    (share_taken (board s) (t s) Outputs s.args.a s.args.b 0 (found c.before.before.before.before) (narrowed (e c.before.before.before.before) (ready c.before.before.before.before).1 _ c.narrow-d.type_inv c.narrow-d.ensures) c.rewrite.new.table c.rewrite.ensures, (looked (asked c.before.before.before.before)).path_back-looked.ensures.1)
 
 returns : tie.Need-returns
 returns c =
-    let d = c in
-    let s = start d.before in
-    (share_left (board s) (t s) Outputs s.args.a s.args.b 0 (refused_low (said difference_meaning (answered d.before) c.in_default.is)), (looked d.before).path_back-looked.ensures.1)
+    let s = start c.before in
+    (share_left (board s) (t s) Outputs s.args.a s.args.b 0 (refused_low (said difference_meaning (answered c.before) c.in_default.is)), (looked c.before).path_back-looked.ensures.1)
 
 pub share_columns_spec : {M : Type 1} → statement M
 share_columns_spec =

@@ -22,8 +22,7 @@ use Rattle.run.proofs.share_tries.share_rows.Tie as tie
 
 returns-then-k-board : tie.Need-returns-then-k-board
 returns-then-k-board c =
-    let s = c in
-    share_left s.args.board s.args.table.now Inputs s.args.a s.args.b s.args.k (rows_full s.args.board s.args.table.now s.args.a s.args.b s.args.e s.args.k c.if-k-board.true)
+    share_left c.args.board c.args.table.now Inputs c.args.a c.args.b c.args.k (rows_full c.args.board c.args.table.now c.args.a c.args.b c.args.e c.args.k c.if-k-board.true)
 
 -- what is left to ask is the verdict
 module _ (d : tie.After-inputs_saved-saved) where
@@ -59,25 +58,21 @@ module _ (c : tie.In-Common) where
   ready = share_inputs_ready (board asked).inputs (board asked).outputs (board asked).vertices (start asked).args.a (start asked).args.b (start asked).args.k (graph_of (board asked).vertices (t asked)) e (start asked).requires.0.lent.sized.roles found
 
 narrow-d-requires : tie.Need-narrow-d-requires
-narrow-d-requires c κs = let d = c in narrow_fits (e d) (ready d).2
+narrow-d-requires c κs = narrow_fits (e c) (ready c).2
 
 rewrite-requires : tie.Need-rewrite-requires
 rewrite-requires c κs =
-    let d = c in
-    ((start (asked d.before.before)).requires.0.lent, ((ready d.before.before).0, (ready d.before.before).1))
+    ((start (asked c.before.before)).requires.0.lent, ((ready c.before.before).0, (ready c.before.before).1))
 
 returns-in-Common : tie.Need-returns-in-Common
 returns-in-Common c =
-    let w = c in
-    let d = w in
-    let s = start (asked d.before.before.before.before) in
-    share_taken s.args.board s.args.table.now Inputs s.args.a s.args.b s.args.k (found d.before.before.before.before) (narrowed (e d.before.before.before.before) (ready d.before.before.before.before).2 _ w.narrow-d.type_inv w.narrow-d.ensures) w.rewrite.new.table w.rewrite.ensures
+    let s = start (asked c.before.before.before.before) in
+    share_taken s.args.board s.args.table.now Inputs s.args.a s.args.b s.args.k (found c.before.before.before.before) (narrowed (e c.before.before.before.before) (ready c.before.before.before.before).2 _ c.narrow-d.type_inv c.narrow-d.ensures) c.rewrite.new.table c.rewrite.ensures
 
 returns : tie.Need-returns
 returns c =
-    let d = c in
-    let s = start d.before in
-    share_left s.args.board s.args.table.now Inputs s.args.a s.args.b s.args.k (refused_low (said difference_meaning (answered d.before) c.in_default.is))
+    let s = start c.before in
+    share_left s.args.board s.args.table.now Inputs s.args.a s.args.b s.args.k (refused_low (said difference_meaning (answered c.before) c.in_default.is))
 
 pub share_rows_spec : {M : Type 1} → statement M
 share_rows_spec =

@@ -30,9 +30,7 @@ e_is c = search rules
 
 share-shared-requires : tie.Need-share-shared-requires
 share-shared-requires c κs =
-    let k = c in
-    let s = k in
-    (s.requires.0.checked, (s.requires.1.0, (s.requires.1.1.1.0, (s.requires.1.1.1.1.0, said difference_meaning s.requires.1.1.1.1.1 k.in-Common.is ∙ ap accepted (sym (e_is k.before.before))))))
+    (c.requires.0.checked, (c.requires.1.0, (c.requires.1.1.1.0, (c.requires.1.1.1.1.0, said difference_meaning c.requires.1.1.1.1.1 c.in-Common.is ∙ ap accepted (sym (e_is c.before.before))))))
 
 -- the share has been tried
 module _ (f : tie.After-share-shared) where
@@ -65,22 +63,21 @@ module _ (c : tie.Then-shared) where
 
 keep_up-requires : tie.Need-keep_up-requires
 keep_up-requires c κs =
-    let d = c in
-    let sized = (goes d.before).1.lent.sized in
-    let pair = (s d.before).requires.1.1.1.1.0 in
-    (sized, (omega (arith, (made d.before).share-shared.ensures.1.long, sized.few), ((below d.before (s d.before).args.a pair.one).1, (below d.before (s d.before).args.b pair.other).1)))
+    let sized = (goes c.before).1.lent.sized in
+    let pair = (s c.before).requires.1.1.1.1.0 in
+    (sized, (omega (arith, (made c.before).share-shared.ensures.1.long, sized.few), ((below c.before (s c.before).args.a pair.one).1, (below c.before (s c.before).args.b pair.other).1)))
 
 is_rich-requires : tie.Need-is_rich-requires
-is_rich-requires c κs = let d = c in below d.before.before.before.before (s d.before.before.before.before).args.a (s d.before.before.before.before).requires.1.1.1.1.0.one
+is_rich-requires c κs = below c.before.before.before.before (s c.before.before.before.before).args.a (s c.before.before.before.before).requires.1.1.1.1.0.one
 
 bounds-rich-a : tie.Need-bounds-rich-a
-bounds-rich-a c = let d = c in inside d.before.before.before.before.before.before (s d.before.before.before.before.before.before).args.a (s d.before.before.before.before.before.before).requires.1.1.1.1.0.one
+bounds-rich-a c = inside c.before.before.before.before.before.before (s c.before.before.before.before.before.before).args.a (s c.before.before.before.before.before.before).requires.1.1.1.1.0.one
 
 is_rich-requires-then-shared : tie.Need-is_rich-requires-then-shared
-is_rich-requires-then-shared c κs = let d = c in below d.before.before.before.before.before.before (s d.before.before.before.before.before.before).args.b (s d.before.before.before.before.before.before).requires.1.1.1.1.0.other
+is_rich-requires-then-shared c κs = below c.before.before.before.before.before.before (s c.before.before.before.before.before.before).args.b (s c.before.before.before.before.before.before).requires.1.1.1.1.0.other
 
 bounds-rich-b : tie.Need-bounds-rich-b
-bounds-rich-b c = let d = c in inside d.before.before.before.before.before.before.before (s d.before.before.before.before.before.before.before).args.b (s d.before.before.before.before.before.before.before).requires.1.1.1.1.0.other
+bounds-rich-b c = inside c.before.before.before.before.before.before.before (s c.before.before.before.before.before.before.before).args.b (s c.before.before.before.before.before.before.before).requires.1.1.1.1.0.other
 
 still_sorted-still-requires : tie.Need-still_sorted-still-requires
 still_sorted-still-requires c κs = (goes c.before.before.before.before.before.before.before).1.lent.sized.few
@@ -93,32 +90,28 @@ overflow_add-result c = omega (arith, (s c.before.before.before.before.before.be
 
 returns-then-shared : tie.Need-returns-then-shared
 returns-then-shared c =
-    let r = c in
-    let kept = r.keep_up in
-    let d = r in
-    let counted = counted_again (s d.before.before.before.before.before.before.before.before.before).args.side (s d.before.before.before.before.before.before.before.before.before).requires.0.checked (s d.before.before.before.before.before.before.before.before.before).requires.1.0 (s d.before.before.before.before.before.before.before.before.before).requires.1.1.1.1.0 (s d.before.before.before.before.before.before.before.before.before).args.rich.now (s d.before.before.before.before.before.before.before.before.before).requires.1.1.0 (after (made d.before.before.before.before.before.before.before.before.before)) (tried (made d.before.before.before.before.before.before.before.before.before) true d.if-shared.true) r.is_rich.result r.is_rich-then-shared.result r.is_rich.ensures r.is_rich-then-shared.ensures in
-    let tries = (made d.before.before.before.before.before.before.before.before.before).share-shared in
-    let rows = rows_shared (s d.before.before.before.before.before.before.before.before.before).args.board (s d.before.before.before.before.before.before.before.before.before).args.table.now (s d.before.before.before.before.before.before.before.before.before).args.side (s d.before.before.before.before.before.before.before.before.before).args.a (s d.before.before.before.before.before.before.before.before.before).args.b (s d.before.before.before.before.before.before.before.before.before).args.tally.fresh (s d.before.before.before.before.before.before.before.before.before).requires.0.checked (after (made d.before.before.before.before.before.before.before.before.before)) (tried (made d.before.before.before.before.before.before.before.before.before) true d.if-shared.true) _ _ tries.result.made tries.ensures.1 kept.auto.words kept.ensures in
+    let kept = c.keep_up in
+    let counted = counted_again (s c.before.before.before.before.before.before.before.before.before).args.side (s c.before.before.before.before.before.before.before.before.before).requires.0.checked (s c.before.before.before.before.before.before.before.before.before).requires.1.0 (s c.before.before.before.before.before.before.before.before.before).requires.1.1.1.1.0 (s c.before.before.before.before.before.before.before.before.before).args.rich.now (s c.before.before.before.before.before.before.before.before.before).requires.1.1.0 (after (made c.before.before.before.before.before.before.before.before.before)) (tried (made c.before.before.before.before.before.before.before.before.before) true c.if-shared.true) c.is_rich.result c.is_rich-then-shared.result c.is_rich.ensures c.is_rich-then-shared.ensures in
+    let tries = (made c.before.before.before.before.before.before.before.before.before).share-shared in
+    let rows = rows_shared (s c.before.before.before.before.before.before.before.before.before).args.board (s c.before.before.before.before.before.before.before.before.before).args.table.now (s c.before.before.before.before.before.before.before.before.before).args.side (s c.before.before.before.before.before.before.before.before.before).args.a (s c.before.before.before.before.before.before.before.before.before).args.b (s c.before.before.before.before.before.before.before.before.before).args.tally.fresh (s c.before.before.before.before.before.before.before.before.before).requires.0.checked (after (made c.before.before.before.before.before.before.before.before.before)) (tried (made c.before.before.before.before.before.before.before.before.before) true c.if-shared.true) _ _ tries.result.made tries.ensures.1 kept.auto.words kept.ensures in
     let sorts = c.still_sorted-still.ensures in
-    let order : c.still_sorted-still.result ≡ true → Passable (s d.before.before.before.before.before.before.before.before.before).args.board (after (made d.before.before.before.before.before.before.before.before.before)) (s d.before.before.before.before.before.before.before.before.before).args.order.now =
-    λ q. still_passable (s d.before.before.before.before.before.before.before.before.before).args.board (s d.before.before.before.before.before.before.before.before.before).args.table.now (s d.before.before.before.before.before.before.before.before.before).args.order.now (s d.before.before.before.before.before.before.before.before.before).args.side (s d.before.before.before.before.before.before.before.before.before).args.a (s d.before.before.before.before.before.before.before.before.before).args.b (s d.before.before.before.before.before.before.before.before.before).args.tally.fresh ((s d.before.before.before.before.before.before.before.before.before).requires.1.0.order (sorts q).0) (s d.before.before.before.before.before.before.before.before.before).requires.1.1.1.1.0 (after (made d.before.before.before.before.before.before.before.before.before)) (tried (made d.before.before.before.before.before.before.before.before.before) true d.if-shared.true) (goes d.before.before.before.before.before.before.before.before.before).1 (sorts q).1 (sorts q).2 in
-    ((goes d.before.before.before.before.before.before.before.before.before).0, ((record { fresh = c.renew-fresh.ensures; order = order }, counted), rows))
+    let order : c.still_sorted-still.result ≡ true → Passable (s c.before.before.before.before.before.before.before.before.before).args.board (after (made c.before.before.before.before.before.before.before.before.before)) (s c.before.before.before.before.before.before.before.before.before).args.order.now =
+    λ q. still_passable (s c.before.before.before.before.before.before.before.before.before).args.board (s c.before.before.before.before.before.before.before.before.before).args.table.now (s c.before.before.before.before.before.before.before.before.before).args.order.now (s c.before.before.before.before.before.before.before.before.before).args.side (s c.before.before.before.before.before.before.before.before.before).args.a (s c.before.before.before.before.before.before.before.before.before).args.b (s c.before.before.before.before.before.before.before.before.before).args.tally.fresh ((s c.before.before.before.before.before.before.before.before.before).requires.1.0.order (sorts q).0) (s c.before.before.before.before.before.before.before.before.before).requires.1.1.1.1.0 (after (made c.before.before.before.before.before.before.before.before.before)) (tried (made c.before.before.before.before.before.before.before.before.before) true c.if-shared.true) (goes c.before.before.before.before.before.before.before.before.before).1 (sorts q).1 (sorts q).2 in
+    ((goes c.before.before.before.before.before.before.before.before.before).0, ((record { fresh = c.renew-fresh.ensures; order = order }, counted), rows))
 
 returns-in-Common : tie.Need-returns-in-Common
 returns-in-Common c =
-    let f = c in
-    let s = start f.before.before.before.before in
-    let stays = share_stays s.args.board s.args.table.now s.args.order.now s.args.side s.args.a s.args.b s.args.tally.fresh s.args.tally.steps s.requires.0 s.requires.1.0 (after f.before.before.before.before) (tried f.before.before.before.before false c.if-shared.false) in
-    let same = sym ((tried f.before.before.before.before false c.if-shared.false).refused refl).1 in
-    (stays.0, ((stays.1, subst (λ (x : List ℤ). Counted s.args.side s.args.board x s.args.rich.now) same s.requires.1.1.0), subst (λ (x : List ℤ). RowsKept s.args.side s.args.board x f.share-shared.new.words f.share-shared.result.made) same f.share-shared.ensures.1))
+    let s = start c.before.before.before.before in
+    let stays = share_stays s.args.board s.args.table.now s.args.order.now s.args.side s.args.a s.args.b s.args.tally.fresh s.args.tally.steps s.requires.0 s.requires.1.0 (after c.before.before.before.before) (tried c.before.before.before.before false c.if-shared.false) in
+    let same = sym ((tried c.before.before.before.before false c.if-shared.false).refused refl).1 in
+    (stays.0, ((stays.1, subst (λ (x : List ℤ). Counted s.args.side s.args.board x s.args.rich.now) same s.requires.1.1.0), subst (λ (x : List ℤ). RowsKept s.args.side s.args.board x c.share-shared.new.words c.share-shared.result.made) same c.share-shared.ensures.1))
 
 returns : tie.Need-returns
 returns c =
-    let s = c in
-    let low = share_apart s.args.board s.args.table.now s.args.side s.args.a s.args.b s.args.tally.fresh _ (said difference_meaning s.requires.1.1.1.1.1 c.in_default.is) in
-    let left = share_left s.args.board s.args.table.now s.args.side s.args.a s.args.b s.args.tally.fresh low in
-    let stays = share_stays s.args.board s.args.table.now s.args.order.now s.args.side s.args.a s.args.b s.args.tally.fresh s.args.tally.steps s.requires.0 s.requires.1.0 s.args.table.now left in
-    (stays.0, ((stays.1, s.requires.1.1.0), s.requires.1.1.1.0))
+    let low = share_apart c.args.board c.args.table.now c.args.side c.args.a c.args.b c.args.tally.fresh _ (said difference_meaning c.requires.1.1.1.1.1 c.in_default.is) in
+    let left = share_left c.args.board c.args.table.now c.args.side c.args.a c.args.b c.args.tally.fresh low in
+    let stays = share_stays c.args.board c.args.table.now c.args.order.now c.args.side c.args.a c.args.b c.args.tally.fresh c.args.tally.steps c.requires.0 c.requires.1.0 c.args.table.now left in
+    (stays.0, ((stays.1, c.requires.1.1.0), c.requires.1.1.1.0))
 
 pub try_share_spec : {M : Type 1} → statement M
 try_share_spec =

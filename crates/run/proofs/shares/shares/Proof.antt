@@ -89,11 +89,9 @@ module _ (r : tie.After-renew invariant-compare decreases-compare invariant-seco
 
 returns-then-is_full : tie.Need-returns-then-is_full invariant-compare decreases-compare invariant-seconds decreases-seconds invariant-firsts decreases-firsts
 returns-then-is_full c =
-    let i = c in
-    let w = i in
-    let s = begin w.before.before in
-    let full = i.is_full.ensures c.if-is_full.true in
-    (full_stays s.args.board s.args.table.now s.args.order.now s.args.side w.renew.result s.args.steps s.requires.0 (ready w.before.before) full.0 full.1, s.requires.1.1)
+    let s = begin c.before.before in
+    let full = c.is_full.ensures c.if-is_full.true in
+    (full_stays s.args.board s.args.table.now s.args.order.now s.args.side c.renew.result s.args.steps s.requires.0 (ready c.before.before) full.0 full.1, s.requires.1.1)
 
 rich_ones-rich-requires : tie.Need-rich_ones-rich-requires invariant-compare decreases-compare invariant-seconds decreases-seconds invariant-firsts decreases-firsts
 rich_ones-rich-requires c κs = (begin c.before.before).requires.0.checked.lent
@@ -136,12 +134,11 @@ module _ (r : tie.After-rich_ones-rich invariant-compare decreases-compare invar
 
 firsts-init : tie.Need-firsts-init invariant-compare decreases-compare invariant-seconds decreases-seconds invariant-firsts decreases-firsts
 firsts-init c =
-    let r = c in
-    let s = start r.before in
-    let unmade : RowsKept (side r.before) (board r.before) s.args.table.now c.words-words.result false = record { long = c.words-words.ensures; outputs = λ q. absurd (never q); sets = λ q. absurd (never q) } in (
-      omega (arith, from_is r.before),
-      omega (arith, from_is r.before),
-      sharing_none (record { steps = s.args.steps; fresh = (renewed r.before).renew.result; sorted = s.args.sorted; made = false }) (share_tries (m r.before) (n r.before) s.args.board.vertices (side r.before)) (at_first (board r.before) (side r.before) (renewed r.before).first-from.result) (λ q. firsts_all (try_share (m r.before) (n r.before) s.args.board.vertices (side r.before) q) (first_of (side r.before) (m r.before)) (count_of (side r.before) (m r.before) (n r.before)) ∙ ap (λ (x : ℕ). at_first (board r.before) (side r.before) x q) (sym (from_is r.before))) s.requires.0 s.requires.1.0 (ready (renewed r.before)) r.rich_ones-rich.ensures unmade,
+    let s = start c.before in
+    let unmade : RowsKept (side c.before) (board c.before) s.args.table.now c.words-words.result false = record { long = c.words-words.ensures; outputs = λ q. absurd (never q); sets = λ q. absurd (never q) } in (
+      omega (arith, from_is c.before),
+      omega (arith, from_is c.before),
+      sharing_none (record { steps = s.args.steps; fresh = (renewed c.before).renew.result; sorted = s.args.sorted; made = false }) (share_tries (m c.before) (n c.before) s.args.board.vertices (side c.before)) (at_first (board c.before) (side c.before) (renewed c.before).first-from.result) (λ q. firsts_all (try_share (m c.before) (n c.before) s.args.board.vertices (side c.before) q) (first_of (side c.before) (m c.before)) (count_of (side c.before) (m c.before) (n c.before)) ∙ ap (λ (x : ℕ). at_first (board c.before) (side c.before) x q) (sym (from_is c.before))) s.requires.0 s.requires.1.0 (ready (renewed c.before)) c.rich_ones-rich.ensures unmade,
     )
   where
     never : false ≡ true → ⊥
@@ -204,7 +201,7 @@ module _ (k : tie.In-seconds invariant-compare decreases-compare invariant-secon
   line_b = line the_board the_side table b
 
 bounds-rich-b : tie.Need-bounds-rich-b invariant-compare decreases-compare invariant-seconds decreases-seconds invariant-firsts decreases-firsts
-bounds-rich-b c = let k = c in omega (arith, (on_b k.before).below, end_few (counted (turn k.before)))
+bounds-rich-b c = omega (arith, (on_b c.before).below, end_few (counted (turn c.before)))
 
 -- both lines have entries
 module _ (k : tie.In-seconds invariant-compare decreases-compare invariant-seconds decreases-seconds invariant-firsts decreases-firsts) where
@@ -215,10 +212,10 @@ module _ (k : tie.In-seconds invariant-compare decreases-compare invariant-secon
   entries = across_some (the_side k) (the_board k) sized
 
 place-p-requires : tie.Need-place-p-requires invariant-compare decreases-compare invariant-seconds decreases-seconds invariant-firsts decreases-firsts
-place-p-requires c κs = let k = c in (sized k.before.before.before, (on_a (turn k.before.before.before), entries k.before.before.before))
+place-p-requires c κs = (sized c.before.before.before, (on_a (turn c.before.before.before), entries c.before.before.before))
 
 place-q-requires : tie.Need-place-q-requires invariant-compare decreases-compare invariant-seconds decreases-seconds invariant-firsts decreases-firsts
-place-q-requires c κs = let k = c in (sized k.before.before.before.before, (on_b k.before.before.before.before, entries k.before.before.before.before))
+place-q-requires c κs = (sized c.before.before.before.before, (on_b c.before.before.before.before, entries c.before.before.before.before))
 
 compare-init : tie.Need-compare-init invariant-compare decreases-compare invariant-seconds decreases-seconds invariant-firsts decreases-firsts
 compare-init c = (omega arith, seen_none _ _, c.place-p.ensures, c.place-q.ensures)
@@ -266,10 +263,10 @@ bounds-matrix-p : tie.Need-bounds-matrix-p invariant-compare decreases-compare i
 bounds-matrix-p c = omega (arith, in_p c, (held c).room)
 
 offset_bounds-matrix-q : tie.Need-offset_bounds-matrix-q invariant-compare decreases-compare invariant-seconds decreases-seconds invariant-firsts decreases-firsts
-offset_bounds-matrix-q c = let e = c in omega (arith, in_q e.before, pairs_fit (sized (pair e.before)))
+offset_bounds-matrix-q c = omega (arith, in_q c.before, pairs_fit (sized (pair c.before)))
 
 bounds-matrix-q : tie.Need-bounds-matrix-q invariant-compare decreases-compare invariant-seconds decreases-seconds invariant-firsts decreases-firsts
-bounds-matrix-q c = let e = c in omega (arith, in_q e.before, (held e.before).room)
+bounds-matrix-q c = omega (arith, in_q c.before, (held c.before).room)
 
 -- the two cells, as the code has them
 module _ (c : tie.After-seen_next-arg-in-compare-1 invariant-compare decreases-compare invariant-seconds decreases-seconds invariant-firsts decreases-firsts) where
@@ -336,75 +333,68 @@ compare-preserved c = let e = there c in (omega (arith, inside e), turned c.befo
 -- where the ways out of the comparison meet, its answer
 answered : (c : tie.Joined-j-across invariant-compare decreases-compare invariant-seconds decreases-seconds invariant-firsts decreases-firsts) → let k = c in difference_meaning c.if-j-across.difference ≡ compared_by (the_side k.before.before.before.before.before.before.before) (the_board k.before.before.before.before.before.before.before) (table k.before.before.before.before.before.before.before) (a (turn k.before.before.before.before.before.before.before)) (b k.before.before.before.before.before.before.before)
 answered c =
-    let l = c in
-    let k = l in
-    let total = across_of (the_side k.before.before.before.before.before.before.before) (the_board k.before.before.before.before.before.before.before).inputs (the_board k.before.before.before.before.before.before.before).outputs in
+    let total = across_of (the_side c.before.before.before.before.before.before.before) (the_board c.before.before.before.before.before.before.before).inputs (the_board c.before.before.before.before.before.before.before).outputs in
     split c.if-j-across.branch-raw
     (λ w.
-    let e : l.compare.j ≡ total = omega (arith, w.if-j-across.true, l.compare.invariant.0, across_is (counted (turn k.before.before.before.before.before.before.before))) in
-    ap difference_meaning (w.difference-is ∙ w.settle-difference.ensures ∙ ap settled (l.compare.invariant.1 ∙ ap (λ (x : ℕ). seen x (line_a k.before.before.before.before.before.before.before) (line_b k.before.before.before.before.before.before.before)) e)) ∙ seen_common (line_a k.before.before.before.before.before.before.before) (line_b k.before.before.before.before.before.before.before) total)
+    let e : c.compare.j ≡ total = omega (arith, w.if-j-across.true, c.compare.invariant.0, across_is (counted (turn c.before.before.before.before.before.before.before))) in
+    ap difference_meaning (w.difference-is ∙ w.settle-difference.ensures ∙ ap settled (c.compare.invariant.1 ∙ ap (λ (x : ℕ). seen x (line_a c.before.before.before.before.before.before.before) (line_b c.before.before.before.before.before.before.before)) e)) ∙ seen_common (line_a c.before.before.before.before.before.before.before) (line_b c.before.before.before.before.before.before.before) total)
     (λ w.
-    let p : tie.After-seen_next-seen invariant-compare decreases-compare invariant-seconds decreases-seconds invariant-firsts decreases-firsts = record { before = record { before = record { before = record { before = l.before; if-j-across = w.if-j-across }; seen_next-arg-1 = w.seen_next-arg-1 }; seen_next-arg-in-compare-1 = w.seen_next-arg-in-compare-1 }; seen_next-seen = w.seen_next-seen } in
-    ap difference_meaning w.difference-is ∙ sym (ap (λ (s : Seen). difference_meaning (settled s)) (seen_clash (line_a k.before.before.before.before.before.before.before) (line_b k.before.before.before.before.before.before.before) (l.compare.j + 1) total (omega (arith, inside (here p.before))) (sym (turned p) ∙ w.in-Clash.is)))
-    ∙ seen_common (line_a k.before.before.before.before.before.before.before) (line_b k.before.before.before.before.before.before.before) total)
+    let p : tie.After-seen_next-seen invariant-compare decreases-compare invariant-seconds decreases-seconds invariant-firsts decreases-firsts = record { before = record { before = record { before = record { before = c.before; if-j-across = w.if-j-across }; seen_next-arg-1 = w.seen_next-arg-1 }; seen_next-arg-in-compare-1 = w.seen_next-arg-in-compare-1 }; seen_next-seen = w.seen_next-seen } in
+    ap difference_meaning w.difference-is ∙ sym (ap (λ (s : Seen). difference_meaning (settled s)) (seen_clash (line_a c.before.before.before.before.before.before.before) (line_b c.before.before.before.before.before.before.before) (c.compare.j + 1) total (omega (arith, inside (here p.before))) (sym (turned p) ∙ w.in-Clash.is)))
+    ∙ seen_common (line_a c.before.before.before.before.before.before.before) (line_b c.before.before.before.before.before.before.before) total)
 
 slice_bounds-try_share-end : tie.Need-slice_bounds-try_share-end invariant-compare decreases-compare invariant-seconds decreases-seconds invariant-firsts decreases-firsts
-slice_bounds-try_share-end c = let k = c in sym (seconds k.before.before.before.before.before.before.before.before.before.before).seconds.invariant.2.rows.long
+slice_bounds-try_share-end c = sym (seconds c.before.before.before.before.before.before.before.before.before.before).seconds.invariant.2.rows.long
 
 try_share-tally-requires : tie.Need-try_share-tally-requires invariant-compare decreases-compare invariant-seconds decreases-seconds invariant-firsts decreases-firsts
 try_share-tally-requires c κs =
-    let l = c in
-    let k = l in
-    let h = (seconds k.before.before.before.before.before.before.before.before.before.before).seconds.invariant.2 in
-    (h.running, (h.ready, (h.counted, (h.rows, (record { one = on_a (turn k.before.before.before.before.before.before.before.before.before.before); other = on_b k.before.before.before.before.before.before.before.before.before.before; two = l.if-a-b.true }, answered c.before.before.before)))))
+    let h = (seconds c.before.before.before.before.before.before.before.before.before.before).seconds.invariant.2 in
+    (h.running, (h.ready, (h.counted, (h.rows, (record { one = on_a (turn c.before.before.before.before.before.before.before.before.before.before); other = on_b c.before.before.before.before.before.before.before.before.before.before; two = c.if-a-b.true }, answered c.before.before.before)))))
 
 overflow_add-b : tie.Need-overflow_add-b invariant-compare decreases-compare invariant-seconds decreases-seconds invariant-firsts decreases-firsts
-overflow_add-b c = let k = c in omega (arith, (on_b k.before).below, end_few (counted (turn k.before)))
+overflow_add-b c = omega (arith, (on_b c.before).below, end_few (counted (turn c.before)))
 
 seconds-smaller : tie.Need-seconds-smaller invariant-compare decreases-compare invariant-seconds decreases-seconds invariant-firsts decreases-firsts
 seconds-smaller c = omega (arith, (on_b c.before).below)
 
 seconds-preserved : tie.Need-seconds-preserved invariant-compare decreases-compare invariant-seconds decreases-seconds invariant-firsts decreases-firsts
 seconds-preserved c =
-    let k = c in
-    let r = counted (turn k.before) in
-    let x = (seconds k.before).seconds in
+    let r = counted (turn c.before) in
+    let x = (seconds c.before).seconds in
     let h = x.invariant.2 in
-    let old = at_second (board r) (side r) (a (turn k.before)) (b k.before) in
-    let new = at_second (board r) (side r) (a (turn k.before)) (b k.before + 1) in (
-      omega (arith, (on_b k.before).from),
-      omega (arith, (on_b k.before).below),
+    let old = at_second (board r) (side r) (a (turn c.before)) (b c.before) in
+    let new = at_second (board r) (side r) (a (turn c.before)) (b c.before + 1) in (
+      omega (arith, (on_b c.before).from),
+      omega (arith, (on_b c.before).below),
       split c.if-a-b.branch-raw
           (λ w. sharing_is w.table-is w.words-is w.rich-is w.tally-is (sharing_on h
-          (sharing_one x.tally (a (turn k.before)) (b k.before) old new (another k.before w.if-a-b.true) h.running h.held _ _ _ _
+          (sharing_one x.tally (a (turn c.before)) (b c.before) old new (another c.before w.if-a-b.true) h.running h.held _ _ _ _
           w.try_share-tally.ensures.0 w.try_share-tally.ensures.1.0.0 w.try_share-tally.ensures.1.0.1 w.try_share-tally.ensures.1.1)))
           (λ w. split w
           (λ w.
           let idle = split (w.is_open.ensures w.if-is_open.false)
-          (λ poor. share_passed (board r) (table k.before) (start r).args.order.now (side r) (a (turn k.before)) (b k.before) x.tally.fresh x.tally.steps h.running h.ready (sym (h.counted.each (b k.before) (on_b k.before)) ∙ poor))
-          (λ full. full_passed (board r) (table k.before) (start r).args.order.now (side r) (a (turn k.before)) (b k.before) x.tally.fresh x.tally.steps h.running h.ready full.0 full.1) in
+          (λ poor. share_passed (board r) (table c.before) (start r).args.order.now (side r) (a (turn c.before)) (b c.before) x.tally.fresh x.tally.steps h.running h.ready (sym (h.counted.each (b c.before) (on_b c.before)) ∙ poor))
+          (λ full. full_passed (board r) (table c.before) (start r).args.order.now (side r) (a (turn c.before)) (b c.before) x.tally.fresh x.tally.steps h.running h.ready full.0 full.1) in
           sharing_is w.table-is w.words-is w.rich-is w.tally-is (sharing_on h
-          (sharing_one x.tally (a (turn k.before)) (b k.before) old new (another k.before w.if-a-b.true) h.running h.held _ _ _ _ idle h.ready h.counted h.rows)))
+          (sharing_one x.tally (a (turn c.before)) (b c.before) old new (another c.before w.if-a-b.true) h.running h.held _ _ _ _ idle h.ready h.counted h.rows)))
           (λ w. sharing_is w.table-is w.words-is w.rich-is w.tally-is (sharing_on h
-          (sharing_none x.tally old new (λ q. seconds_same (try_share (m r) (n r) (board r).vertices (side r) q) (first_of (side r) (m r)) (count_of (side r) (m r) (n r)) (a (turn k.before)) (b k.before) (on_b k.before).below w.if-a-b.false) h.running h.held h.ready h.counted h.rows)))),
+          (sharing_none x.tally old new (λ q. seconds_same (try_share (m r) (n r) (board r).vertices (side r) q) (first_of (side r) (m r)) (count_of (side r) (m r) (n r)) (a (turn c.before)) (b c.before) (on_b c.before).below w.if-a-b.false) h.running h.held h.ready h.counted h.rows)))),
     )
 
 overflow_add-a : tie.Need-overflow_add-a invariant-compare decreases-compare invariant-seconds decreases-seconds invariant-firsts decreases-firsts
-overflow_add-a c = let f = c in omega (arith, (on_a f.before.before).below, end_few (counted f.before.before))
+overflow_add-a c = omega (arith, (on_a c.before.before).below, end_few (counted c.before.before))
 
 firsts-smaller : tie.Need-firsts-smaller invariant-compare decreases-compare invariant-seconds decreases-seconds invariant-firsts decreases-firsts
 firsts-smaller c = omega (arith, (on_a c.before.before).below)
 
 firsts-preserved : tie.Need-firsts-preserved invariant-compare decreases-compare invariant-seconds decreases-seconds invariant-firsts decreases-firsts
 firsts-preserved c =
-    let l = c in
-    let f = l in
-    let r = counted f.before.before in
-    let h = (firsts f.before.before).firsts.invariant.2 in
-    let k = l.seconds.invariant.2 in
-    let begun = sharing_none (firsts f.before.before).firsts.tally (at_first (board r) (side r) (a f.before.before)) (at_second (board r) (side r) (a f.before.before) (first_of (side r) (m r))) (λ q. seconds_all (try_share (m r) (n r) (board r).vertices (side r) q) (first_of (side r) (m r)) (count_of (side r) (m r) (n r)) (a f.before.before) (on_a f.before.before).below) h.running h.held h.ready h.counted h.rows in
-    let ended = sharing_none l.seconds.tally (at_second (board r) (side r) (a f.before.before) l.seconds.b) (at_first (board r) (side r) (a f.before.before + 1)) (λ q. seconds_done (try_share (m r) (n r) (board r).vertices (side r) q) (first_of (side r) (m r)) (count_of (side r) (m r) (n r)) (a f.before.before) l.seconds.b (omega (arith, c.seconds-test.false, end_is r))) k.running k.held k.ready k.counted k.rows in
-    (omega (arith, (on_a f.before.before).from), omega (arith, (on_a f.before.before).below), sharing_on (sharing_on (sharing_on h begun) k) ended)
+    let r = counted c.before.before in
+    let h = (firsts c.before.before).firsts.invariant.2 in
+    let k = c.seconds.invariant.2 in
+    let begun = sharing_none (firsts c.before.before).firsts.tally (at_first (board r) (side r) (a c.before.before)) (at_second (board r) (side r) (a c.before.before) (first_of (side r) (m r))) (λ q. seconds_all (try_share (m r) (n r) (board r).vertices (side r) q) (first_of (side r) (m r)) (count_of (side r) (m r) (n r)) (a c.before.before) (on_a c.before.before).below) h.running h.held h.ready h.counted h.rows in
+    let ended = sharing_none c.seconds.tally (at_second (board r) (side r) (a c.before.before) c.seconds.b) (at_first (board r) (side r) (a c.before.before + 1)) (λ q. seconds_done (try_share (m r) (n r) (board r).vertices (side r) q) (first_of (side r) (m r)) (count_of (side r) (m r) (n r)) (a c.before.before) c.seconds.b (omega (arith, c.seconds-test.false, end_is r))) k.running k.held k.ready k.counted k.rows in
+    (omega (arith, (on_a c.before.before).from), omega (arith, (on_a c.before.before).below), sharing_on (sharing_on (sharing_on h begun) k) ended)
 
 shape_of-table : tie.Need-shape_of-table invariant-compare decreases-compare invariant-seconds decreases-seconds invariant-firsts decreases-firsts
 shape_of-table c = c.firsts.invariant.2.long
@@ -413,9 +403,8 @@ returns : tie.Need-returns invariant-compare decreases-compare invariant-seconds
 unfolding round
 returns c =
     let h = c.firsts.invariant.2 in
-    let r = c in
     let l = c.firsts in
-    let none : (q : ℕ) → at_first (board r.before.before.before) (side r.before.before.before) l.a q ≡ [] = λ q. firsts_done (try_share (m r.before.before.before) (n r.before.before.before) (board r.before.before.before).vertices (side r.before.before.before) q) (first_of (side r.before.before.before) (m r.before.before.before)) (count_of (side r.before.before.before) (m r.before.before.before) (n r.before.before.before)) l.a (omega (arith, c.firsts-test.false, end_is r.before.before.before)) in
+    let none : (q : ℕ) → at_first (board c.before.before.before) (side c.before.before.before) l.a q ≡ [] = λ q. firsts_done (try_share (m c.before.before.before) (n c.before.before.before) (board c.before.before.before).vertices (side c.before.before.before) q) (first_of (side c.before.before.before) (m c.before.before.before)) (count_of (side c.before.before.before) (m c.before.before.before) (n c.before.before.before)) l.a (omega (arith, c.firsts-test.false, end_is c.before.before.before)) in
     (λ q room. sym (h.way q room) ∙ ap (λ (qs : List Try). round qs (progress l.table l.tally.steps)) (none q), h.ready.order)
 
 pub shares_spec : {M : Type 1} → statement M

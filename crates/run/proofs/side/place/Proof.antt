@@ -24,7 +24,7 @@ overflow_mul-result-in-Outputs : tie.Need-overflow_mul-result-in-Outputs
 overflow_mul-result-in-Outputs c = omega (arith, on c.before Outputs c.in-Outputs.is)
 
 overflow_sub-result : tie.Need-overflow_sub-result
-overflow_sub-result c = let s = c in subst (λ (x : Side). first_of x s.args.board.inputs ≤ s.args.v) c.in-Outputs.is s.requires.1.0.from
+overflow_sub-result c = subst (λ (x : Side). first_of x c.args.board.inputs ≤ c.args.v) c.in-Outputs.is c.requires.1.0.from
 
 overflow_add-result-in-Outputs : tie.Need-overflow_add-result-in-Outputs
 overflow_add-result-in-Outputs c = omega (arith, on c.before Outputs c.in-Outputs.is)

@@ -13,9 +13,8 @@ end_of b k = first_vertex k b.inputs b.outputs + vertex_count k b.inputs b.outpu
 
 returns-in-Shrink : tie.Need-returns-in-Shrink
 returns-in-Shrink c =
-    let s = c in
-    let b = s.args.board in
-    let e : b.vertices ≡ b.inputs + b.outputs + (b.vertices - (b.inputs + b.outputs)) = omega (arith, s.requires.roles) in
+    let b = c.args.board in
+    let e : b.vertices ≡ b.inputs + b.outputs + (b.vertices - (b.inputs + b.outputs)) = omega (arith, c.requires.roles) in
     e ∙ ap (end_of b) (sym c.in-Shrink.is)
 
 returns-in-MergeBack : tie.Need-returns-in-MergeBack

@@ -25,17 +25,11 @@ named b t v kind k e after fit r h q =
 
 returns-in-Shrink : tie.Need-returns-in-Shrink
 returns-in-Shrink c =
-    let a = c in
-    let k = a in
-    let s = k in
-    subst (λ (x : VertexStep). Tries (table_by s.args.board (vertex_step x s.args.v) s.args.table.now) s.args.table.now a.try_shrink.new.table a.try_shrink.result) (sym k.in-Shrink.is) a.try_shrink.ensures
+    subst (λ (x : VertexStep). Tries (table_by c.args.board (vertex_step x c.args.v) c.args.table.now) c.args.table.now c.try_shrink.new.table c.try_shrink.result) (sym c.in-Shrink.is) c.try_shrink.ensures
 
 returns-in-MergeBack : tie.Need-returns-in-MergeBack
 returns-in-MergeBack c =
-    let a = c in
-    let k = a in
-    let s = k in
-    named s.args.board s.args.table.now s.args.v _ _ k.in-MergeBack.is a.apply_merge_back.new.table a.apply_merge_back.result _ a.apply_merge_back.ensures c.accepted.ensures
+    named c.args.board c.args.table.now c.args.v _ _ c.in-MergeBack.is c.apply_merge_back.new.table c.apply_merge_back.result _ c.apply_merge_back.ensures c.accepted.ensures
 
 pub try_vertex_spec : {M : Type 1} → statement M
 try_vertex_spec =

@@ -47,18 +47,14 @@ first-v-requires c κs = c.requires.0.checked.lent.sized
 
 loop-v-init : tie.Need-loop-v-init invariant-loop decreases-loop
 loop-v-init c =
-    let s = c in
-    let b = s.args.board in
-    let k = s.args.kind in
-    let p = progress s.args.table.now s.args.steps in
-    (refl, s.requires.0, s.requires.1, subst (λ (v : ℕ). Swept b.vertices (try_of b k) (from b k) (times b k) p v p) (sym c.first-v.ensures) (swept_none b.vertices (try_of b k) (from b k) (times b k) p))
+    let b = c.args.board in
+    let k = c.args.kind in
+    let p = progress c.args.table.now c.args.steps in
+    (refl, c.requires.0, c.requires.1, subst (λ (v : ℕ). Swept b.vertices (try_of b k) (from b k) (times b k) p v p) (sym c.first-v.ensures) (swept_none b.vertices (try_of b k) (from b k) (times b k) p))
 
 try_vertex-requires : tie.Need-try_vertex-requires invariant-loop decreases-loop
 try_vertex-requires c κs =
-    let i = c in
-    let l = i in
-    let s = l in
-    (l.loop-v.invariant.1.checked, (l.loop-v.invariant.2, omega (arith, i.loop-v-test.true, l.end-end.ensures, end_below s.args.board s.args.kind s.requires.0.checked.lent.sized)))
+    (c.loop-v.invariant.1.checked, (c.loop-v.invariant.2, omega (arith, c.loop-v-test.true, c.end-end.ensures, end_below c.args.board c.args.kind c.requires.0.checked.lent.sized)))
 
 overflow_add-done : tie.Need-overflow_add-done invariant-loop decreases-loop
 overflow_add-done c = omega (arith, c.loop-v.invariant.1.bound)
@@ -88,11 +84,9 @@ shape_of-table c = c.loop-v.invariant.0
 
 returns : tie.Need-returns invariant-loop decreases-loop
 returns c =
-    let l = c in
-    let s = l in
-    let b = s.args.board in
-    let k = s.args.kind in
-    swept_all b.vertices (try_of b k) (from b k) (times b k) (progress s.args.table.now s.args.steps) l.loop-v.v (progress l.loop-v.table l.loop-v.done) (omega (arith, l.end-end.ensures, c.loop-v-test.false)) l.loop-v.invariant.3
+    let b = c.args.board in
+    let k = c.args.kind in
+    swept_all b.vertices (try_of b k) (from b k) (times b k) (progress c.args.table.now c.args.steps) c.loop-v.v (progress c.loop-v.table c.loop-v.done) (omega (arith, c.end-end.ensures, c.loop-v-test.false)) c.loop-v.invariant.3
 
 pub vertex_tries_spec : {M : Type 1} → statement M
 vertex_tries_spec =

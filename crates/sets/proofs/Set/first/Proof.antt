@@ -7,7 +7,7 @@ returns-then-self-ne0 : tie.Need-returns-then-self-ne0
 returns-then-self-ne0 c = let s = c.args.self in from_low s c.least_bit.result c.least_bit.ensures.0 c.least_bit.ensures.1
 
 least_bit-requires-2 : tie.Need-least_bit-requires-2
-least_bit-requires-2 c κs = let s = c in high_left s.args.self s.requires.0 s.requires.1 c.if-self-ne0.false
+least_bit-requires-2 c κs = high_left c.args.self c.requires.0 c.requires.1 c.if-self-ne0.false
 
 returns : tie.Need-returns
 returns c = let s = c.args.self in from_high s c.least_bit-2.result c.least_bit-2.ensures.0 c.least_bit-2.ensures.1

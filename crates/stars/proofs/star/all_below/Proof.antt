@@ -19,14 +19,12 @@ loop-i-init c = (omega arith, refl)
 returns-then-n-xs : tie.Need-returns-then-n-xs invariant-loop decreases-loop
 unfolding below
 returns-then-n-xs c =
-    let l = c in
-    sym (l.loop-i.invariant.1 ∙ each_stop _ _ c.loop-i-test.true _ (not-below _ _ c.if-n-xs.true))
+    sym (c.loop-i.invariant.1 ∙ each_stop _ _ c.loop-i-test.true _ (not-below _ _ c.if-n-xs.true))
 
 loop-i-preserved : tie.Need-loop-i-preserved invariant-loop decreases-loop
 unfolding below
 loop-i-preserved c =
-    let l = c in
-    (omega arith, l.loop-i.invariant.1 ∙ each_pass _ _ c.loop-i-test.true _ (is_below _ _ c.if-n-xs.false))
+    (omega arith, c.loop-i.invariant.1 ∙ each_pass _ _ c.loop-i-test.true _ (is_below _ _ c.if-n-xs.false))
 
 returns : tie.Need-returns invariant-loop decreases-loop
 unfolding below

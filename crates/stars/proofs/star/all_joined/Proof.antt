@@ -64,24 +64,21 @@ slice_bounds-row_joined-start : tie.Need-slice_bounds-row_joined-start invariant
 slice_bounds-row_joined-start c = omega (arith, row c.before, room c.before)
 
 row_joined-requires : tie.Need-row_joined-requires invariant-loop decreases-loop
-row_joined-requires c κs = let i = c in below_wider (n i.before.before) _ (start i.before.before).args.targets.now (lent_long (n i.before.before) (t i.before.before) (u i.before.before) (room i.before.before) (low i.before.before)) (start i.before.before).requires.1.1
+row_joined-requires c κs = below_wider (n c.before.before) _ (start c.before.before).args.targets.now (lent_long (n c.before.before) (t c.before.before) (u c.before.before) (room c.before.before) (low c.before.before)) (start c.before.before).requires.1.1
 
 said : (c : tie.After-row_joined invariant-loop decreases-loop) → let i = c in joined (n i.before.before.before) (t i.before.before.before) (start i.before.before.before).args.targets.now (u i.before.before.before) ≡ c.row_joined.result
 said c =
-    let i = c in
-    let targets = (start i.before.before.before).args.targets.now in
-    sym (c.row_joined.ensures ∙ each_same targets (λ v. present (cell_at (lent (n i.before.before.before) (t i.before.before.before) (u i.before.before.before) (room i.before.before.before) (low i.before.before.before)) v)) (λ v. present (graph_of (n i.before.before.before) (t i.before.before.before) (u i.before.before.before) v))
-    (λ v m. ap present (lent_cell (n i.before.before.before) (t i.before.before.before) (u i.before.before.before) (room i.before.before.before) (low i.before.before.before) v (below-member (n i.before.before.before) targets (start i.before.before.before).requires.1.1 v m))))
+    let targets = (start c.before.before.before).args.targets.now in
+    sym (c.row_joined.ensures ∙ each_same targets (λ v. present (cell_at (lent (n c.before.before.before) (t c.before.before.before) (u c.before.before.before) (room c.before.before.before) (low c.before.before.before)) v)) (λ v. present (graph_of (n c.before.before.before) (t c.before.before.before) (u c.before.before.before) v))
+    (λ v m. ap present (lent_cell (n c.before.before.before) (t c.before.before.before) (u c.before.before.before) (room c.before.before.before) (low c.before.before.before) v (below-member (n c.before.before.before) targets (start c.before.before.before).requires.1.1 v m))))
 
 returns-then-not-row_joined : tie.Need-returns-then-not-row_joined invariant-loop decreases-loop
 returns-then-not-row_joined c =
-    let i = c in
-    sym (i.loop-i.invariant.1 ∙ each_stop _ _ i.loop-i-test.true _ (said c.before ∙ not-true _ c.if-not-row_joined.true-raw))
+    sym (c.loop-i.invariant.1 ∙ each_stop _ _ c.loop-i-test.true _ (said c.before ∙ not-true _ c.if-not-row_joined.true-raw))
 
 loop-i-preserved : tie.Need-loop-i-preserved invariant-loop decreases-loop
 loop-i-preserved c =
-    let i = c in
-    (omega (arith, i.loop-i-test.true), i.loop-i.invariant.1 ∙ each_pass _ _ i.loop-i-test.true _ (said c.before ∙ not-false _ c.if-not-row_joined.false-raw))
+    (omega (arith, c.loop-i-test.true), c.loop-i.invariant.1 ∙ each_pass _ _ c.loop-i-test.true _ (said c.before ∙ not-false _ c.if-not-row_joined.false-raw))
 
 returns : tie.Need-returns invariant-loop decreases-loop
 returns c = sym (c.loop-i.invariant.1 ∙ each_end _ _ c.loop-i-test.false _)

@@ -29,7 +29,7 @@ loop-i-init c = let row = c.args.row.now in let ts = c.args.targets.now in (omeg
 
 inside : (c : tie.In-loop-i invariant-loop decreases-loop) → let l = c in let s = l in
     get_or s.args.targets.now l.loop-i.i 0 < length s.args.row.now
-inside c = let l = c in let s = l in below_at _ _ s.requires.0.under l.loop-i.i c.loop-i-test.true
+inside c = below_at _ _ c.requires.0.under c.loop-i.i c.loop-i-test.true
 
 offset_bounds-first-t : tie.Need-offset_bounds-first-t invariant-loop decreases-loop
 offset_bounds-first-t c = omega (arith, inside c.before, c.requires.1)
@@ -45,17 +45,14 @@ bounds-row-t c = omega (arith, inside c.before.before, c.loop-i.invariant.1)
 
 loop-i-preserved : tie.Need-loop-i-preserved invariant-loop decreases-loop
 loop-i-preserved c =
-    let i = c in
-    let l = i in
-    let s = l in
-    let row = s.args.row.now in
-    let first = s.args.first.now in
-    let ts = s.args.targets.now in
-    let t = get_or ts l.loop-i.i 0 in (
-      omega (arith, i.loop-i-test.true),
-      simp length-set l.loop-i.invariant.1,
-      rewriting_set ts (old row) (centre_cell row first ts) l.loop-i.i i.loop-i-test.true l.loop-i.row l.loop-i.invariant.2 s.requires.0.apart (omega (arith, inside i.before.before, l.loop-i.invariant.1)) _
-          (back w32 (get_or first t (pos 0)) c.row-1.given ∙ sym (centre_target row first ts t (is_true (member t ts) (member_at ts l.loop-i.i i.loop-i-test.true)))),
+    let row = c.args.row.now in
+    let first = c.args.first.now in
+    let ts = c.args.targets.now in
+    let t = get_or ts c.loop-i.i 0 in (
+      omega (arith, c.loop-i-test.true),
+      simp length-set c.loop-i.invariant.1,
+      rewriting_set ts (old row) (centre_cell row first ts) c.loop-i.i c.loop-i-test.true c.loop-i.row c.loop-i.invariant.2 c.requires.0.apart (omega (arith, inside c.before.before, c.loop-i.invariant.1)) _
+          (back w32 (get_or first t (pos 0)) c.row-1.given ∙ sym (centre_target row first ts t (is_true (member t ts) (member_at ts c.loop-i.i c.loop-i-test.true)))),
     )
 
 shape_of-row : tie.Need-shape_of-row invariant-loop decreases-loop
@@ -63,11 +60,9 @@ shape_of-row c = c.loop-i.invariant.1
 
 returns : tie.Need-returns invariant-loop decreases-loop
 returns c =
-    let l = c in
-    let s = l in
-    let row = s.args.row.now in
-    let ts = s.args.targets.now in
-    rewriting_end ts (old row) (centre_cell row s.args.first.now ts) l.loop-i.i c.loop-i-test.false l.loop-i.row (length row) l.loop-i.invariant.1 l.loop-i.invariant.2
+    let row = c.args.row.now in
+    let ts = c.args.targets.now in
+    rewriting_end ts (old row) (centre_cell row c.args.first.now ts) c.loop-i.i c.loop-i-test.false c.loop-i.row (length row) c.loop-i.invariant.1 c.loop-i.invariant.2
 
 pub centre_row_spec : {M : Type 1} → statement M
 centre_row_spec =

@@ -31,11 +31,10 @@ decreases-loop row₀ first targets e i₀ row i = length targets - i
 
 loop-i-init : tie.Need-loop-i-init invariant-loop decreases-loop
 loop-i-init c =
-    let s = c in
-    let row = s.args.row.now in
-    let first = s.args.first.now in
-    let ts = s.args.targets.now in
-    let e = to_z w64 (of_z w64 s.args.e) in
+    let row = c.args.row.now in
+    let first = c.args.first.now in
+    let ts = c.args.targets.now in
+    let e = to_z w64 (of_z w64 c.args.e) in
     (omega arith, refl, rewriting_start ts (old row) (cleared_cell row first ts e) row (λ v. refl) (λ v. cleared_other row first ts v e))
 
 module _ (c : tie.In-loop-i invariant-loop decreases-loop) where
@@ -91,27 +90,24 @@ slice_set_of-row c = inside c.before.before.before.before.before
 said : (c : tie.After-is_covered invariant-loop decreases-loop) → let j = c in meets (old_row j.before.before.before.before) (first j.before.before.before.before) (e j.before.before.before.before) (t j.before.before.before.before) ≡ c.is_covered.result
 unfolding meets
 said c =
-    let j = c in
-    let l = j.loop-i in
-    let here : to_z w32 (of_z w32 (get_or l.row (t j.before.before.before.before) (pos 0))) ≡ get_or (old_row j.before.before.before.before) (t j.before.before.before.before) (pos 0) =
-    back w32 (get_or l.row (t j.before.before.before.before) (pos 0)) c.is_covered-arg-1.given
-    ∙ rewriting_here (ts j.before.before.before.before) (old (old_row j.before.before.before.before)) (cleared_cell (old_row j.before.before.before.before) (first j.before.before.before.before) (ts j.before.before.before.before) (e j.before.before.before.before)) (i j.before.before.before.before) j.loop-i-test.true l.row l.invariant.2 in
-    sym (c.is_covered.ensures ∙ ap₂ (λ (x y : ℤ). eq_z x (e j.before.before.before.before +ℤ y)) here (back w32 (get_or (first j.before.before.before.before) (t j.before.before.before.before) (pos 0)) c.is_covered-arg-in-loop-i-1.given))
+    let l = c.loop-i in
+    let here : to_z w32 (of_z w32 (get_or l.row (t c.before.before.before.before) (pos 0))) ≡ get_or (old_row c.before.before.before.before) (t c.before.before.before.before) (pos 0) =
+    back w32 (get_or l.row (t c.before.before.before.before) (pos 0)) c.is_covered-arg-1.given
+    ∙ rewriting_here (ts c.before.before.before.before) (old (old_row c.before.before.before.before)) (cleared_cell (old_row c.before.before.before.before) (first c.before.before.before.before) (ts c.before.before.before.before) (e c.before.before.before.before)) (i c.before.before.before.before) c.loop-i-test.true l.row l.invariant.2 in
+    sym (c.is_covered.ensures ∙ ap₂ (λ (x y : ℤ). eq_z x (e c.before.before.before.before +ℤ y)) here (back w32 (get_or (first c.before.before.before.before) (t c.before.before.before.before) (pos 0)) c.is_covered-arg-in-loop-i-1.given))
 
 loop-i-preserved : tie.Need-loop-i-preserved invariant-loop decreases-loop
 loop-i-preserved c =
-    let a = c in
-    let j = a in
-    let l = j.loop-i in
-    let new = cleared_cell (old_row j.before.before.before.before.before) (first j.before.before.before.before.before) (ts j.before.before.before.before.before) (e j.before.before.before.before.before) in
-    let met = is_true (member (t j.before.before.before.before.before) (ts j.before.before.before.before.before)) (member_at (ts j.before.before.before.before.before) (i j.before.before.before.before.before) j.loop-i-test.true) in (
-      omega (arith, j.loop-i-test.true),
-      split c.if-is_covered.branch-raw (λ y. ap length y.row-is ∙ length-set l.row (t j.before.before.before.before.before) absent_cell ∙ l.invariant.1) (λ y. ap length y.row-is ∙ l.invariant.1),
+    let l = c.loop-i in
+    let new = cleared_cell (old_row c.before.before.before.before.before) (first c.before.before.before.before.before) (ts c.before.before.before.before.before) (e c.before.before.before.before.before) in
+    let met = is_true (member (t c.before.before.before.before.before) (ts c.before.before.before.before.before)) (member_at (ts c.before.before.before.before.before) (i c.before.before.before.before.before) c.loop-i-test.true) in (
+      omega (arith, c.loop-i-test.true),
+      split c.if-is_covered.branch-raw (λ y. ap length y.row-is ∙ length-set l.row (t c.before.before.before.before.before) absent_cell ∙ l.invariant.1) (λ y. ap length y.row-is ∙ l.invariant.1),
       split c.if-is_covered.branch-raw
-          (λ y. subst (λ (r : List ℤ). Rewriting (ts j.before.before.before.before.before) (old (old_row j.before.before.before.before.before)) new r (i j.before.before.before.before.before + 1)) (sym y.row-is)
-          (rewriting_set (ts j.before.before.before.before.before) (old (old_row j.before.before.before.before.before)) new (i j.before.before.before.before.before) j.loop-i-test.true l.row l.invariant.2 (start j.before.before.before.before.before).requires.0.apart (inside j.before.before.before.before.before) absent_cell (sym (cleared (old_row j.before.before.before.before.before) (first j.before.before.before.before.before) (ts j.before.before.before.before.before) (t j.before.before.before.before.before) (e j.before.before.before.before.before) met (said a.before ∙ y.if-is_covered.true)))))
-          (λ y. subst (λ (r : List ℤ). Rewriting (ts j.before.before.before.before.before) (old (old_row j.before.before.before.before.before)) new r (i j.before.before.before.before.before + 1)) (sym y.row-is)
-          (rewriting_keep (ts j.before.before.before.before.before) (old (old_row j.before.before.before.before.before)) new (i j.before.before.before.before.before) j.loop-i-test.true l.row l.invariant.2 (start j.before.before.before.before.before).requires.0.apart (kept (old_row j.before.before.before.before.before) (first j.before.before.before.before.before) (ts j.before.before.before.before.before) (t j.before.before.before.before.before) (e j.before.before.before.before.before) (said a.before ∙ y.if-is_covered.false)))),
+          (λ y. subst (λ (r : List ℤ). Rewriting (ts c.before.before.before.before.before) (old (old_row c.before.before.before.before.before)) new r (i c.before.before.before.before.before + 1)) (sym y.row-is)
+          (rewriting_set (ts c.before.before.before.before.before) (old (old_row c.before.before.before.before.before)) new (i c.before.before.before.before.before) c.loop-i-test.true l.row l.invariant.2 (start c.before.before.before.before.before).requires.0.apart (inside c.before.before.before.before.before) absent_cell (sym (cleared (old_row c.before.before.before.before.before) (first c.before.before.before.before.before) (ts c.before.before.before.before.before) (t c.before.before.before.before.before) (e c.before.before.before.before.before) met (said c.before ∙ y.if-is_covered.true)))))
+          (λ y. subst (λ (r : List ℤ). Rewriting (ts c.before.before.before.before.before) (old (old_row c.before.before.before.before.before)) new r (i c.before.before.before.before.before + 1)) (sym y.row-is)
+          (rewriting_keep (ts c.before.before.before.before.before) (old (old_row c.before.before.before.before.before)) new (i c.before.before.before.before.before) c.loop-i-test.true l.row l.invariant.2 (start c.before.before.before.before.before).requires.0.apart (kept (old_row c.before.before.before.before.before) (first c.before.before.before.before.before) (ts c.before.before.before.before.before) (t c.before.before.before.before.before) (e c.before.before.before.before.before) (said c.before ∙ y.if-is_covered.false)))),
     )
 
 shape_of-row : tie.Need-shape_of-row invariant-loop decreases-loop
@@ -119,12 +115,10 @@ shape_of-row c = c.loop-i.invariant.1
 
 returns : tie.Need-returns invariant-loop decreases-loop
 returns c =
-    let l = c in
-    let s = l in
-    let row = s.args.row.now in
-    let ts = s.args.targets.now in
-    rewriting_end ts (old row) (cleared_cell row s.args.first.now ts (to_z w64 (of_z w64 s.args.e))) l.loop-i.i c.loop-i-test.false l.loop-i.row (length row) l.loop-i.invariant.1 l.loop-i.invariant.2
-    ∙ ap (λ (z : ℤ). tabulate (length row) (cleared_cell row s.args.first.now ts z)) (to_z-of_z s.ranges.e)
+    let row = c.args.row.now in
+    let ts = c.args.targets.now in
+    rewriting_end ts (old row) (cleared_cell row c.args.first.now ts (to_z w64 (of_z w64 c.args.e))) c.loop-i.i c.loop-i-test.false c.loop-i.row (length row) c.loop-i.invariant.1 c.loop-i.invariant.2
+    ∙ ap (λ (z : ℤ). tabulate (length row) (cleared_cell row c.args.first.now ts z)) (to_z-of_z c.ranges.e)
 
 pub clear_covered_spec : {M : Type 1} → statement M
 clear_covered_spec =

@@ -10,16 +10,14 @@ returns-then-not-all_below c =
 
 returns-then-not-all_below-2 : tie.Need-returns-then-not-all_below-2
 returns-then-not-all_below-2 c =
-    let a = c in
-    let e = sym a.all_below.ensures ∙ not-false _ a.if-not-all_below.false-raw in
-    let e2 = sym a.all_below-2.ensures ∙ not-true _ c.if-not-all_below-2.true-raw in
+    let e = sym c.all_below.ensures ∙ not-false _ c.if-not-all_below.false-raw in
+    let e2 = sym c.all_below-2.ensures ∙ not-true _ c.if-not-all_below-2.true-raw in
     simp (e, e2)
 
 returns : tie.Need-returns
 returns c =
-    let a = c in
-    let e = sym a.all_below.ensures ∙ not-false _ a.if-not-all_below.false-raw in
-    let e2 = sym a.all_below-2.ensures ∙ not-false _ c.if-not-all_below-2.false-raw in
+    let e = sym c.all_below.ensures ∙ not-false _ c.if-not-all_below.false-raw in
+    let e2 = sym c.all_below-2.ensures ∙ not-false _ c.if-not-all_below-2.false-raw in
     simp (e, e2)
 
 pub exist_spec : {M : Type 1} → statement M

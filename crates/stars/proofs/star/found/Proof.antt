@@ -19,13 +19,11 @@ loop-i-init c = (omega arith, refl)
 
 returns-then-x-xs : tie.Need-returns-then-x-xs invariant-loop decreases-loop
 returns-then-x-xs c =
-    let l = c in
-    sym (l.loop-i.invariant.1 ∙ member_stop _ _ c.loop-i-test.true _ (is_true _ (eq→eqb _ _ c.if-x-xs.true)))
+    sym (c.loop-i.invariant.1 ∙ member_stop _ _ c.loop-i-test.true _ (is_true _ (eq→eqb _ _ c.if-x-xs.true)))
 
 loop-i-preserved : tie.Need-loop-i-preserved invariant-loop decreases-loop
 loop-i-preserved c =
-    let l = c in
-    (omega arith, l.loop-i.invariant.1 ∙ member_pass _ _ c.loop-i-test.true _ (eqb_other _ _ c.if-x-xs.false))
+    (omega arith, c.loop-i.invariant.1 ∙ member_pass _ _ c.loop-i-test.true _ (eqb_other _ _ c.if-x-xs.false))
 
 returns : tie.Need-returns invariant-loop decreases-loop
 returns c = sym (c.loop-i.invariant.1 ∙ member_end _ _ c.loop-i-test.false _)

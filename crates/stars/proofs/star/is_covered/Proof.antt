@@ -7,9 +7,8 @@ use Rattle.stars.proofs.star.is_covered.Tie as tie
 
 returns : tie.Need-returns
 returns c =
-    let s = c in
-    difference_bits s.args.delay s.args.first s.args.e c.difference.result s.ranges.e (record { sfits = c.difference.type_inv })
-    (c.difference.ensures ∙ ap₂ ◌-ℤ◌ (to_z-of_z s.ranges.delay) (to_z-of_z s.ranges.first))
+    difference_bits c.args.delay c.args.first c.args.e c.difference.result c.ranges.e (record { sfits = c.difference.type_inv })
+    (c.difference.ensures ∙ ap₂ ◌-ℤ◌ (to_z-of_z c.ranges.delay) (to_z-of_z c.ranges.first))
 
 pub is_covered_spec : {M : Type 1} → statement M
 is_covered_spec = tie.close (tie.spec

@@ -27,14 +27,12 @@ loop-i-init c = (omega arith, refl)
 
 returns-then-found : tie.Need-returns-then-found invariant-loop decreases-loop
 returns-then-found c =
-    let i = c in
-    let xs = i.args.xs.now in
-    sym (no_second (non_empty xs) (distinct xs) (i.loop-i.invariant.1 ∙ distinct_stop _ _ i.loop-i-test.true (sym c.found.ensures ∙ c.if-found.true)))
+    let xs = c.args.xs.now in
+    sym (no_second (non_empty xs) (distinct xs) (c.loop-i.invariant.1 ∙ distinct_stop _ _ c.loop-i-test.true (sym c.found.ensures ∙ c.if-found.true)))
 
 loop-i-preserved : tie.Need-loop-i-preserved invariant-loop decreases-loop
 loop-i-preserved c =
-    let i = c in
-    (omega arith, i.loop-i.invariant.1 ∙ distinct_pass _ _ i.loop-i-test.true (sym c.found.ensures ∙ c.if-found.false))
+    (omega arith, c.loop-i.invariant.1 ∙ distinct_pass _ _ c.loop-i-test.true (sym c.found.ensures ∙ c.if-found.false))
 
 returns : tie.Need-returns invariant-loop decreases-loop
 returns c =

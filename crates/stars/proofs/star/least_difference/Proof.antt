@@ -39,7 +39,7 @@ bounds-targets-i c = omega (arith, some c.before.before)
 
 final : (c : tie.After-shared_slice_known-2-1 invariant-loop decreases-loop) → let s = c in let i = length s.args.targets.now - 1 in
     (get_or s.args.targets.now i 0 < length s.args.row.now) × (get_or s.args.targets.now i 0 < 90)
-final c = let s = c in (below_at _ _ s.requires.0 _ (omega (arith, some s.before.before)), below_at _ _ s.requires.1.0 _ (omega (arith, some s.before.before)))
+final c = (below_at _ _ c.requires.0 _ (omega (arith, some c.before.before)), below_at _ _ c.requires.1.0 _ (omega (arith, some c.before.before)))
 
 offset_bounds-row-last : tie.Need-offset_bounds-row-last invariant-loop decreases-loop
 offset_bounds-row-last c = omega (arith, (final c).1)
@@ -55,15 +55,14 @@ bounds-first-last c = (final c.before).1
 
 loop-i-init : tie.Need-loop-i-init invariant-loop decreases-loop
 loop-i-init c =
-    let s = c in
-    let ts = s.args.targets.now in
+    let ts = c.args.targets.now in
     let t = get_or ts (length ts - 1) 0 in (
-      omega (arith, some s.before.before.before.before.before),
+      omega (arith, some c.before.before.before.before.before),
       c.difference-e.result,
       record { sfits = c.difference-e.type_inv },
       refl,
-      ap at (c.difference-e.ensures ∙ ap₂ ◌-ℤ◌ (back w32 (get_or s.args.row.now t (pos 0)) c.difference-arg-1.given) (back w32 (get_or s.args.first.now t (pos 0)) c.difference-arg-2-1.given))
-          ∙ sym (least_last ts (gap s.args.row.now s.args.first.now) (length ts - 1) (omega (arith, some s.before.before.before.before.before))),
+      ap at (c.difference-e.ensures ∙ ap₂ ◌-ℤ◌ (back w32 (get_or c.args.row.now t (pos 0)) c.difference-arg-1.given) (back w32 (get_or c.args.first.now t (pos 0)) c.difference-arg-2-1.given))
+          ∙ sym (least_last ts (gap c.args.row.now c.args.first.now) (length ts - 1) (omega (arith, some c.before.before.before.before.before))),
     )
 
 offset_bounds-targets-i-in-loop-i : tie.Need-offset_bounds-targets-i-in-loop-i invariant-loop decreases-loop
@@ -74,7 +73,7 @@ bounds-targets-i-in-loop-i c = omega (arith, c.loop-i.invariant.0)
 
 inside : (c : tie.In-loop-i invariant-loop decreases-loop) → let l = c in let s = l in let i = l.loop-i.i - 1 in
     (get_or s.args.targets.now i 0 < length s.args.row.now) × (get_or s.args.targets.now i 0 < 90)
-inside c = let l = c in let s = l in (below_at _ _ s.requires.0 _ (omega (arith, l.loop-i.invariant.0)), below_at _ _ s.requires.1.0 _ (omega (arith, l.loop-i.invariant.0)))
+inside c = (below_at _ _ c.requires.0 _ (omega (arith, c.loop-i.invariant.0)), below_at _ _ c.requires.1.0 _ (omega (arith, c.loop-i.invariant.0)))
 
 offset_bounds-row-t : tie.Need-offset_bounds-row-t invariant-loop decreases-loop
 offset_bounds-row-t c = omega (arith, (inside c.before).1)
@@ -93,33 +92,27 @@ loop-i-smaller c = omega (arith, c.loop-i-test.true)
 
 loop-i-preserved : tie.Need-loop-i-preserved invariant-loop decreases-loop
 loop-i-preserved c =
-    let d = c in
-    let i = d in
-    let l = i in
-    let s = l in
-    let row = s.args.row.now in
-    let first = s.args.first.now in
-    let t = get_or s.args.targets.now (l.loop-i.i - 1) 0 in
-    let here : to_z w64 (of_z w64 d.difference.result) ≡ get_or row t (pos 0) -ℤ get_or first t (pos 0) =
-    back w64 d.difference.result d.difference.type_inv ∙ d.difference.ensures
-    ∙ ap₂ ◌-ℤ◌ (back w32 (get_or row t (pos 0)) d.difference-arg-in-loop-i-1.given) (back w32 (get_or first t (pos 0)) d.difference-arg-in-loop-i-2-1.given) in
-    let there : to_z w64 l.loop-i.e-bits ≡ l.loop-i.invariant.1 = ap (to_z w64) l.loop-i.invariant.3 ∙ to_z-of_z l.loop-i.invariant.2 in (
-      omega (arith, l.loop-i.invariant.0),
+    let row = c.args.row.now in
+    let first = c.args.first.now in
+    let t = get_or c.args.targets.now (c.loop-i.i - 1) 0 in
+    let here : to_z w64 (of_z w64 c.difference.result) ≡ get_or row t (pos 0) -ℤ get_or first t (pos 0) =
+    back w64 c.difference.result c.difference.type_inv ∙ c.difference.ensures
+    ∙ ap₂ ◌-ℤ◌ (back w32 (get_or row t (pos 0)) c.difference-arg-in-loop-i-1.given) (back w32 (get_or first t (pos 0)) c.difference-arg-in-loop-i-2-1.given) in
+    let there : to_z w64 c.loop-i.e-bits ≡ c.loop-i.invariant.1 = ap (to_z w64) c.loop-i.invariant.3 ∙ to_z-of_z c.loop-i.invariant.2 in (
+      omega (arith, c.loop-i.invariant.0),
       c.lesser-e.result,
       record { sfits = c.lesser-e.type_inv },
       refl,
       ap at (c.lesser-e.ensures ∙ ap₂ min_z here there)
-          ∙ least_turn s.args.targets.now (gap row first) l.loop-i.i _ l.loop-i.invariant.1 i.loop-i-test.true l.loop-i.invariant.0 refl l.loop-i.invariant.4,
+          ∙ least_turn c.args.targets.now (gap row first) c.loop-i.i _ c.loop-i.invariant.1 c.loop-i-test.true c.loop-i.invariant.0 refl c.loop-i.invariant.4,
     )
 
 returns : tie.Need-returns invariant-loop decreases-loop
 unfolding least_gap
 returns c =
-    let l = c in
-    let s = l in
-    let z : l.loop-i.i ≡ 0 = omega (arith, c.loop-i-test.false) in
-    ap at (ap (to_z w64) l.loop-i.invariant.3 ∙ to_z-of_z l.loop-i.invariant.2) ∙ l.loop-i.invariant.4
-    ∙ ap (λ (i : ℕ). least (drop i s.args.targets.now) (gap s.args.row.now s.args.first.now)) z
+    let z : c.loop-i.i ≡ 0 = omega (arith, c.loop-i-test.false) in
+    ap at (ap (to_z w64) c.loop-i.invariant.3 ∙ to_z-of_z c.loop-i.invariant.2) ∙ c.loop-i.invariant.4
+    ∙ ap (λ (i : ℕ). least (drop i c.args.targets.now) (gap c.args.row.now c.args.first.now)) z
 
 pub least_difference_spec : {M : Type 1} → statement M
 least_difference_spec =

@@ -8,17 +8,15 @@ use Rattle.stars.proofs.star.lesser.Tie as tie
 returns-then-b-a : tie.Need-returns-then-b-a
 unfolding min_z
 returns-then-b-a c =
-    let s = c in
-    let a = to_z-of_z {w = w64} s.ranges.a in
-    let b = to_z-of_z {w = w64} s.ranges.b in
+    let a = to_z-of_z {w = w64} c.ranges.a in
+    let b = to_z-of_z {w = w64} c.ranges.b in
     b ∙ simp (rw (a, b) at c.if-b-a.true)
 
 returns : tie.Need-returns
 unfolding min_z
 returns c =
-    let s = c in
-    let a = to_z-of_z {w = w64} s.ranges.a in
-    let b = to_z-of_z {w = w64} s.ranges.b in
+    let a = to_z-of_z {w = w64} c.ranges.a in
+    let b = to_z-of_z {w = w64} c.ranges.b in
     a ∙ simp (rw (a, b) at c.if-b-a.false)
 
 pub lesser_spec : {M : Type 1} → statement M

@@ -24,18 +24,15 @@ bounds-marked-x c = below_at _ _ c.requires _ c.loop-i-test.true
 
 loop-i-preserved : tie.Need-loop-i-preserved invariant-loop decreases-loop
 loop-i-preserved c =
-    let l = c in
-    let i = c in
-    let xs = l.args.xs.now in (
-      omega (arith, i.loop-i-test.true),
-      simp length-set l.loop-i.invariant.1,
-      λ v h. mark_turn xs l.loop-i.marked l.loop-i.i v i.loop-i-test.true (omega (arith, l.loop-i.invariant.1, below_at 90 xs l.requires l.loop-i.i i.loop-i-test.true)) (l.loop-i.invariant.2 v h),
+    let xs = c.args.xs.now in (
+      omega (arith, c.loop-i-test.true),
+      simp length-set c.loop-i.invariant.1,
+      λ v h. mark_turn xs c.loop-i.marked c.loop-i.i v c.loop-i-test.true (omega (arith, c.loop-i.invariant.1, below_at 90 xs c.requires c.loop-i.i c.loop-i-test.true)) (c.loop-i.invariant.2 v h),
     )
 
 returns : tie.Need-returns invariant-loop decreases-loop
 returns c v h =
-    let l = c in
-    sym (ap (λ (b : Bool). get_or l.loop-i.marked v false || b) (member_end _ _ c.loop-i-test.false v) ∙ or_none (get_or l.loop-i.marked v false)) ∙ l.loop-i.invariant.2 v h
+    sym (ap (λ (b : Bool). get_or c.loop-i.marked v false || b) (member_end _ _ c.loop-i-test.false v) ∙ or_none (get_or c.loop-i.marked v false)) ∙ c.loop-i.invariant.2 v h
 
 pub marks_spec : {M : Type 1} → statement M
 marks_spec =

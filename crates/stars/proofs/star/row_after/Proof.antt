@@ -12,32 +12,25 @@ use Rattle.stars.proofs.RowCells.{of_centre, of_source, of_other}
 
 returns-then-u-k : tie.Need-returns-then-u-k
 returns-then-u-k c =
-    let i = c in
-    let s = i in
-    let row = s.args.row.now in
-    let same : eqb s.args.u s.args.k ≡ true = is_true _ (eq→eqb s.args.u s.args.k i.if-u-k.true) in
+    let row = c.args.row.now in
+    let same : eqb c.args.u c.args.k ≡ true = is_true _ (eq→eqb c.args.u c.args.k c.if-u-k.true) in
     c.centre_row.ensures
-    ∙ tabulate_same (length row) _ _ (λ v _. sym (of_centre row s.args.first.now s.args.targets.now s.args.k s.args.u s.args.source v same))
+    ∙ tabulate_same (length row) _ _ (λ v _. sym (of_centre row c.args.first.now c.args.targets.now c.args.k c.args.u c.args.source v same))
 
 source_row-requires : tie.Need-source_row-requires
 source_row-requires c κs =
-    let i = c in
-    let s = i in
-    (s.requires.0, (s.requires.1.0, (s.requires.1.1.0, s.requires.1.1.1 i.if-source.true)))
+    (c.requires.0, (c.requires.1.0, (c.requires.1.1.0, c.requires.1.1.1 c.if-source.true)))
 
 returns-then-source : tie.Need-returns-then-source
 returns-then-source c =
-    let i = c in
-    let s = i in
-    let row = s.args.row.now in
+    let row = c.args.row.now in
     c.source_row.ensures
-    ∙ tabulate_same (length row) _ _ (λ v _. sym (of_source row s.args.first.now s.args.targets.now s.args.k s.args.u s.args.source v (eqb_other _ _ i.if-u-k.false) i.if-source.true))
+    ∙ tabulate_same (length row) _ _ (λ v _. sym (of_source row c.args.first.now c.args.targets.now c.args.k c.args.u c.args.source v (eqb_other _ _ c.if-u-k.false) c.if-source.true))
 
 returns-else-source : tie.Need-returns-else-source
 returns-else-source c =
-    let s = c in
-    let row = s.args.row.now in
-    is_tabulate (pos 0) row (length row) _ refl (λ v _. sym (of_other row s.args.first.now s.args.targets.now s.args.k s.args.u s.args.source v (eqb_other _ _ c.if-u-k.false) c.if-source.false))
+    let row = c.args.row.now in
+    is_tabulate (pos 0) row (length row) _ refl (λ v _. sym (of_other row c.args.first.now c.args.targets.now c.args.k c.args.u c.args.source v (eqb_other _ _ c.if-u-k.false) c.if-source.false))
 
 pub row_after_spec : {M : Type 1} → statement M
 row_after_spec =

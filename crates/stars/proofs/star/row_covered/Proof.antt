@@ -31,7 +31,7 @@ loop-i-init c = (omega arith, omega arith, omega arith)
 
 inside : (c : tie.In-loop-i invariant-loop decreases-loop) → let l = c in let s = l in
     (get_or s.args.targets.now l.loop-i.i 0 < length s.args.row.now) × (get_or s.args.targets.now l.loop-i.i 0 < 90)
-inside c = let l = c in let s = l in (below_at _ _ s.requires.0 l.loop-i.i c.loop-i-test.true, below_at _ _ s.requires.1 l.loop-i.i c.loop-i-test.true)
+inside c = (below_at _ _ c.requires.0 c.loop-i.i c.loop-i-test.true, below_at _ _ c.requires.1 c.loop-i.i c.loop-i-test.true)
 
 offset_bounds-row-t : tie.Need-offset_bounds-row-t invariant-loop decreases-loop
 offset_bounds-row-t c = omega (arith, (inside c.before).1)
@@ -73,20 +73,16 @@ module _ (c : tie.After-is_covered invariant-loop decreases-loop) where
 
 loop-i-preserved : tie.Need-loop-i-preserved invariant-loop decreases-loop
 loop-i-preserved c =
-    let a = c in
-    let i = a in
     split c.if-is_covered.branch-raw
-    (λ w. (omega (arith, i.loop-i-test.true), omega (arith, w.total-is, (head a.before).loop-i.invariant.1), omega (arith, w.total-is, said a.before true w.if-is_covered.true, more a.before, (head a.before).loop-i.invariant.2)))
-    (λ w. (omega (arith, i.loop-i-test.true), omega (arith, w.total-is, (head a.before).loop-i.invariant.1), omega (arith, w.total-is, said a.before false w.if-is_covered.false, more a.before, (head a.before).loop-i.invariant.2)))
+    (λ w. (omega (arith, c.loop-i-test.true), omega (arith, w.total-is, (head c.before).loop-i.invariant.1), omega (arith, w.total-is, said c.before true w.if-is_covered.true, more c.before, (head c.before).loop-i.invariant.2)))
+    (λ w. (omega (arith, c.loop-i-test.true), omega (arith, w.total-is, (head c.before).loop-i.invariant.1), omega (arith, w.total-is, said c.before false w.if-is_covered.false, more c.before, (head c.before).loop-i.invariant.2)))
 
 returns : tie.Need-returns invariant-loop decreases-loop
 unfolding meeting
 returns c =
-    let l = c in
-    let s = l in
-    let number = counted s.args.row.now s.args.first.now (to_z w64 (of_z w64 s.args.e)) in
-    let e : l.loop-i.total ≡ sum_over s.args.targets.now number = omega (arith, l.loop-i.invariant.2, sum_over_end s.args.targets.now l.loop-i.i c.loop-i-test.false number) in
-    e ∙ ap (λ (z : ℤ). sum_over s.args.targets.now (counted s.args.row.now s.args.first.now z)) (to_z-of_z s.ranges.e)
+    let number = counted c.args.row.now c.args.first.now (to_z w64 (of_z w64 c.args.e)) in
+    let e : c.loop-i.total ≡ sum_over c.args.targets.now number = omega (arith, c.loop-i.invariant.2, sum_over_end c.args.targets.now c.loop-i.i c.loop-i-test.false number) in
+    e ∙ ap (λ (z : ℤ). sum_over c.args.targets.now (counted c.args.row.now c.args.first.now z)) (to_z-of_z c.ranges.e)
 
 pub row_covered_spec : {M : Type 1} → statement M
 row_covered_spec =

@@ -25,7 +25,7 @@ loop-i-init : tie.Need-loop-i-init invariant-loop decreases-loop
 loop-i-init c = (omega arith, refl)
 
 inside : (c : tie.After-shared_slice_known-in-loop-i-1 invariant-loop decreases-loop) → let l = c in let s = l in get_or s.args.targets.now l.loop-i.i 0 < length s.args.row.now
-inside c = let l = c in below_at _ _ l.requires l.loop-i.i c.loop-i-test.true
+inside c = below_at _ _ c.requires c.loop-i.i c.loop-i-test.true
 
 offset_bounds-row-t : tie.Need-offset_bounds-row-t invariant-loop decreases-loop
 offset_bounds-row-t c = omega (arith, inside c)
@@ -33,18 +33,16 @@ offset_bounds-row-t c = omega (arith, inside c)
 bounds-row-t : tie.Need-bounds-row-t invariant-loop decreases-loop
 bounds-row-t c = inside c
 
-said : (c : tie.After-is_arc invariant-loop decreases-loop) → let l = c in let s = l in present (cell_at s.args.row.now (get_or s.args.targets.now l.loop-i.i 0)) ≡ c.is_arc.result
+said : (c : tie.After-is_arc invariant-loop decreases-loop) → present (cell_at c.args.row.now (get_or c.args.targets.now c.loop-i.i 0)) ≡ c.is_arc.result
 said c = sym (c.is_arc.ensures ∙ ap (λ (z : ℤ). present (read_cell absent_cell z)) (back w32 _ c.is_arc-arg-1.given))
 
 returns-then-not-is_arc : tie.Need-returns-then-not-is_arc invariant-loop decreases-loop
 returns-then-not-is_arc c =
-    let i = c in
-    sym (i.loop-i.invariant.1 ∙ each_stop _ _ i.loop-i-test.true _ (said c.before ∙ not-true _ c.if-not-is_arc.true-raw))
+    sym (c.loop-i.invariant.1 ∙ each_stop _ _ c.loop-i-test.true _ (said c.before ∙ not-true _ c.if-not-is_arc.true-raw))
 
 loop-i-preserved : tie.Need-loop-i-preserved invariant-loop decreases-loop
 loop-i-preserved c =
-    let i = c in
-    (omega arith, i.loop-i.invariant.1 ∙ each_pass _ _ i.loop-i-test.true _ (said c.before ∙ not-false _ c.if-not-is_arc.false-raw))
+    (omega arith, c.loop-i.invariant.1 ∙ each_pass _ _ c.loop-i-test.true _ (said c.before ∙ not-false _ c.if-not-is_arc.false-raw))
 
 returns : tie.Need-returns invariant-loop decreases-loop
 returns c = sym (c.loop-i.invariant.1 ∙ each_end _ _ c.loop-i-test.false _)

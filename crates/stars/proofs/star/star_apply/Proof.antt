@@ -86,13 +86,13 @@ bounds-sources-0 : tie.Need-bounds-sources-0 invariant-loop decreases-loop
 bounds-sources-0 c = some c.before.before.before
 
 overflow_mul-n : tie.Need-overflow_mul-n invariant-loop decreases-loop
-overflow_mul-n c = let s = c in omega (arith, row₀ s.before.before.before, room s.before.before.before)
+overflow_mul-n c = omega (arith, row₀ c.before.before.before, room c.before.before.before)
 
 row_copy-first-requires : tie.Need-row_copy-first-requires invariant-loop decreases-loop
-row_copy-first-requires c κs = let s = c in (few s.before.before.before, omega (arith, row₀ s.before.before.before, room s.before.before.before))
+row_copy-first-requires c κs = (few c.before.before.before, omega (arith, row₀ c.before.before.before, room c.before.before.before))
 
 marks-is_source-requires : tie.Need-marks-is_source-requires invariant-loop decreases-loop
-marks-is_source-requires c κs = let s = c in below_wider (N s.before.before.before.before) 90 (S s.before.before.before.before) (few s.before.before.before.before) (ready s.before.before.before.before).bundle.sources.under
+marks-is_source-requires c κs = below_wider (N c.before.before.before.before) 90 (S c.before.before.before.before) (few c.before.before.before.before) (ready c.before.before.before.before).bundle.sources.under
 
 loop-u-init : tie.Need-loop-u-init invariant-loop decreases-loop
 loop-u-init c = (omega arith, refl, rows_none _ _ _)
@@ -162,26 +162,25 @@ slice_bounds-row_after-end : tie.Need-slice_bounds-row_after-end invariant-loop 
 slice_bounds-row_after-end c = omega (arith, inside c, c.loop-u.invariant.1)
 
 bounds-is_source-u : tie.Need-bounds-is_source-u invariant-loop decreases-loop
-bounds-is_source-u c = let i = c in omega (arith, i.loop-u-test.true, few (start i.before.before))
+bounds-is_source-u c = omega (arith, c.loop-u-test.true, few (start c.before.before))
 
 row_after-requires : tie.Need-row_after-requires invariant-loop decreases-loop
-row_after-requires c κs = let i = c in subst (λ (x : List ℤ). Asked x (first i.before.before) (Ts (start i.before.before)) (k (start i.before.before)) (source i.before.before)) (sym (lent i.before.before)) (asked i.before.before)
+row_after-requires c κs = subst (λ (x : List ℤ). Asked x (first c.before.before) (Ts (start c.before.before)) (k (start c.before.before)) (source c.before.before)) (sym (lent c.before.before)) (asked c.before.before)
 
 overflow_add-u : tie.Need-overflow_add-u invariant-loop decreases-loop
-overflow_add-u c = let i = c in omega (arith, i.loop-u-test.true, few (start i.before.before.before.before))
+overflow_add-u c = omega (arith, c.loop-u-test.true, few (start c.before.before.before.before))
 
 loop-u-smaller : tie.Need-loop-u-smaller invariant-loop decreases-loop
-loop-u-smaller c = let i = c in omega (arith, i.loop-u-test.true)
+loop-u-smaller c = omega (arith, c.loop-u-test.true)
 
 loop-u-preserved : tie.Need-loop-u-preserved invariant-loop decreases-loop
 loop-u-preserved c =
-    let i = c in
-    let s = start i.before.before.before.before in
-    let l = (head i.before.before.before.before).loop-u in (
-      omega (arith, i.loop-u-test.true),
+    let s = start c.before.before.before.before in
+    let l = (head c.before.before.before.before).loop-u in (
+      omega (arith, c.loop-u-test.true),
       c.table-1.given.1 ∙ l.invariant.1,
       row_back (N s) (new_cell (t s) (S s) (Ts s) (k s) (N s)) (t s) l.table l.u l.invariant.2 c.row_after.new.row
-          (c.row_after.ensures ∙ ap (λ (x : List ℤ). made x (first i.before.before.before.before) (Ts s) (k s) (u i.before.before.before.before) (source i.before.before.before.before)) (lent i.before.before.before.before) ∙ row_made_of i.before.before.before.before),
+          (c.row_after.ensures ∙ ap (λ (x : List ℤ). made x (first c.before.before.before.before) (Ts s) (k s) (u c.before.before.before.before) (source c.before.before.before.before)) (lent c.before.before.before.before) ∙ row_made_of c.before.before.before.before),
     )
 
 shape_of-table : tie.Need-shape_of-table invariant-loop decreases-loop
@@ -191,8 +190,7 @@ returns : tie.Need-returns invariant-loop decreases-loop
 unfolding with_graph
 returns c =
     let l = c.loop-u in
-    let s = c in
-    let m : l.u ≡ N s.before.before.before.before.before.before.before = omega (arith, l.invariant.0, c.loop-u-test.false) in
+    let m : l.u ≡ N c.before.before.before.before.before.before.before = omega (arith, l.invariant.0, c.loop-u-test.false) in
     rw m at l.invariant.2
 
 pub star_apply_spec : {M : Type 1} → statement M

@@ -37,7 +37,7 @@ module _ (s : tie.Start) where
   g = graph_of N s.args.table.now
 
 returns-then-not-exist : tie.Need-returns-then-not-exist
-returns-then-not-exist c = let s = c in Star.refused_7 (m s.before.before.before.before) (n s.before.before.before.before) (N s.before.before.before.before) (S s.before.before.before.before) (Ts s.before.before.before.before) (k s.before.before.before.before) (g s.before.before.before.before) (sym c.exist.ensures ∙ not-true _ c.if-not-exist.true-raw)
+returns-then-not-exist c = Star.refused_7 (m c.before.before.before.before) (n c.before.before.before.before) (N c.before.before.before.before) (S c.before.before.before.before) (Ts c.before.before.before.before) (k c.before.before.before.before) (g c.before.before.before.before) (sym c.exist.ensures ∙ not-true _ c.if-not-exist.true-raw)
 
 -- past 7
 module _ (c : tie.Else-not-exist) where
@@ -58,18 +58,16 @@ is_set-requires c κs = low_sources c
 
 returns-then-not-is_set : tie.Need-returns-then-not-is_set
 returns-then-not-is_set c =
-    let h = c in
-    let s = start h.before.before in
-    Star.no_sources (m s) (n s) (N s) (S s) (Ts s) (k s) (g s) (past_7 h.before.before) (sym c.is_set.ensures ∙ not-true _ c.if-not-is_set.true-raw)
+    let s = start c.before.before in
+    Star.no_sources (m s) (n s) (N s) (S s) (Ts s) (k s) (g s) (past_7 c.before.before) (sym c.is_set.ensures ∙ not-true _ c.if-not-is_set.true-raw)
 
 is_set-requires-2 : tie.Need-is_set-requires-2
 is_set-requires-2 c κs = low_targets c.before.before
 
 returns-then-not-is_set-2 : tie.Need-returns-then-not-is_set-2
 returns-then-not-is_set-2 c =
-    let h = c in
-    let s = start h.before.before.before.before in
-    Star.no_targets (m s) (n s) (N s) (S s) (Ts s) (k s) (g s) (past_7 h.before.before.before.before) (sym c.is_set-2.ensures ∙ not-true _ c.if-not-is_set-2.true-raw)
+    let s = start c.before.before.before.before in
+    Star.no_targets (m s) (n s) (N s) (S s) (Ts s) (k s) (g s) (past_7 c.before.before.before.before) (sym c.is_set-2.ensures ∙ not-true _ c.if-not-is_set-2.true-raw)
 
 -- past 9
 module _ (c : tie.Else-not-is_set-2) where
@@ -90,19 +88,16 @@ is_free-requires c κs = let s = st c in (s.requires.0, Star.centre_below (m s) 
 
 returns-then-not-is_free : tie.Need-returns-then-not-is_free
 returns-then-not-is_free c =
-    let h = c in
-    let s = st h.before.before in
-    Star.refused_8 (m s) (n s) (N s) (S s) (Ts s) (k s) (g s) (past_7 (seven h.before.before)) (past_9_s h.before.before) (past_9_t h.before.before) (sym c.is_free.ensures ∙ not-true _ c.if-not-is_free.true-raw)
+    let s = st c.before.before in
+    Star.refused_8 (m s) (n s) (N s) (S s) (Ts s) (k s) (g s) (past_7 (seven c.before.before)) (past_9_s c.before.before) (past_9_t c.before.before) (sym c.is_free.ensures ∙ not-true _ c.if-not-is_free.true-raw)
 
 all_joined-requires : tie.Need-all_joined-requires
-all_joined-requires c κs = let h = c in ((st h.before.before).requires.0, (low_sources (seven h.before.before), low_targets (seven h.before.before)))
+all_joined-requires c κs = ((st c.before.before).requires.0, (low_sources (seven c.before.before), low_targets (seven c.before.before)))
 
 returns-then-not-all_joined : tie.Need-returns-then-not-all_joined
 returns-then-not-all_joined c =
-    let f = c in
-    let h = f in
-    let s = st h.before.before.before.before in
-    Star.refused_10 (m s) (n s) (N s) (S s) (Ts s) (k s) (g s) (past_7 (seven h.before.before.before.before)) (past_9_s h.before.before.before.before) (past_9_t h.before.before.before.before) (sym f.is_free.ensures ∙ not-false _ f.if-not-is_free.false-raw)
+    let s = st c.before.before.before.before in
+    Star.refused_10 (m s) (n s) (N s) (S s) (Ts s) (k s) (g s) (past_7 (seven c.before.before.before.before)) (past_9_s c.before.before.before.before) (past_9_t c.before.before.before.before) (sym c.is_free.ensures ∙ not-false _ c.if-not-is_free.false-raw)
     (sym c.all_joined.ensures ∙ not-true _ c.if-not-all_joined.true-raw)
 
 -- past 8 and 10
@@ -141,27 +136,24 @@ module _ (c : tie.After-weigh_all-weight) where
 
 returns-then-weight-sources : tie.Need-returns-then-weight-sources
 returns-then-weight-sources c =
-    let w = c in
-    let h = nine (ten w.before.before) in
-    let s = s₁ w.before.before in
-    Star.refused_13 (m s) (n s) (N s) (S s) (Ts s) (k s) (g s) (past_7 (seven h)) (past_9_s h) (past_9_t h) (past_8 (ten w.before.before)) (past_10 (ten w.before.before)) (saves_by w.before.before false (not-below _ _ c.if-weight-sources.true))
+    let h = nine (ten c.before.before) in
+    let s = s₁ c.before.before in
+    Star.refused_13 (m s) (n s) (N s) (S s) (Ts s) (k s) (g s) (past_7 (seven h)) (past_9_s h) (past_9_t h) (past_8 (ten c.before.before)) (past_10 (ten c.before.before)) (saves_by c.before.before false (not-below _ _ c.if-weight-sources.true))
 
 past_13 : (c : tie.Else-weight-sources) → let s = s₁ c.before.before in Star.saves (m s) (n s) (N s) (S s) (Ts s) (k s) (g s) ≡ true
 past_13 c = saves_by c.before.before true (is_below _ _ c.if-weight-sources.false)
 
 returns-then-not-weight : tie.Need-returns-then-not-weight
 returns-then-not-weight c =
-    let w = c in
-    let h = nine (ten w.before.before.before.before) in
-    let s = s₁ w.before.before.before.before in
-    Star.refused_14 (m s) (n s) (N s) (S s) (Ts s) (k s) (g s) (past_7 (seven h)) (past_9_s h) (past_9_t h) (past_8 (ten w.before.before.before.before)) (past_10 (ten w.before.before.before.before)) (past_13 c.before.before) (near_is w.before.before.before.before ∙ not-true _ c.if-not-weight.true)
+    let h = nine (ten c.before.before.before.before) in
+    let s = s₁ c.before.before.before.before in
+    Star.refused_14 (m s) (n s) (N s) (S s) (Ts s) (k s) (g s) (past_7 (seven h)) (past_9_s h) (past_9_t h) (past_8 (ten c.before.before.before.before)) (past_10 (ten c.before.before.before.before)) (past_13 c.before.before) (near_is c.before.before.before.before ∙ not-true _ c.if-not-weight.true)
 
 returns : tie.Need-returns
 returns c =
-    let w = c in
-    let h = nine (ten w.before.before.before.before) in
-    let s = s₁ w.before.before.before.before in
-    Star.accepted_all (m s) (n s) (N s) (S s) (Ts s) (k s) (g s) (past_7 (seven h)) (past_9_s h) (past_9_t h) (past_8 (ten w.before.before.before.before)) (past_10 (ten w.before.before.before.before)) (past_13 c.before.before) (near_is w.before.before.before.before ∙ not-false _ c.if-not-weight.false)
+    let h = nine (ten c.before.before.before.before) in
+    let s = s₁ c.before.before.before.before in
+    Star.accepted_all (m s) (n s) (N s) (S s) (Ts s) (k s) (g s) (past_7 (seven h)) (past_9_s h) (past_9_t h) (past_8 (ten c.before.before.before.before)) (past_10 (ten c.before.before.before.before)) (past_13 c.before.before) (near_is c.before.before.before.before ∙ not-false _ c.if-not-weight.false)
 
 pub star_verdict_spec : {M : Type 1} → statement M
 star_verdict_spec =

@@ -17,11 +17,9 @@ row_covered-requires c κs = (c.requires.0, c.requires.1.0)
 
 returns : tie.Need-returns
 returns c =
-    let d = c in
-    let s = d in
-    let e : to_z w64 (of_z w64 d.least_difference-e.result) ≡ d.least_difference-e.result = back w64 d.least_difference-e.result d.least_difference-e.type_inv in (
-      c.row_covered.ensures ∙ ap (meeting s.args.row.now s.args.first.now s.args.targets.now) (e ∙ ap ticks d.least_difference-e.ensures),
-      c.in_range.ensures ∙ ap (λ (z : ℤ). fits delay_limit (at z)) e ∙ ap (fits delay_limit) d.least_difference-e.ensures,
+    let e : to_z w64 (of_z w64 c.least_difference-e.result) ≡ c.least_difference-e.result = back w64 c.least_difference-e.result c.least_difference-e.type_inv in (
+      c.row_covered.ensures ∙ ap (meeting c.args.row.now c.args.first.now c.args.targets.now) (e ∙ ap ticks c.least_difference-e.ensures),
+      c.in_range.ensures ∙ ap (λ (z : ℤ). fits delay_limit (at z)) e ∙ ap (fits delay_limit) c.least_difference-e.ensures,
     )
 
 pub weigh_spec : {M : Type 1} → statement M

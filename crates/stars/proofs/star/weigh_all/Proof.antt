@@ -73,10 +73,10 @@ bounds-sources-0 : tie.Need-bounds-sources-0 invariant-loop decreases-loop
 bounds-sources-0 c = some c.before.before.before
 
 overflow_mul-n : tie.Need-overflow_mul-n invariant-loop decreases-loop
-overflow_mul-n c = let s = c in omega (arith, row s.before.before.before 0 (some s.before.before.before), room s.before.before.before)
+overflow_mul-n c = omega (arith, row c.before.before.before 0 (some c.before.before.before), room c.before.before.before)
 
 row_copy-first-requires : tie.Need-row_copy-first-requires invariant-loop decreases-loop
-row_copy-first-requires c κs = let s = c in (few s.before.before.before, omega (arith, row s.before.before.before 0 (some s.before.before.before), room s.before.before.before))
+row_copy-first-requires c κs = (few c.before.before.before, omega (arith, row c.before.before.before 0 (some c.before.before.before), room c.before.before.before))
 
 loop-i-init : tie.Need-loop-i-init invariant-loop decreases-loop
 loop-i-init c = (omega arith, omega arith, omega arith, refl)
@@ -117,8 +117,7 @@ slice_bounds-weigh-start c = omega (arith, inside c.before)
 
 weigh-one-requires : tie.Need-weigh-one-requires invariant-loop decreases-loop
 weigh-one-requires c κs =
-    let i = c in
-    let s = start i.before.before.before in (below_wider (n s) _ (Ts s) (lent_long (n s) (t s) (u i.before.before.before) (room s) (low s _ i.loop-i-test.true)) (bundle s).targets.under, (below_wider (n s) 90 (Ts s) (few s) (bundle s).targets.under, (bundle s).targets.some))
+    let s = start c.before.before.before in (below_wider (n s) _ (Ts s) (lent_long (n s) (t s) (u c.before.before.before) (room s) (low s _ c.loop-i-test.true)) (bundle s).targets.under, (below_wider (n s) 90 (Ts s) (few s) (bundle s).targets.under, (bundle s).targets.some))
 
 module _ (c : tie.After-weigh-one invariant-loop decreases-loop) where
   abbrev turn : tie.In-loop-i invariant-loop decreases-loop
@@ -156,25 +155,23 @@ loop-i-smaller c = omega (arith, (turn c.before.before.before).loop-i-test.true)
 
 loop-i-preserved : tie.Need-loop-i-preserved invariant-loop decreases-loop
 loop-i-preserved c =
-    let w = c in
-    let l = (turn w.before.before.before).loop-i in
-    let s = st w.before.before.before in
+    let l = (turn c.before.before.before).loop-i in
+    let s = st c.before.before.before in
     let f = near (n s) (t s) (S s) (Ts s) in (
-      omega (arith, (turn w.before.before.before).loop-i-test.true),
-      omega (arith, small w.before.before.before, l.invariant.1),
-      omega (arith, saved_is w.before.before.before, l.invariant.2, sum_over_turn (S s) l.i (turn w.before.before.before).loop-i-test.true (saved (n s) (t s) (S s) (Ts s))),
+      omega (arith, (turn c.before.before.before).loop-i-test.true),
+      omega (arith, small c.before.before.before, l.invariant.1),
+      omega (arith, saved_is c.before.before.before, l.invariant.2, sum_over_turn (S s) l.i (turn c.before.before.before).loop-i-test.true (saved (n s) (t s) (S s) (Ts s))),
       split c.if-not-one.branch-raw
-          (λ y. ap (λ (r : Bool). r && each (drop (l.i + 1) (S s)) f) y.in_range-is ∙ so_far_stop (S s) l.i (turn w.before.before.before).loop-i-test.true f l.in_range (near_is w.before.before.before ∙ not-true _ y.if-not-one.true) l.invariant.3)
-          (λ y. ap (λ (r : Bool). r && each (drop (l.i + 1) (S s)) f) y.in_range-is ∙ so_far_pass (S s) l.i (turn w.before.before.before).loop-i-test.true f l.in_range (near_is w.before.before.before ∙ not-false _ y.if-not-one.false) l.invariant.3),
+          (λ y. ap (λ (r : Bool). r && each (drop (l.i + 1) (S s)) f) y.in_range-is ∙ so_far_stop (S s) l.i (turn c.before.before.before).loop-i-test.true f l.in_range (near_is c.before.before.before ∙ not-true _ y.if-not-one.true) l.invariant.3)
+          (λ y. ap (λ (r : Bool). r && each (drop (l.i + 1) (S s)) f) y.in_range-is ∙ so_far_pass (S s) l.i (turn c.before.before.before).loop-i-test.true f l.in_range (near_is c.before.before.before ∙ not-false _ y.if-not-one.false) l.invariant.3),
     )
 
 returns : tie.Need-returns invariant-loop decreases-loop
 returns c =
     let l = c.loop-i in
-    let s = c in
-    let f = near (n s.before.before.before.before.before.before) (t s.before.before.before.before.before.before) (S s.before.before.before.before.before.before) (Ts s.before.before.before.before.before.before) in (
-      omega (arith, l.invariant.2, sum_over_end (S s.before.before.before.before.before.before) l.i c.loop-i-test.false (saved (n s.before.before.before.before.before.before) (t s.before.before.before.before.before.before) (S s.before.before.before.before.before.before) (Ts s.before.before.before.before.before.before)), all_sum (bundle s.before.before.before.before.before.before)),
-      sym (and_end l.in_range) ∙ ap (λ (b : Bool). l.in_range && b) (sym (each_end (S s.before.before.before.before.before.before) l.i c.loop-i-test.false f)) ∙ l.invariant.3,
+    let f = near (n c.before.before.before.before.before.before) (t c.before.before.before.before.before.before) (S c.before.before.before.before.before.before) (Ts c.before.before.before.before.before.before) in (
+      omega (arith, l.invariant.2, sum_over_end (S c.before.before.before.before.before.before) l.i c.loop-i-test.false (saved (n c.before.before.before.before.before.before) (t c.before.before.before.before.before.before) (S c.before.before.before.before.before.before) (Ts c.before.before.before.before.before.before)), all_sum (bundle c.before.before.before.before.before.before)),
+      sym (and_end l.in_range) ∙ ap (λ (b : Bool). l.in_range && b) (sym (each_end (S c.before.before.before.before.before.before) l.i c.loop-i-test.false f)) ∙ l.invariant.3,
     )
 
 pub weigh_all_spec : {M : Type 1} → statement M

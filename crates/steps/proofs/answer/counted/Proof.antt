@@ -8,15 +8,11 @@ use Rattle.steps.proofs.answer.counted.Tie as tie
 
 returns-in-Accepted : tie.Need-returns-in-Accepted
 returns-in-Accepted c =
-    let f = c in
-    let s = f in
-    ap A.Left c.arcs.ensures ∙ ap (λ (x : Fit). counted s.args.board.vertices x s.args.table.now) (sym f.in-Accepted.is)
+    ap A.Left c.arcs.ensures ∙ ap (λ (x : Fit). counted c.args.board.vertices x c.args.table.now) (sym c.in-Accepted.is)
 
 returns-in-Refused : tie.Need-returns-in-Refused
 returns-in-Refused c =
-    let f = c in
-    let s = f in
-    ap (λ (x : Fit). counted s.args.board.vertices x s.args.table.now) (sym f.in-Refused.is)
+    ap (λ (x : Fit). counted c.args.board.vertices x c.args.table.now) (sym c.in-Refused.is)
 
 pub counted_spec : {M : Type 1} → statement M
 counted_spec = tie.close (tie.spec

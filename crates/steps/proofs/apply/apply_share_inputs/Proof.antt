@@ -31,38 +31,32 @@ module _ (d : tie.In-Common) where
   ready = share_inputs_ready start.args.board.inputs start.args.board.outputs start.args.board.vertices start.args.a start.args.b start.args.k (graph_of start.args.board.vertices start.args.table.now) e start.requires.0.checked.lent.sized.roles found
 
 narrow-d-requires : tie.Need-narrow-d-requires
-narrow-d-requires c κs = let d = c in narrow_fits (e d) (ready d).2
+narrow-d-requires c κs = narrow_fits (e c) (ready c).2
 
 rewrite-requires : tie.Need-rewrite-requires
 rewrite-requires c κs =
-    let d = c in
-    let s = start d.before.before in
-    let r = ready d.before.before in
+    let s = start c.before.before in
+    let r = ready c.before.before in
     (s.requires.0.checked.lent, (r.0, r.1))
 
 returns-in-Common : tie.Need-returns-in-Common
 unfolding plan
 returns-in-Common c =
-    let a = c in
-    let n = a in
-    let d = n in
-    let s = start d.before.before.before.before in
+    let s = start c.before.before.before.before in
     let b = s.args.board in
     let t = s.args.table.now in
-    let same = narrowed (e d.before.before.before.before) (ready d.before.before.before.before).2 _ n.narrow-d.type_inv n.narrow-d.ensures in (
-      step_handed b t (share_inputs s.args.a s.args.b s.args.k) (λ x. inputs_shared s.args.a s.args.b s.args.k x (graph_of b.vertices t)) (found d.before.before.before.before) same refl a.rewrite.new.table a.rewrite.ensures,
-      d.share_inputs_verdict-difference.ensures.1,
+    let same = narrowed (e c.before.before.before.before) (ready c.before.before.before.before).2 _ c.narrow-d.type_inv c.narrow-d.ensures in (
+      step_handed b t (share_inputs s.args.a s.args.b s.args.k) (λ x. inputs_shared s.args.a s.args.b s.args.k x (graph_of b.vertices t)) (found c.before.before.before.before) same refl c.rewrite.new.table c.rewrite.ensures,
+      c.share_inputs_verdict-difference.ensures.1,
     )
 
 returns-in-Refused : tie.Need-returns-in-Refused
 unfolding plan
 returns-in-Refused c =
-    let v = c in
-    let s = v in
-    let b = s.args.board in
-    let t = s.args.table.now in (
-      step_refused b t (share_inputs s.args.a s.args.b s.args.k) (λ x. inputs_shared s.args.a s.args.b s.args.k x (graph_of b.vertices t)) _ (said difference_meaning v.share_inputs_verdict-difference.ensures.0 c.in-Refused.is) refl,
-      v.share_inputs_verdict-difference.ensures.1,
+    let b = c.args.board in
+    let t = c.args.table.now in (
+      step_refused b t (share_inputs c.args.a c.args.b c.args.k) (λ x. inputs_shared c.args.a c.args.b c.args.k x (graph_of b.vertices t)) _ (said difference_meaning c.share_inputs_verdict-difference.ensures.0 c.in-Refused.is) refl,
+      c.share_inputs_verdict-difference.ensures.1,
     )
 
 pub apply_share_inputs_spec : {M : Type 1} → statement M

@@ -16,30 +16,23 @@ shrink_verdict-fit-requires c κs = (c.requires.lent, sound_fits c.requires.soun
 
 rewrite-requires : tie.Need-rewrite-requires
 rewrite-requires c κs =
-    let v = c in
-    let s = v in
-    let b = s.args.board in
-    let r = shrink_ready b.inputs b.outputs b.vertices s.args.k (graph_of b.vertices s.args.table.now) (said fit_meaning v.shrink_verdict-fit.ensures c.in-Accepted.is) in
-    (s.requires.lent, (r.0, r.1))
+    let b = c.args.board in
+    let r = shrink_ready b.inputs b.outputs b.vertices c.args.k (graph_of b.vertices c.args.table.now) (said fit_meaning c.shrink_verdict-fit.ensures c.in-Accepted.is) in
+    (c.requires.lent, (r.0, r.1))
 
 returns-in-Accepted : tie.Need-returns-in-Accepted
 unfolding plan
 returns-in-Accepted c =
-    let a = c in
-    let v = a in
-    let s = v in
-    let b = s.args.board in
-    let t = s.args.table.now in
-    step_done b t (shrink s.args.k) (λ _. shrunk s.args.k (graph_of b.vertices t)) tt (said fit_meaning v.shrink_verdict-fit.ensures a.in-Accepted.is) refl a.rewrite.new.table a.rewrite.ensures
+    let b = c.args.board in
+    let t = c.args.table.now in
+    step_done b t (shrink c.args.k) (λ _. shrunk c.args.k (graph_of b.vertices t)) tt (said fit_meaning c.shrink_verdict-fit.ensures c.in-Accepted.is) refl c.rewrite.new.table c.rewrite.ensures
 
 returns-in-Refused : tie.Need-returns-in-Refused
 unfolding plan
 returns-in-Refused c =
-    let v = c in
-    let s = v in
-    let b = s.args.board in
-    let t = s.args.table.now in
-    step_refused b t (shrink s.args.k) (λ _. shrunk s.args.k (graph_of b.vertices t)) _ (said fit_meaning v.shrink_verdict-fit.ensures c.in-Refused.is) refl
+    let b = c.args.board in
+    let t = c.args.table.now in
+    step_refused b t (shrink c.args.k) (λ _. shrunk c.args.k (graph_of b.vertices t)) _ (said fit_meaning c.shrink_verdict-fit.ensures c.in-Refused.is) refl
 
 pub apply_shrink_spec : {M : Type 1} → statement M
 apply_shrink_spec =

@@ -16,31 +16,24 @@ star_verdict-fit-requires c κs = (c.requires.lent, sound_fits c.requires.sound)
 
 star_apply-requires : tie.Need-star_apply-requires
 star_apply-requires c κs =
-    let v = c in
-    let s = v in
-    let b = s.args.board in
-    let t = s.args.table.now in
+    let b = c.args.board in
+    let t = c.args.table.now in
     let g = graph_of b.vertices t in
-    (s.requires.lent, star_ready b.inputs b.outputs b.vertices s.args.sources.now s.args.targets.now s.args.k g tt (sound_fits s.requires.sound) (said fit_meaning v.star_verdict-fit.ensures c.in-Accepted.is))
+    (c.requires.lent, star_ready b.inputs b.outputs b.vertices c.args.sources.now c.args.targets.now c.args.k g tt (sound_fits c.requires.sound) (said fit_meaning c.star_verdict-fit.ensures c.in-Accepted.is))
 
 returns-in-Accepted : tie.Need-returns-in-Accepted
 unfolding plan
 returns-in-Accepted c =
-    let a = c in
-    let v = a in
-    let s = v in
-    let b = s.args.board in
-    let t = s.args.table.now in
-    step_done b t (star s.args.sources.now s.args.targets.now s.args.k) (λ _. starred s.args.sources.now s.args.targets.now s.args.k (graph_of b.vertices t)) tt (said fit_meaning v.star_verdict-fit.ensures a.in-Accepted.is) refl a.star_apply.new.table a.star_apply.ensures
+    let b = c.args.board in
+    let t = c.args.table.now in
+    step_done b t (star c.args.sources.now c.args.targets.now c.args.k) (λ _. starred c.args.sources.now c.args.targets.now c.args.k (graph_of b.vertices t)) tt (said fit_meaning c.star_verdict-fit.ensures c.in-Accepted.is) refl c.star_apply.new.table c.star_apply.ensures
 
 returns-in-Refused : tie.Need-returns-in-Refused
 unfolding plan
 returns-in-Refused c =
-    let v = c in
-    let s = v in
-    let b = s.args.board in
-    let t = s.args.table.now in
-    step_refused b t (star s.args.sources.now s.args.targets.now s.args.k) (λ _. starred s.args.sources.now s.args.targets.now s.args.k (graph_of b.vertices t)) _ (said fit_meaning v.star_verdict-fit.ensures c.in-Refused.is) refl
+    let b = c.args.board in
+    let t = c.args.table.now in
+    step_refused b t (star c.args.sources.now c.args.targets.now c.args.k) (λ _. starred c.args.sources.now c.args.targets.now c.args.k (graph_of b.vertices t)) _ (said fit_meaning c.star_verdict-fit.ensures c.in-Refused.is) refl
 
 pub apply_star_spec : {M : Type 1} → statement M
 apply_star_spec =

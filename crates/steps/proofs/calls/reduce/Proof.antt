@@ -8,28 +8,20 @@ use Rattle.steps.proofs.calls.reduce.Tie as tie
 
 apply_step-fit-requires : tie.Need-apply_step-fit-requires
 apply_step-fit-requires c κs =
-    let k = c in
-    k.checked-lent.ensures.passable _ k.in-Board.is
+    c.checked-lent.ensures.passable _ c.in-Board.is
 
 counted-requires : tie.Need-counted-requires
 counted-requires c κs =
-    let a = c in
-    let k = a in
-    still_lent (k.checked-lent.ensures.passable _ k.in-Board.is).0.checked.lent a.apply_step-fit.new.table a.apply_step-fit.auto.table
+    still_lent (c.checked-lent.ensures.passable _ c.in-Board.is).0.checked.lent c.apply_step-fit.new.table c.apply_step-fit.auto.table
 
 returns-in-Board : tie.Need-returns-in-Board
 returns-in-Board c =
-    let a = c in
-    let k = a in
-    let h = k.checked-lent.ensures in
-    let s = k in
-    (call_done h (step_meaning s.args.step) _ k.in-Board.is _ _ a.apply_step-fit.ensures.0 _ c.counted.ensures, scratch_on h _ k.in-Board.is _ _ refl a.apply_step-fit.ensures.1)
+    let h = c.checked-lent.ensures in
+    (call_done h (step_meaning c.args.step) _ c.in-Board.is _ _ c.apply_step-fit.ensures.0 _ c.counted.ensures, scratch_on h _ c.in-Board.is _ _ refl c.apply_step-fit.ensures.1)
 
 returns-in-Refused : tie.Need-returns-in-Refused
 returns-in-Refused c =
-    let k = c in
-    let s = k in
-    (call_refuses k.checked-lent.ensures (step_meaning s.args.step) _ k.in-Refused.is, scratch_same)
+    (call_refuses c.checked-lent.ensures (step_meaning c.args.step) _ c.in-Refused.is, scratch_same)
 
 pub reduce_spec : {M : Type 1} → statement M
 reduce_spec =

@@ -8,28 +8,20 @@ use Rattle.steps.proofs.calls.star.Tie as tie
 
 apply_star-fit-requires : tie.Need-apply_star-fit-requires
 apply_star-fit-requires c κs =
-    let k = c in
-    (k.checked-lent.ensures.passable _ k.in-Board.is).0.checked
+    (c.checked-lent.ensures.passable _ c.in-Board.is).0.checked
 
 counted-requires : tie.Need-counted-requires
 counted-requires c κs =
-    let a = c in
-    let k = a in
-    still_lent (k.checked-lent.ensures.passable _ k.in-Board.is).0.checked.lent a.apply_star-fit.new.table a.apply_star-fit.auto.table
+    still_lent (c.checked-lent.ensures.passable _ c.in-Board.is).0.checked.lent c.apply_star-fit.new.table c.apply_star-fit.auto.table
 
 returns-in-Board : tie.Need-returns-in-Board
 returns-in-Board c =
-    let a = c in
-    let k = a in
-    let h = k.checked-lent.ensures in
-    let s = k in
-    (call_done h (star s.args.sources.now s.args.targets.now s.args.k) _ k.in-Board.is _ _ a.apply_star-fit.ensures _ c.counted.ensures, scratch_on h _ k.in-Board.is _ _ refl refl)
+    let h = c.checked-lent.ensures in
+    (call_done h (star c.args.sources.now c.args.targets.now c.args.k) _ c.in-Board.is _ _ c.apply_star-fit.ensures _ c.counted.ensures, scratch_on h _ c.in-Board.is _ _ refl refl)
 
 returns-in-Refused : tie.Need-returns-in-Refused
 returns-in-Refused c =
-    let k = c in
-    let s = k in
-    (call_refuses k.checked-lent.ensures (star s.args.sources.now s.args.targets.now s.args.k) _ k.in-Refused.is, scratch_same)
+    (call_refuses c.checked-lent.ensures (star c.args.sources.now c.args.targets.now c.args.k) _ c.in-Refused.is, scratch_same)
 
 pub star_spec : {M : Type 1} → statement M
 star_spec =

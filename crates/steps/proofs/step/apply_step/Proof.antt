@@ -12,38 +12,23 @@ apply_merge_back-requires c κs = c.requires.0.checked
 
 returns-in-Shrink : tie.Need-returns-in-Shrink
 returns-in-Shrink c =
-    let a = c in
-    let k = a in
-    let s = k in
-    (step_is s.args.board s.args.table.now s.args.step _ k.in-Shrink.is _ _ a.apply_shrink.ensures, refl)
+    (step_is c.args.board c.args.table.now c.args.step _ c.in-Shrink.is _ _ c.apply_shrink.ensures, refl)
 
 returns-in-ShareInputs : tie.Need-returns-in-ShareInputs
 returns-in-ShareInputs c =
-    let a = c in
-    let k = a in
-    let s = k in
-    (step_is s.args.board s.args.table.now s.args.step _ k.in-ShareInputs.is _ _ a.apply_share_inputs.ensures.0, a.apply_share_inputs.ensures.1)
+    (step_is c.args.board c.args.table.now c.args.step _ c.in-ShareInputs.is _ _ c.apply_share_inputs.ensures.0, c.apply_share_inputs.ensures.1)
 
 returns-in-ShareOutputs : tie.Need-returns-in-ShareOutputs
 returns-in-ShareOutputs c =
-    let a = c in
-    let k = a in
-    let s = k in
-    (step_is s.args.board s.args.table.now s.args.step _ k.in-ShareOutputs.is _ _ a.apply_share_outputs.ensures.0, a.apply_share_outputs.ensures.1)
+    (step_is c.args.board c.args.table.now c.args.step _ c.in-ShareOutputs.is _ _ c.apply_share_outputs.ensures.0, c.apply_share_outputs.ensures.1)
 
 returns-in-Prune : tie.Need-returns-in-Prune
 returns-in-Prune c =
-    let a = c in
-    let k = a in
-    let s = k in
-    (step_is s.args.board s.args.table.now s.args.step _ k.in-Prune.is _ _ a.prune_step.ensures.0, a.prune_step.ensures.1)
+    (step_is c.args.board c.args.table.now c.args.step _ c.in-Prune.is _ _ c.prune_step.ensures.0, c.prune_step.ensures.1)
 
 returns-in-MergeBack : tie.Need-returns-in-MergeBack
 returns-in-MergeBack c =
-    let a = c in
-    let k = a in
-    let s = k in
-    (step_is s.args.board s.args.table.now s.args.step _ k.in-MergeBack.is _ _ a.apply_merge_back.ensures, refl)
+    (step_is c.args.board c.args.table.now c.args.step _ c.in-MergeBack.is _ _ c.apply_merge_back.ensures, refl)
 
 pub apply_step_spec : {M : Type 1} → statement M
 apply_step_spec =
