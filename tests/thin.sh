@@ -129,12 +129,12 @@ exec 3<&-
 wait $pid
 large 'stopped for a while' $? 0 "$size"
 
-# on a pipe that is closed, and where the place is full, it ends by itself: today's kit lets no program be ended by the signal of a closed pipe
+# on a pipe that is closed, and where the place is full, it ends by itself; the kit's start of a program has the signal of a closed pipe ignored
 "$thin" < "$work/large.bd" 2> "$work/said" | head -c 1 > "$work/text"
-large 'to a pipe closed early' "${PIPESTATUS[0]}" '0 1' 1
+large 'to a pipe closed early' "${PIPESTATUS[0]}" 0 1
 : > "$work/text"
 "$thin" < "$work/large.bd" 2> "$work/said" | true
-large 'to a closed pipe' "${PIPESTATUS[0]}" '0 1' 0
+large 'to a closed pipe' "${PIPESTATUS[0]}" 0 0
 status=$(trap '' PIPE; "$thin" < "$work/large.bd" 2> "$work/said" | true; echo "${PIPESTATUS[0]}")
 large 'to a closed pipe without the signal' "$status" '0 1' 0
 "$thin" < "$work/large.bd" > /dev/full 2> "$work/said"

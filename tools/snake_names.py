@@ -25,7 +25,7 @@ KNOWN = {"length", "drop", "take", "append", "get_or", "set", "map", "and", "or"
 # where the plain spelling would meet another name
 SPECIAL = {
     n: n.replace("-", "_") + "_lem"
-    for n in ("absent-cell", "cell-ticks", "cells_left", "is-accepted", "lent_fits", "arcs-read", "is-input", "is-output", "least-cell", "lent-marks", "no-cycle", "to-centre", "walked-in", "no-loads", "no-ticks", "sizes-fit", "ticks-fit", "try-share", "two-inputs", "two-outputs", "with-arc")
+    for n in ("absent-cell", "cell-ticks", "cells_left", "is-accepted", "lent_fits", "arcs-read", "least-cell", "lent-marks", "to-centre", "walked-in", "no-loads", "no-ticks", "sizes-fit", "ticks-fit", "try-share", "two-inputs", "two-outputs", "with-arc")
 }
 
 

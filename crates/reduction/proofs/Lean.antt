@@ -71,8 +71,8 @@ module _ {m n N : ℕ} {g : Graph} where
 pub record Joined (m n N : ℕ) (g : Graph) : Type 0 where
   pub input : ℕ
   pub output : ℕ
-  pub is_input_lem : input < m
-  pub is_output_lem : Output m n output
+  pub is_input : input < m
+  pub is_output : Output m n output
   pub there : T (present (longest g N input output))
 
 module _ {m n N : ℕ} {g : Graph} where
@@ -81,7 +81,7 @@ module _ {m n N : ℕ} {g : Graph} where
   decided u t h =
       let c = critical_at every_pair m n N g u t h in
       let e = same_e (longest g N c.0 c.1) (through_arc (longest g N) g u t c.0 c.1) c.3 in
-      (record { input = c.0; output = c.1; is_input_lem = c.2.0; is_output_lem = c.2.1; there = e.0 }, ⊑-eq e.1)
+      (record { input = c.0; output = c.1; is_input = c.2.0; is_output = c.2.1; there = e.0 }, ⊑-eq e.1)
 
   -- and an arc of a new graph that reaches the old delay decides, where the matrix is the same
   pub carried : {g' : Graph} → Same every_pair m n N g g' → (u t : ℕ) (w : Joined m n N g) → longest g N w.input w.output ⊑ through_arc (longest g' N) g' u t w.input w.output
@@ -89,8 +89,8 @@ module _ {m n N : ℕ} {g : Graph} where
   carried {g'} b u t w h =
       let i = w.input in
       let j = w.output in
-      let e : longest g' N i j ≡ longest g N i j = b.matrix i j w.is_input_lem w.is_output_lem tt in
-      reaching_critical every_pair b.sound u t i j (w.is_input_lem, w.is_output_lem, tt) (subst (λ (d : Delay). T (present d)) (sym e) w.there) (⊑_trans (⊑-eq e) h)
+      let e : longest g' N i j ≡ longest g N i j = b.matrix i j w.is_input w.is_output tt in
+      reaching_critical every_pair b.sound u t i j (w.is_input, w.is_output, tt) (subst (λ (d : Delay). T (present d)) (sym e) w.there) (⊑_trans (⊑-eq e) h)
 
 -- ---- prune
 
@@ -152,5 +152,5 @@ pruned_lean {m} {n} {N} {g} s = record { deciding = λ u t h. again u t (stayed 
         let j = w.0.output in
         let y = beyond u t j (ℕ_discrete t j) in
         let z = before i u y.0 j (ℕ_discrete i u) in
-        carried b u t w.0 (⊑_trans (path_stays (thinned_is every_pair s stay (λ _ _ t. t)) s.acyclic l i j (w.0.is_input_lem, w.0.is_output_lem, tt) w.0.there z.0
+        carried b u t w.0 (⊑_trans (path_stays (thinned_is every_pair s stay (λ _ _ t. t)) s.acyclic l i j (w.0.is_input, w.0.is_output, tt) w.0.there z.0
         (⊑_trans w.1 (⊑_trans (⊕-left (walk D i u) y.1) z.1))) (⊑_trans z.2 (⊕-left (walk D' i u) y.2)))

@@ -100,7 +100,7 @@ shrunk_lean {m} {n} {N} k {g} x s e lean = record { deciding = λ u t h. go u t 
     by : (u t : ℕ) → u ≢ k → t ≢ k → (d : Delay) → d ⊑ g' u t → (w : Joined m n N g) → D w.input w.output ⊑ walk D w.input u ⊕ (d ⊕ walk D t w.output)
         → T (critical every_pair m n N g' u t)
     by u t hu ht d low w h = carried b u t w
-        (⊑_trans h (⊕-mono (kept w.input u (input_inner s w.input k w.is_input_lem inner) hu) (⊕-mono low (kept t w.output ht (output_inner s w.output k w.is_output_lem inner)))))
+        (⊑_trans h (⊕-mono (kept w.input u (input_inner s w.input k w.is_input inner) hu) (⊕-mono low (kept t w.output ht (output_inner s w.output k w.is_output inner)))))
 
     go : (u t : ℕ) → T (present (g' u t)) → Dec (u ≡ k) → Dec (t ≡ k) → T (critical every_pair m n N g' u t)
     go u t h (yes z) _ = absurd (not-present (g' u t) (rw z (c.gone_out t)) h)
@@ -125,14 +125,14 @@ shrunk_lean {m} {n} {N} k {g} x s e lean = record { deciding = λ u t h. go u t 
             let beyond = walk D t w.0.output in
             let only = alone N (λ u. g u k) (λ u t. ((sound_within s).in_range u k t).0) (eqb→eq (fan_in N g k) 1 one) u in-k in
             by u t p q (g u k ⊕ g k t) sum w.0
-            (⊑_trans w.1 (⊑_trans (⊕-right (g k t ⊕ beyond) (only_in s.acyclic (longest_of s) i k u (λ z. input_inner s i k w.0.is_input_lem inner (sym z)) only))
+            (⊑_trans w.1 (⊑_trans (⊕-right (g k t ⊕ beyond) (only_in s.acyclic (longest_of s) i k u (λ z. input_inner s i k w.0.is_input inner (sym z)) only))
             (⊑-eq (⊕-assoc (walk D i u) (g u k) (g k t ⊕ beyond) ∙ ap (λ (d : Delay). walk D i u ⊕ d) (sym (⊕-assoc (g u k) (g k t) beyond))))))
         through in-k out-k (inr one) =
             let w = decided u k (lean.deciding u k in-k) in
             let j = w.0.output in
             let only = alone N (λ v. g k v) (λ v t. ((sound_within s).in_range k v t).1) (eqb→eq (fan_out N g k) 1 one) t out-k in
             by u t p q (g u k ⊕ g k t) sum w.0
-            (⊑_trans w.1 (⊕-left (walk D w.0.input u) (⊑_trans (⊕-left (g u k) (only_out s.acyclic (longest_of s) k t j (output_inner s j k w.0.is_output_lem inner) only))
+            (⊑_trans w.1 (⊕-left (walk D w.0.input u) (⊑_trans (⊕-left (g u k) (only_out s.acyclic (longest_of s) k t j (output_inner s j k w.0.is_output inner) only))
             (⊑-eq (sym (⊕-assoc (g u k) (g k t) (walk D t j)))))))
 
 -- ---- merge back
@@ -216,10 +216,10 @@ merged_lean {m} {n} {N} o {g} x s e lean =
                 (⊕-left (at d) (onward x j y xv xo n (rw (c.out x xo xv) (⋓-r (g o x) y)))))
 
         before : (w : Joined m n N g) (u : ℕ) → u ≢ v → walk D w.input u ⊑ walk D' w.input u
-        before w u p = kept w.input u (input_inner s w.input v w.is_input_lem hv) (λ z. input_output s w.input o w.is_input_lem ho (sym z)) p
+        before w u p = kept w.input u (input_inner s w.input v w.is_input hv) (λ z. input_output s w.input o w.is_input ho (sym z)) p
 
         beyond : (w : Joined m n N g) → w.output ≢ v
-        beyond w = output_inner s w.output v w.is_output_lem hv
+        beyond w = output_inner s w.output v w.is_output hv
 
         -- y with the old greatest walks reaches the delay of a pair, and the new arc is at least y
         by : (u t : ℕ) → u ≢ v → t ≢ v → t ≢ o → (y : Delay) → y ⊑ g' u t → (w : Joined m n N g) → D w.input w.output ⊑ walk D w.input u ⊕ (y ⊕ walk D t w.output)
@@ -281,7 +281,7 @@ sink_refused {m} {n} {N} k {g} s h none x e = go (or_cases (eqb (fan_in N g k) 1
         let i = p.0.input in
         let j = p.0.output in
         let on = present_r (g u k) (walk D k j) (present_r (walk D i u) (g u k ⊕ walk D k j) (present-⊑ p.1 p.0.there)) in
-        let f = first_arc s.acyclic (longest_of s) k j (output_inner s j k p.0.is_output_lem a.inner) in
+        let f = first_arc s.acyclic (longest_of s) k j (output_inner s j k p.0.is_output a.inner) in
         out f.0 (present_l (g k f.0) (walk D f.0 j) (present-⊑ f.1 on))
 
     go : T (eqb (fan_in N g k) 1) ⊎ T (eqb (fan_out N g k) 1) → ⊥
