@@ -22,7 +22,8 @@ fn is_relay(board: Board, table: &[i32], k: usize) -> bool
     requires k_lt_vertices { k < board.vertices }
     ensures { result ≡ relays board table.now k }
 {
-    if cells::fan_out(board, table, k) == 1 {
+    let one_out = cells::fan_out(board, table, k) == 1;
+    if one_out {
         return true;
     }
     cells::one_into(board, table, k)
