@@ -1,4 +1,7 @@
 -- Pass 1: what a turn says of the record at the cursor, and the bytes that count the records by their source.
+use Rattle.std.specs.Prelude.{Err, Some}
+use Rattle.files.specs.declared.answer.Fault.{Fault}
+use Rattle.std.specs.Prelude.{None, Ok, Option, Result}
 use mathlib.Core.Path.{◌≡◌, refl, sym, ap, ◌∙◌, subst, fun_ext}
 use mathlib.Core.Bool.{Bool, true, false, cond}
 use mathlib.Core.List.{List}
@@ -21,9 +24,6 @@ use Rattle.format.specs.Records.{byte_at, record_at}
 use Rattle.format.specs.Reading.{Reading, stopped, got, ask, Onward, worked_of, board_shape, known_at, board_records, counted, no_loads, file_loads}
 use Rattle.format.proofs.AcceptedRecords.{legal, stands}
 use Rattle.files.specs.declared.scan.Cursor.{Cursor}
-use Rattle.files.specs.declared.scan.Turned.{Turned}
-use Rattle.files.specs.declared.scan.Turned.TheVariants as T
-use Rattle.files.specs.declared.scan.Scanned.TheVariants as S
 use Rattle.files.specs.Loads.{loads_of}
 use Rattle.files.specs.Scan.{found_says, Turns, Scans}
 use Rattle.format.proofs.Readings.{ask_got}
@@ -110,11 +110,11 @@ module _ (N : ℕ) (s : List ℕ) (c : Cursor) where
   done_found l (accepted (R.Cell a b z)) e m load onward = absurd (not_done (leb c.low (N * a + b)) (m (λ x y z. stopped 0 0)))
   done_found l (accepted (R.End n)) e m load onward = ap (worked_of (board_shape N) counted p load onward) (stands l N s p (R.End n) e)
 
-module _ (l : List ℤ) (N : ℕ) (s : List ℕ) (c : Cursor) {r : Turned} (t : Turns (length s) c (found_says s c (board_shape N) (known_at l N s c.at)) r) where
-  pub goes_on : (d : Cursor) → r ≡ T.On d → GoesOn N s c d
+module _ (l : List ℤ) (N : ℕ) (s : List ℕ) (c : Cursor) {r : Result (Option Cursor) Fault} (t : Turns (length s) c (found_says s c (board_shape N) (known_at l N s c.at)) r) where
+  pub goes_on : (d : Cursor) → r ≡ Ok (Some d) → GoesOn N s c d
   goes_on d e = on_found N s c l d (known_at l N s c.at) refl (turn_means t e)
 
-  pub is_done : r ≡ T.Done → (load : ℕ → ℕ) (onward : ℕ → (ℕ → ℕ) → ℕ → ℕ) → worked_of (board_shape N) counted c.at load onward (record_at N s c.at) ≡ load
+  pub is_done : r ≡ (Ok None) → (load : ℕ → ℕ) (onward : ℕ → (ℕ → ℕ) → ℕ → ℕ) → worked_of (board_shape N) counted c.at load onward (record_at N s c.at) ≡ load
   is_done e = done_found N s c l (known_at l N s c.at) refl (turn_means t e)
 
 -- ---- the bytes
@@ -165,5 +165,5 @@ module _ (N : ℕ) (s : List ℕ) where
     counting_done h = leading_end (board_shape N) counted (length s) (record_at N s) _ c.at (loads_of l) w.left (h (loads_of l))
 
 -- a refusal says nothing of loads
-pub refused_scan : {l : List ℤ} {N : ℕ} {s loads : List ℕ} {x : Refusal} {p : ℕ} → stopped (number x) p ≡ board_records l N s → Scans l N s loads (S.Refused x p)
+pub refused_scan : {l : List ℤ} {N : ℕ} {s loads : List ℕ} {f : Fault} → stopped (number f.refusal) f.at ≡ board_records l N s → Scans l N s loads (Err f)
 refused_scan e = record { answer = e; counted = λ q. absurd (let z : ◌≡◌ {A = ℕ} 0 1 = cc in omega arith) }

@@ -1,4 +1,5 @@
 -- What `write` answers, from its checks and from what it put.
+use Rattle.std.specs.Prelude.{Err, Ok, Result}
 use mathlib.Core.Path.{◌≡◌, refl, sym, ap, ◌∙◌}
 use mathlib.Core.Bool.{Bool, true}
 use mathlib.Core.List.{List, ◌++◌}
@@ -13,13 +14,9 @@ use Rattle.timing.specs.declared.Refusal.{Refusal}
 use Rattle.timing.specs.declared.Refusal.TheVariants.{DestinationShort}
 use Rattle.timing.specs.Refusal.{Verdict, accepted, require, left_by}
 use Rattle.paths.specs.declared.board.Board.{Board}
-use Rattle.paths.specs.declared.board.Made.{Made}
-use Rattle.paths.specs.declared.board.Made.TheVariants as M
 use Rattle.paths.specs.Checked.{Checking}
 use Rattle.paths.proofs.Answering.{answers_on, answers_refused}
 use Rattle.format.specs.Writing.{file_of, Written, file_into, write_call}
-use Rattle.files.specs.declared.write.Written as W
-use Rattle.files.specs.declared.write.Written.TheVariants as A
 use Rattle.records.specs.Appending.{Appends}
 use Rattle.files.specs.Writing.{Writes, file_on}
 
@@ -31,10 +28,10 @@ module _ (m n N : ℕ) (g : Graph) (destination : List ℕ) where
   abbrev answer : Bool → Verdict Written
   answer b = require b DestinationShort (accepted (record { bytes = file ++ drop (length file) destination; count = length file }))
 
-  pub file_short : length destination < length file → Writes (file_into m n N destination g) destination destination (A.Refused DestinationShort)
+  pub file_short : length destination < length file → Writes (file_into m n N destination g) destination destination (Err DestinationShort)
   file_short l = let e = ap answer (lt-leb (length file) (length destination) l) in record { answer = sym e; left = sym (ap (λ (v : Verdict Written). left_by (λ (w : Written). w.bytes) v destination) e) }
 
-  pub file_done : length file ≤ length destination → {after : List ℕ} {r : ℕ} → Appends file destination 0 after r → Writes (file_into m n N destination g) destination after (A.Bytes r)
+  pub file_done : length file ≤ length destination → {after : List ℕ} {r : ℕ} → Appends file destination 0 after r → Writes (file_into m n N destination g) destination after (Ok r)
   file_done l {after} {r} a = record { answer = (λ i. accepted (record { bytes = whole i; count = count i })) ∙ sym e; left = whole ∙ sym (ap (λ (v : Verdict Written). left_by (λ (w : Written). w.bytes) v destination) e) }
     where
       e : file_into m n N destination g ≡ answer true
@@ -46,11 +43,11 @@ module _ (m n N : ℕ) (g : Graph) (destination : List ℕ) where
       whole : after ≡ file ++ drop (length file) destination
       whole = let z : 0 + length file ≡ length file = omega arith in a.bytes ∙ sets-eq file destination 0 (omega arith) ∙ ap (λ (k : ℕ). file ++ drop k destination) z
 
-module _ {m n N s : ℕ} {t : List ℤ} {o : List ℕ} {made : Made} (c : Checking m n N s t o made) where
-  pub call_written : (b : Board) → made ≡ M.Board b → (before after : List ℕ) (r : W.Written) → Writes (file_on b t before) before after r → Writes (write_call m n N s t before) before after r
+module _ {m n N s : ℕ} {t : List ℤ} {o : List ℕ} {made : Result Board Refusal} (c : Checking m n N s t o made) where
+  pub call_written : (b : Board) → made ≡ Ok b → (before after : List ℕ) (r : (Result ℕ Refusal)) → Writes (file_on b t before) before after r → Writes (write_call m n N s t before) before after r
   unfolding write_call
   call_written b q before after r h = answers_on c b q (λ m n N. file_into m n N before) before after r h
 
-  pub call_stopped : (x : Refusal) → made ≡ M.Refused x → (before : List ℕ) → Writes (write_call m n N s t before) before before (A.Refused x)
+  pub call_stopped : (x : Refusal) → made ≡ Err x → (before : List ℕ) → Writes (write_call m n N s t before) before before (Err x)
   unfolding write_call
-  call_stopped x q before = answers_refused c x q (file_into m n N before) before (A.Refused x) refl
+  call_stopped x q before = answers_refused c x q (file_into m n N before) before (Err x) refl

@@ -1,4 +1,6 @@
 -- The records after the first: the answer and the table, from the answers of the parts.
+use Rattle.files.specs.declared.answer.Fault.{Fault}
+use Rattle.std.specs.Prelude.{Err, Ok, Result}
 use mathlib.Core.Path.{◌≡◌, sym, ap, ◌∙◌}
 use mathlib.Core.List.{List, ◌++◌}
 use Prim.Native.Nat.{ℕ}
@@ -10,7 +12,7 @@ use Rattle.graph.specs.Delay.{absent, at}
 use Rattle.graph.specs.Graph.{Graph}
 use Rattle.timing.specs.declared.Refusal.{Refusal}
 use Rattle.timing.specs.Limits.{absent_cell}
-use Rattle.timing.specs.Refusal.{number, Verdict, refused, accepted, ◌then◌}
+use Rattle.timing.specs.Refusal.{number, Verdict, refused, accepted, ◌then◌, verdict}
 use Rattle.timing.specs.Table.{write_cell, graph_of, with_graph}
 use Rattle.timing.specs.Checks.{arcs_checked}
 use Rattle.timing.proofs.Checks.{arcs_accepted}
@@ -18,12 +20,8 @@ use Rattle.timing.proofs.Verdict.{then_accepted}
 use Rattle.timing.proofs.Table.{graph_of_with_graph, length-with_graph, drop-with_graph}
 use Rattle.format.specs.Reading.{Reading, stopped, got, placed, BoardSizes, opened, board_records, arcs_worked, file_loads, with_record, no_arcs, file_graph, file_checked, arcs_read, read_call, graph_read, table_read}
 use Rattle.paths.specs.declared.board.Board.{Board}
-use Rattle.paths.specs.declared.board.Made.{Made}
-use Rattle.paths.specs.declared.board.Made.TheVariants as M
-use Rattle.paths.specs.Board.{board_meaning, Lent, graph_in}
+use Rattle.paths.specs.Board.{Lent, graph_in}
 use Rattle.paths.specs.Checked.{ArcsChecking}
-use Rattle.files.specs.declared.scan.Scanned.{Scanned}
-use Rattle.files.specs.declared.scan.Scanned.TheVariants as S
 use Rattle.files.specs.Loads.{loads_of}
 use Rattle.files.specs.Place.{all_placed}
 use Rattle.files.specs.Scan.{scan_meaning}
@@ -50,7 +48,7 @@ blank_lent b t x h e = record { sized = h.sized; room = omega (arith, h.room, ap
 
 module _ (lib : List ℤ) (b : Board) (s l : List ℕ) (t t₁ : List ℤ) (o : List ℕ) (loads : loads_of l ≡ file_loads b.vertices s) (empty : graph_in b t ≡ no_arcs)
     (graph : graph_in b t₁ ≡ all_placed lib b.vertices s (loads_of l) t) (table : t₁ ≡ with_graph b.vertices (all_placed lib b.vertices s (loads_of l) t) t)
-    (r : Made) (said : ArcsChecking b t₁ o r) where
+    (r : Result Board Refusal) (said : ArcsChecking b t₁ o r) where
   abbrev m : ℕ
   m = b.inputs
 
@@ -61,18 +59,18 @@ module _ (lib : List ℤ) (b : Board) (s l : List ℕ) (t t₁ : List ℤ) (o : 
   unfolding file_graph
   file_graph_lem i = arcs_worked (with_record lib (loads i)) n s (empty i)
 
-  answer : (arcs_checked b.inputs b.vertices (file_graph lib b.vertices s) then λ _. accepted b) ≡ board_meaning r
+  answer : (arcs_checked b.inputs b.vertices (file_graph lib b.vertices s) then λ _. accepted b) ≡ verdict r
   answer = sym (said.answer ∙ ap (λ (g : Graph). arcs_checked m n g then λ _. accepted b) (graph ∙ file_graph_lem))
 
-  pub filled : (x : Board) → r ≡ M.Board x → Loads b.vertices (file_checked lib (sizes_of b) s) t t₁ S.Done
+  pub filled : (x : Board) → r ≡ Ok x → Loads b.vertices (file_checked lib (sizes_of b) s) t t₁ (Ok tt)
   filled x e = record { answer = sym (ap passed found); table = table ∙ ap (λ (g : Graph). with_graph n g t) (file_graph_lem ∙ sym (ap graph_read found)) }
     where
       found : file_checked lib (sizes_of b) s ≡ got (file_graph lib b.vertices s)
       found =
-          let p = then_accepted (arcs_checked m n (file_graph lib n s)) _ x (answer ∙ ap board_meaning e) in
+          let p = then_accepted (arcs_checked m n (file_graph lib n s)) _ x (answer ∙ ap verdict e) in
           ap (placed 0) (p.1 ∙ ap accepted (sym (arcs_accepted m n (file_graph lib n s) p.0 p.1).same))
 
-  pub emptied : (x : Refusal) → r ≡ M.Refused x → (t₂ : List ℤ) → t₂ ≡ with_graph b.vertices no_arcs t₁ → Loads b.vertices (file_checked lib (sizes_of b) s) t t₂ (S.Refused x 0)
+  pub emptied : (x : Refusal) → r ≡ Err x → (t₂ : List ℤ) → t₂ ≡ with_graph b.vertices no_arcs t₁ → Loads b.vertices (file_checked lib (sizes_of b) s) t t₂ (Err (record { refusal = x; at = 0 }))
   emptied x e t₂ q = record {
     answer = sym (ap passed found);
     table = q ∙ ap (with_graph n no_arcs) table ∙ written_over n no_arcs (all_placed lib n s (loads_of l) t) t ∙ ap (λ (y : Reading Graph). with_graph n (graph_read y) t) (sym found);
@@ -83,36 +81,36 @@ module _ (lib : List ℤ) (b : Board) (s l : List ℕ) (t t₁ : List ℤ) (o : 
       go (accepted y) z = absurd (let w : ◌≡◌ {A = ℕ} 0 1 = cc in omega arith)
 
       found : file_checked lib (sizes_of b) s ≡ stopped (number x) 0
-      found = go (arcs_checked m n (file_graph lib n s)) (answer ∙ ap board_meaning e)
+      found = go (arcs_checked m n (file_graph lib n s)) (answer ∙ ap verdict e)
 
 -- ---- the records, then the arcs
 
 module _ (lib : List ℤ) (b : BoardSizes) (s : List ℕ) (t t₁ : List ℤ) (blank : t₁ ≡ with_graph b.vertices no_arcs t)
-    (r : Scanned) (said : scan_meaning r ≡ board_records lib b.vertices s) where
+    (r : Result (Unit {0}) Fault) (said : scan_meaning r ≡ board_records lib b.vertices s) where
   abbrev N : ℕ
   N = b.vertices
 
   abbrev found : Reading Graph
   found = file_checked lib b s
 
-  read_on : r ≡ S.Done → arcs_read lib b s ≡ found
+  read_on : r ≡ Ok tt → arcs_read lib b s ≡ found
   unfolding arcs_read
   read_on e = simp (sym said ∙ ap scan_meaning e)
 
-  read_off : (x : Refusal) (p : ℕ) → r ≡ S.Refused x p → arcs_read lib b s ≡ stopped (number x) p
+  read_off : (f : Fault) → r ≡ Err f → arcs_read lib b s ≡ stopped (number f.refusal) f.at
   unfolding arcs_read
-  read_off x p e = simp (sym said ∙ ap scan_meaning e)
+  read_off f e = simp (sym said ∙ ap scan_meaning e)
 
-  pub loaded : r ≡ S.Done → (t₂ : List ℤ) (x : Scanned) → Loads b.vertices (file_checked lib b s) t₁ t₂ x → Loads b.vertices (arcs_read lib b s) t t₂ x
+  pub loaded : r ≡ Ok tt → (t₂ : List ℤ) (x : Result (Unit {0}) Fault) → Loads b.vertices (file_checked lib b s) t₁ t₂ x → Loads b.vertices (arcs_read lib b s) t t₂ x
   loaded e t₂ x h = record {
     answer = h.answer ∙ ap passed (sym (read_on e));
     table = h.table ∙ ap (with_graph N (graph_read found)) blank ∙ written_over N (graph_read found) no_arcs t ∙ ap (λ (y : Reading Graph). with_graph N (graph_read y) t) (sym (read_on e));
   }
 
-  pub not-loaded : (x : Refusal) (p : ℕ) → r ≡ S.Refused x p → Loads b.vertices (arcs_read lib b s) t t₁ r
-  not-loaded x p e = record {
-    answer = ap scan_meaning e ∙ ap passed (sym (read_off x p e));
-    table = blank ∙ ap (λ (y : Reading Graph). with_graph N (graph_read y) t) (sym (read_off x p e));
+  pub not-loaded : (f : Fault) → r ≡ Err f → Loads b.vertices (arcs_read lib b s) t t₁ r
+  not-loaded f e = record {
+    answer = ap scan_meaning e ∙ ap passed (sym (read_off f e));
+    table = blank ∙ ap (λ (y : Reading Graph). with_graph N (graph_read y) t) (sym (read_off f e));
   }
 
 -- ---- the call
@@ -122,15 +120,15 @@ module _ (lib : List ℤ) (s : List ℕ) (t : List ℤ) (k : ℕ) where
   unfolding read_call table_read
   call_stopped r p e = (simp e, simp e)
 
-  module _ (b : BoardSizes) (e : opened lib s t k ≡ got b) (t₂ : List ℤ) (x : Scanned) (h : Loads b.vertices (arcs_read lib b s) t t₂ x) where
+  module _ (b : BoardSizes) (e : opened lib s t k ≡ got b) (t₂ : List ℤ) (x : Result (Unit {0}) Fault) (h : Loads b.vertices (arcs_read lib b s) t t₂ x) where
     pub call_table : t₂ ≡ table_read lib s t k
     unfolding table_read
     call_table = h.table ∙ sym (simp e)
 
-    pub call_done : x ≡ S.Done → got b ≡ read_call lib s t k
+    pub call_done : x ≡ Ok tt → got b ≡ read_call lib s t k
     unfolding read_call
     call_done q = sym (simp e (next_on (arcs_read lib b s) tt b (sym h.answer ∙ ap scan_meaning q)))
 
-    pub call_refused : (r : Refusal) (p : ℕ) → x ≡ S.Refused r p → stopped (number r) p ≡ read_call lib s t k
+    pub call_refused : (f : Fault) → x ≡ Err f → stopped (number f.refusal) f.at ≡ read_call lib s t k
     unfolding read_call
-    call_refused r p q = sym (simp e (next_off (arcs_read lib b s) tt (λ _. got b) (number r) p (sym h.answer ∙ ap scan_meaning q)))
+    call_refused f q = sym (simp e (next_off (arcs_read lib b s) tt (λ _. got b) (number f.refusal) f.at (sym h.answer ∙ ap scan_meaning q)))

@@ -1,4 +1,5 @@
 -- The first record, and checks 1, 2 and 3.
+use Rattle.std.specs.Prelude.{Err, Ok, Result}
 use mathlib.Core.Path.{◌≡◌, refl, sym, ap, ◌∙◌}
 use mathlib.Core.Bool.{false}
 use mathlib.Core.List.{List}
@@ -16,18 +17,16 @@ use Rattle.format.specs.Library.{library_fits, InForce}
 use Rattle.format.specs.Records.{mark_at}
 use Rattle.format.specs.Reading.{Reading, stopped, got, placed, ◌next◌, is_board, BoardSizes, sizes, header, opened}
 use Rattle.paths.specs.declared.board.Board.{Board}
-use Rattle.paths.specs.declared.board.Made.{Made}
-use Rattle.paths.specs.declared.board.Made.TheVariants as M
 use Rattle.paths.specs.Checked.{MemoryChecking}
 use Rattle.paths.proofs.Sizes as Paths
 use Rattle.files.specs.Read.{sizes_of, Opens}
 use Rattle.format.proofs.Readings.{ask_got, next_got}
 
 -- a refusal has no board
-pub refusal : {l : List ℤ} {x : Reading BoardSizes} {t : List ℤ} (r : Refusal) → x ≡ stopped (number r) 0 → Opens l x t (M.Refused r)
+pub refusal : {l : List ℤ} {x : Reading BoardSizes} {t : List ℤ} (r : Refusal) → x ≡ stopped (number r) 0 → Opens l x t (Err r)
 refusal r e = record { answer = sym e; lent = λ b z. absurd (never b z) }
   where
-    never : (b : Board) → M.Refused r ≡ M.Board b → ⊥
+    never : (b : Board) → Err r ≡ Ok b → ⊥
     never b z = let q : ◌≡◌ {A = ℕ} 0 1 = cc in omega arith
 
 -- ---- the library, the first record, then the checks
@@ -37,7 +36,7 @@ module _ (l : List ℤ) (s : List ℕ) (t : List ℤ) (k : ℕ) where
   unfolding opened
   opened-not e = simp e
 
-  pub opened_on : InForce l → (m n N : ℕ) → header s ≡ got (sizes m n N) → (r : Made) → MemoryChecking m n N k t r → Opens l (opened l s t k) t r
+  pub opened_on : InForce l → (m n N : ℕ) → header s ≡ got (sizes m n N) → (r : Result Board Refusal) → MemoryChecking m n N k t r → Opens l (opened l s t k) t r
   unfolding opened
   opened_on ok m n N e r h = record {
     answer = ap (λ (v : Verdict Board). placed 0 v next λ b. got (sizes_of b)) h.answer ∙ go (memory_checked m n N k t) ∙ sym (simp (T_true {b = library_fits l} ok, e));

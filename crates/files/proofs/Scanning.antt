@@ -1,4 +1,7 @@
 -- The pass that checks a file's records: turn by turn, what is left says what the whole file says.
+use Rattle.std.specs.Prelude.{Ok, Some}
+use Rattle.files.specs.declared.answer.Fault.{Fault}
+use Rattle.std.specs.Prelude.{Option, Result}
 use mathlib.Core.Path.{◌≡◌, refl, sym, ap, ◌∙◌}
 use mathlib.Core.List.{List}
 use Prim.Native.Nat.{ℕ, zero, suc, ◌+◌, ◌-◌, ◌≤◌, ◌<◌}
@@ -8,8 +11,6 @@ use Rattle.timing.specs.declared.Refusal.TheVariants.{FileEnds}
 use Rattle.timing.specs.Refusal.{number, Verdict, refused}
 use Rattle.format.specs.Reading.{Reading, Shape, records_from}
 use Rattle.files.specs.declared.scan.Cursor.{Cursor}
-use Rattle.files.specs.declared.scan.Turned.{Turned}
-use Rattle.files.specs.declared.scan.Turned.TheVariants as T
 use Rattle.files.specs.Scan.{turn_meaning, found_says, InFile, Turns}
 use Rattle.files.proofs.Turning.{turn_means}
 
@@ -34,12 +35,12 @@ module _ {R : Type 0} (shape : R → Shape) (found : ℕ → Verdict R) (s : Lis
   all_left p h = record { turns = length s; enough = omega arith; says = refl; within = record { inside = h; few = omega arith } }
 
   -- a turn
-  module _ {whole : Reading (Unit {0})} {c : Cursor} {r : Turned} (l : Left whole c) (t : Turns (length s) c (found_says s c shape (found c.at)) r) where
+  module _ {whole : Reading (Unit {0})} {c : Cursor} {r : Result (Option Cursor) Fault} (l : Left whole c) (t : Turns (length s) c (found_says s c shape (found c.at)) r) where
     -- the answer of a turn that does not go on is that of the file
-    pub turn_says : {x : Turned} → r ≡ x → turn_meaning x (records_from shape (l.turns - 1) found s) ≡ whole
+    pub turn_says : {x : Result (Option Cursor) Fault} → r ≡ x → turn_meaning x (records_from shape (l.turns - 1) found s) ≡ whole
     turn_says e = turn_means t e (records_from shape (l.turns - 1) found s) ∙ sym (one_turn l.turns c l.enough) ∙ l.says
 
-    pub still_left : (d : Cursor) → r ≡ T.On d → Left whole d
+    pub still_left : (d : Cursor) → r ≡ Ok (Some d) → Left whole d
     still_left d e =
         let f = t.further d e in
         record { turns = l.turns - 1; enough = omega (arith, l.enough, f.0); says = turn_says e; within = f.1 }

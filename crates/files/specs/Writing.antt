@@ -1,19 +1,18 @@
 -- What the answer of `write` means, and what becomes of the destination.
-use Rattle.std.specs.Prelude.{List, ℕ, ℤ}
+use Rattle.timing.specs.declared.Refusal.{Refusal}
+use Rattle.std.specs.Prelude.{Err, Ok, Result, List, ℕ, ℤ}
 use Rattle.timing.specs.Refusal.{number, Verdict, refused, accepted, Answers}
 use Rattle.format.specs.Writing.{board_record, file_of, Written, file_into}
 use Rattle.paths.specs.declared.board.Board.{Board}
 use Rattle.paths.specs.Board.{graph_in}
-use Rattle.files.specs.declared.write.Written as W
-use Rattle.files.specs.declared.write.Written.TheVariants as A
 
 -- document 01's number, or the destination afterwards and the byte count
-abbrev pub written_meaning : W.Written → List ℕ → Verdict Written
-written_meaning (A.Bytes count) destination = accepted (record { bytes = destination; count = count })
-written_meaning (A.Refused r) destination = refused (number r)
+abbrev pub written_meaning : Result ℕ Refusal → List ℕ → Verdict Written
+written_meaning (Ok count) destination = accepted (record { bytes = destination; count = count })
+written_meaning (Err r) destination = refused (number r)
 
 -- r and the destination afterwards are what v says
-abbrev pub Writes : Verdict Written → List ℕ → List ℕ → W.Written → Type 0
+abbrev pub Writes : Verdict Written → List ℕ → List ℕ → Result ℕ Refusal → Type 0
 Writes = Answers written_meaning (λ w. w.bytes)
 
 -- a board's BD, and its file

@@ -1,12 +1,11 @@
 // A cell library in force: 32 cells, a code's ticks each, absent where it lacks the code.
+ghost use Rattle.timing.specs.Refusal.{verdict};
 ghost use Rattle.std.specs.Prelude.{◌≡◌, length};
 ghost use Rattle.timing.specs.Limits.{absent_cell};
 ghost use Rattle.timing.specs.Table.{write_cell};
 ghost use Rattle.format.specs.Library.{library_cells, library_fits, ticks_in, ticks_of, value_of, built_in_cells};
-ghost use Rattle.records.specs.Records.{ticks_meaning};
 
 use paths::{Board, cells};
-use records::parse::Ticks;
 use records::{library, parse};
 use timing::Refusal;
 
@@ -31,17 +30,17 @@ pub fn fits(library: &[i32]) -> bool
 }
 
 // A code's ticks.
-pub fn ticks_in(library: &[i32], code: u8) -> Ticks
-    ensures { ticks_meaning result ≡ ticks_in library.now code }
+pub fn ticks_in(library: &[i32], code: u8) -> Result<i32, Refusal>
+    ensures { verdict result ≡ ticks_in library.now code }
 {
-    let lacking = Ticks::Refused(Refusal::WrongField);
+    let lacking = Err(Refusal::WrongField);
     let at = code as usize;
     if at >= library.len() {
         return lacking;
     }
     let ticks = library[at];
     if cells::is_arc(ticks) {
-        return Ticks::Of(ticks);
+        return Ok(ticks);
     }
     lacking
 }
@@ -53,11 +52,7 @@ fn built_in_cell(code: usize) -> i32
     if code > 255 {
         return Board::ABSENT;
     }
-    let ticks = parse::cell_ticks(code as u8);
-    match ticks {
-        Ticks::Of(d) => d,
-        Ticks::Refused(_) => Board::ABSENT,
-    }
+    parse::cell_ticks(code as u8).unwrap_or(Board::ABSENT)
 }
 
 // Fills the cells from the built-in ticks: 32 of them are the built-in library.

@@ -9,7 +9,6 @@ ghost use Rattle.files.specs.Loads.{loads_of, Loadable};
 
 use crate::library;
 use paths::Board;
-use records::parse::Ticks;
 
 // No loads.
 pub fn none() -> [u8; Board::MAX_VERTICES]
@@ -33,9 +32,8 @@ pub fn cell_delay(library: &[i32], code: u8, load: u8) -> i32
     requires { InForce library.now }
     ensures { result ≡ write_cell absent_cell (value_of (cell_delay library.now code load)) }
 {
-    let ticks = library::ticks_in(library, code);
-    match ticks {
-        Ticks::Of(d) => under_load(d, load),
-        Ticks::Refused(_) => Board::ABSENT,
+    match library::ticks_in(library, code) {
+        Ok(ticks) => under_load(ticks, load),
+        Err(_) => Board::ABSENT,
     }
 }

@@ -11,14 +11,14 @@ use crate::loads;
 use format::Record;
 use paths::cells;
 use records::parse;
-use records::parse::Found;
 
-// What the record at an offset places, and the offset of the next one.
+// The arc that a record places, and the offset of the next record.
 #[derive(Clone, Copy)]
-pub enum Next {
-    // From, to, delay, offset.
-    Arc(usize, usize, i32, usize),
-    Stop,
+pub struct Placed {
+    pub from: usize,
+    pub to: usize,
+    pub delay: i32,
+    pub next: usize,
 }
 
 // No arcs.
@@ -32,24 +32,28 @@ pub fn blank(table: &mut [i32], n: usize)
 }
 
 // `loads` has the load of each vertex.
-fn next_arc(bytes: &[u8], n: usize, library: &[i32], loads: &[u8], at: usize) -> Next
+fn next_arc(bytes: &[u8], n: usize, library: &[i32], loads: &[u8], at: usize) -> Option<Placed>
     requires at_in_bounds { at ≤ length bytes.now }
     requires in_force { InForce library.now }
     requires n_in_bounds { n ≤ length loads.now }
     ensures places { Places library.now n bytes.now (loads_of loads.now) at result }
     ensures next_within { NextWithin n (length bytes.now) at result }
 {
-    let found = parse::record_at(bytes, n, at);
-    if let Found::Record(item) = found {
-        return match item {
-            Record::Arc(u, v, d) => Next::Arc(u, v, d, at + 8),
-            Record::Cell(u, v, code) => {
-                Next::Arc(u, v, loads::cell_delay(library, code, loads[v]), at + 5)
-            }
-            Record::End(_) => Next::Stop,
-        };
+    match parse::record_at(bytes, n, at) {
+        Ok(Record::Arc(from, to, delay)) => Some(Placed {
+            from,
+            to,
+            delay,
+            next: at + 8,
+        }),
+        Ok(Record::Cell(from, to, code)) => Some(Placed {
+            from,
+            to,
+            delay: loads::cell_delay(library, code, loads[to]),
+            next: at + 5,
+        }),
+        Ok(Record::End(_)) | Err(_) => None,
     }
-    Next::Stop
 }
 
 // The arcs of the records, one after another.
@@ -63,12 +67,8 @@ pub fn place(bytes: &[u8], n: usize, library: &[i32], loads: &[u8], table: &mut 
     ensures table_after_2 { table.new ≡ with_graph n (all_placed library.now n bytes.now (loads_of loads.now) table.old) table.old }
 {
     let mut at = 5;
-    loop {
-        let found = next_arc(bytes, n, library, loads, at);
-        let Next::Arc(u, v, d, after) = found else {
-            return;
-        };
-        table[parse::cell_of(n, u, v)] = d;
-        at = after;
+    while let Some(arc) = next_arc(bytes, n, library, loads, at) {
+        table[parse::cell_of(n, arc.from, arc.to)] = arc.delay;
+        at = arc.next;
     }
 }

@@ -4,15 +4,15 @@ ghost use Rattle.format.specs.Library.{library_cells};
 ghost use Rattle.format.specs.LibraryFile.{entry_at, LegalEntry, entry_shape, library_records, file_library, library_call, library_read};
 ghost use Rattle.files.specs.Scan.{scan_meaning, InFile, Turns, shape_says, found_says};
 
+use crate::answer::Fault;
 use crate::scan;
-use crate::scan::{Cursor, Scanned, Turned};
+use crate::scan::Cursor;
 use format::Entry;
 use paths::cells;
 use records::library;
-use records::library::FoundEntry;
 use timing::Refusal;
 
-fn item_turn(bytes: &[u8], cursor: Cursor, item: Entry) -> Turned
+fn item_turn(bytes: &[u8], cursor: Cursor, item: Entry) -> Result<Option<Cursor>, Fault>
     requires in_file { InFile (length bytes.now) cursor }
     requires legal_entry { LegalEntry bytes.now cursor.at item }
     ensures { Turns (length bytes.now) cursor (shape_says bytes.now cursor (entry_shape item)) result }
@@ -23,20 +23,19 @@ fn item_turn(bytes: &[u8], cursor: Cursor, item: Entry) -> Turned
     }
 }
 
-fn turn(bytes: &[u8], cursor: Cursor) -> Turned
+fn turn(bytes: &[u8], cursor: Cursor) -> Result<Option<Cursor>, Fault>
     requires { InFile (length bytes.now) cursor }
     ensures { Turns (length bytes.now) cursor (found_says bytes.now cursor entry_shape (entry_at bytes.now cursor.at)) result }
 {
     let at = cursor.at;
-    let found = library::entry_at(bytes, at);
-    match found {
-        FoundEntry::Entry(item) => item_turn(bytes, cursor, item),
-        FoundEntry::Refused(r) => Turned::Refused(r, at),
+    match library::entry_at(bytes, at) {
+        Ok(item) => item_turn(bytes, cursor, item),
+        Err(refusal) => Err(Fault { refusal, at }),
     }
 }
 
 // Pass 1: every record is checked.
-fn scan_entries(bytes: &[u8]) -> Scanned
+fn scan_entries(bytes: &[u8]) -> Result<(), Fault>
     ensures { scan_meaning result ≡ library_records bytes.now }
 {
     let mut cursor = Cursor {
@@ -44,20 +43,10 @@ fn scan_entries(bytes: &[u8]) -> Scanned
         low: 0,
         count: 0,
     };
-    'records: loop {
-        let turned = turn(bytes, cursor);
-        match turned {
-            Turned::On(after) => {
-                cursor = after;
-            }
-            Turned::Done => {
-                break 'records Scanned::Done;
-            }
-            Turned::Refused(r, at) => {
-                break 'records Scanned::Refused(r, at);
-            }
-        }
+    while let Some(after) = turn(bytes, cursor)? {
+        cursor = after;
     }
+    Ok(())
 }
 
 // Pass 2: the ticks of the records, in cells that are absent otherwise.
@@ -67,12 +56,8 @@ fn place_entries(bytes: &[u8], library: &mut [i32])
 {
     cells::clear(library);
     let mut at = 0;
-    loop {
-        let found = library::entry_at(bytes, at);
-        let FoundEntry::Entry(item) = found else {
-            return;
-        };
-        let Entry::Ticks(code, ticks) = item else {
+    while let Ok(entry) = library::entry_at(bytes, at) {
+        let Entry::Ticks(code, ticks) = entry else {
             return;
         };
         library[code] = ticks;
@@ -81,16 +66,14 @@ fn place_entries(bytes: &[u8], library: &mut [i32])
 }
 
 // The library in the file takes the place of the one in the cells, once all of it has been checked; refused, it leaves them.
-pub fn read_library(bytes: &[u8], library: &mut [i32]) -> Scanned
+pub fn read_library(bytes: &[u8], library: &mut [i32]) -> Result<(), Fault>
     ensures result_value { scan_meaning result ≡ library_call bytes.now library.old }
     ensures library_after { library.new ≡ library_read bytes.now library.old }
 {
     if library.len() != library::CODES {
-        return Scanned::Refused(Refusal::WrongLibrary, 0);
+        return Err(Fault::from(Refusal::WrongLibrary));
     }
-    let scanned = scan_entries(bytes);
-    if let Scanned::Done = scanned {
-        place_entries(bytes, library);
-    }
-    scanned
+    scan_entries(bytes)?;
+    place_entries(bytes, library);
+    Ok(())
 }

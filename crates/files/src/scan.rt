@@ -1,16 +1,16 @@
 // Pass 1: every record is checked and counted by its source; the table stays.
+ghost use Rattle.timing.specs.Refusal.{verdict};
 ghost use Rattle.std.specs.Prelude.{◌≡◌, ◌+◌, ◌*◌, ◌<◌, ◌≤◌, length};
 ghost use Rattle.timing.specs.Limits.{max_vertices};
 ghost use Rattle.format.specs.Records.{LegalRecord, known};
 ghost use Rattle.format.specs.Reading.{last, board_shape, known_at, no_loads};
-ghost use Rattle.records.specs.Records.{found_meaning};
 ghost use Rattle.files.specs.Loads.{loads_of};
 ghost use Rattle.files.specs.Scan.{InFile, Turns, Scans, entry_says, shape_says, record_says, found_says};
 
+use crate::answer::Fault;
 use crate::library;
 use format::Record;
 use records::parse;
-use records::parse::{Found, Ticks};
 use timing::Refusal;
 
 // Where the next record stands, the first cell that its arc may have, and the arcs so far.
@@ -21,54 +21,53 @@ pub struct Cursor {
     pub count: usize,
 }
 
-// What a record says: go on, the file is done, or a refusal at an offset.
-#[derive(Clone, Copy)]
-pub enum Turned {
-    On(Cursor),
-    Done,
-    Refused(Refusal, usize),
-}
-
-// What all records say.
-#[derive(Clone, Copy)]
-pub enum Scanned {
-    Done,
-    Refused(Refusal, usize),
-}
-
-// A record with a place; what follows it stands at `after`.
-pub fn entry_turn(cursor: Cursor, place: usize, after: usize) -> Turned
+// What a record with a place says: go on with what follows it, at `after`.
+pub fn entry_turn(cursor: Cursor, place: usize, after: usize) -> Result<Option<Cursor>, Fault>
     requires place_bound { place < max_vertices * max_vertices }
     requires at_lt_after { cursor.at < after }
     requires count_le_at { cursor.count ≤ cursor.at }
     ensures { Turns after cursor (entry_says cursor place after) result }
 {
     if place < cursor.low {
-        return Turned::Refused(Refusal::NotRising, cursor.at);
+        return Err(Fault {
+            refusal: Refusal::NotRising,
+            at: cursor.at,
+        });
     }
-    Turned::On(Cursor {
+    Ok(Some(Cursor {
         at: after,
         low: place + 1,
         count: cursor.count + 1,
-    })
+    }))
 }
 
-// The last record, with its count.
-pub fn end_turn(bytes: &[u8], cursor: Cursor, count: usize) -> Turned
+// What the last record says, with its count: the file is done.
+pub fn end_turn(bytes: &[u8], cursor: Cursor, count: usize) -> Result<Option<Cursor>, Fault>
     requires { cursor.at + 4 ≤ length bytes.now }
     ensures { Turns (length bytes.now) cursor (shape_says bytes.now cursor (last count)) result }
 {
     let end = cursor.at + 4;
     if count != cursor.count {
-        return Turned::Refused(Refusal::WrongCount, cursor.at);
+        return Err(Fault {
+            refusal: Refusal::WrongCount,
+            at: cursor.at,
+        });
     }
     if end != bytes.len() {
-        return Turned::Refused(Refusal::FileGoesOn, end);
+        return Err(Fault {
+            refusal: Refusal::FileGoesOn,
+            at: end,
+        });
     }
-    Turned::Done
+    Ok(None)
 }
 
-fn record_turn(bytes: &[u8], n: usize, cursor: Cursor, item: Record) -> Turned
+fn record_turn(
+    bytes: &[u8],
+    n: usize,
+    cursor: Cursor,
+    item: Record,
+) -> Result<Option<Cursor>, Fault>
     requires n_le_max_vertices { n ≤ max_vertices }
     requires in_file { InFile (length bytes.now) cursor }
     requires legal_record { LegalRecord n bytes.now cursor.at item }
@@ -82,48 +81,37 @@ fn record_turn(bytes: &[u8], n: usize, cursor: Cursor, item: Record) -> Turned
 }
 
 // The record, unless it is a cell whose code the library lacks.
-fn known(library: &[i32], item: Record) -> Found
-    ensures { found_meaning result ≡ known library.now item }
+fn known(library: &[i32], item: Record) -> Result<Record, Refusal>
+    ensures { verdict result ≡ known library.now item }
 {
-    match item {
-        Record::Arc(u, v, d) => Found::Record(Record::Arc(u, v, d)),
-        Record::Cell(u, v, code) => {
-            let ticks = library::ticks_in(library, code);
-            match ticks {
-                Ticks::Of(_) => Found::Record(Record::Cell(u, v, code)),
-                Ticks::Refused(r) => Found::Refused(r),
-            }
-        }
-        Record::End(arcs) => Found::Record(Record::End(arcs)),
+    if let Record::Cell(_, _, code) = item {
+        library::ticks_in(library, code)?;
     }
+    Ok(item)
 }
 
-fn known_at(bytes: &[u8], n: usize, library: &[i32], at: usize) -> Found
+fn known_at(bytes: &[u8], n: usize, library: &[i32], at: usize) -> Result<Record, Refusal>
     requires { at ≤ length bytes.now }
-    ensures { found_meaning result ≡ known_at library.now n bytes.now at }
+    ensures { verdict result ≡ known_at library.now n bytes.now at }
 {
-    let found = parse::record_at(bytes, n, at);
-    match found {
-        Found::Record(item) => known(library, item),
-        Found::Refused(r) => Found::Refused(r),
-    }
+    let item = parse::record_at(bytes, n, at)?;
+    known(library, item)
 }
 
-fn turn(bytes: &[u8], n: usize, library: &[i32], cursor: Cursor) -> Turned
+fn turn(bytes: &[u8], n: usize, library: &[i32], cursor: Cursor) -> Result<Option<Cursor>, Fault>
     requires n_le_max_vertices { n ≤ max_vertices }
     requires in_file { InFile (length bytes.now) cursor }
     ensures { Turns (length bytes.now) cursor (found_says bytes.now cursor (board_shape n) (known_at library.now n bytes.now cursor.at)) result }
 {
     let at = cursor.at;
-    let found = known_at(bytes, n, library, at);
-    match found {
-        Found::Record(item) => record_turn(bytes, n, cursor, item),
-        Found::Refused(r) => Turned::Refused(r, at),
+    match known_at(bytes, n, library, at) {
+        Ok(item) => record_turn(bytes, n, cursor, item),
+        Err(refusal) => Err(Fault { refusal, at }),
     }
 }
 
 // The records of a file of n vertices, from the one after the header on; where all are good, `loads` then has the load of each vertex.
-pub fn scan(bytes: &[u8], n: usize, library: &[i32], loads: &mut [u8]) -> Scanned
+pub fn scan(bytes: &[u8], n: usize, library: &[i32], loads: &mut [u8]) -> Result<(), Fault>
     requires in_bounds { 5 ≤ length bytes.now }
     requires n_le_max_vertices { n ≤ max_vertices }
     requires n_in_bounds { n ≤ length loads.old }
@@ -135,20 +123,10 @@ pub fn scan(bytes: &[u8], n: usize, library: &[i32], loads: &mut [u8]) -> Scanne
         low: 0,
         count: 0,
     };
-    'records: loop {
-        let turned = turn(bytes, n, library, cursor);
-        match turned {
-            Turned::On(after) => {
-                let u = parse::byte(bytes, cursor.at + 2);
-                loads[u] += 1;
-                cursor = after;
-            }
-            Turned::Done => {
-                break 'records Scanned::Done;
-            }
-            Turned::Refused(r, at) => {
-                break 'records Scanned::Refused(r, at);
-            }
-        }
+    while let Some(after) = turn(bytes, n, library, cursor)? {
+        let u = parse::byte(bytes, cursor.at + 2);
+        loads[u] += 1;
+        cursor = after;
     }
+    Ok(())
 }

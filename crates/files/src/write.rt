@@ -10,17 +10,9 @@ ghost use Rattle.records.specs.Appending.{RoomFor, Appends};
 ghost use Rattle.files.specs.Forms.{cell_as, row_as, table_as};
 ghost use Rattle.files.specs.Writing.{Writes, board_mark, board_file, file_on};
 
-use paths::board::Made;
 use paths::{Board, cells, checks, room};
 use records::{lines, put};
 use timing::Refusal;
-
-#[derive(Clone, Copy)]
-pub enum Written {
-    // How many were written.
-    Bytes(usize),
-    Refused(Refusal),
-}
 
 // How arcs are written.
 #[derive(Clone, Copy)]
@@ -130,18 +122,18 @@ fn put_file(board: Board, table: &[i32], count: usize, out: &mut [u8]) -> usize
 }
 
 // The file of a board that has passed its checks; 21 where it does not fit.
-fn file_answer(board: Board, table: &[i32], destination: &mut [u8]) -> Written
+fn file_answer(board: Board, table: &[i32], destination: &mut [u8]) -> Result<usize, Refusal>
     requires { Checked board table.now }
     ensures { Writes (file_on board table.now destination.old) destination.old destination.new result }
 {
     let count = cells::arcs(board, table);
     if destination.len() < FRAME_BYTES + ARC_BYTES * count {
-        return Written::Refused(Refusal::DestinationShort);
+        return Err(Refusal::DestinationShort);
     }
-    Written::Bytes(put_file(board, table, count, destination))
+    Ok(put_file(board, table, count, destination))
 }
 
-// Writes the board file of a table into the first bytes of `out`.
+// Writes the board file of a table into the first bytes of `out`, and answers how many.
 pub fn write(
     inputs: usize,
     outputs: usize,
@@ -149,13 +141,10 @@ pub fn write(
     table: &[i32],
     scratch: &[i64],
     out: &mut [u8],
-) -> Written
+) -> Result<usize, Refusal>
     ensures { Writes (write_call inputs outputs vertices (length scratch.now) table.now out.old) out.old out.new result }
 {
     let mut order = room::vertex_bytes();
-    let lent = checks::checked(inputs, outputs, vertices, table, scratch.len(), &mut order);
-    match lent {
-        Made::Board(board) => file_answer(board, table, out),
-        Made::Refused(r) => Written::Refused(r),
-    }
+    let board = checks::checked(inputs, outputs, vertices, table, scratch.len(), &mut order)?;
+    file_answer(board, table, out)
 }

@@ -1,4 +1,5 @@
 -- The matrix over copied cells is the matrix over the whole runs, and its cells put into the bytes are the run's bytes afterwards.
+use Rattle.std.specs.Prelude.{Err, Ok, Result}
 use mathlib.Core.Path.{◌≡◌, refl, sym, ap, ◌∙◌}
 use mathlib.Core.Bool.{Bool, true, false}
 use mathlib.Core.List.{List, ◌++◌}
@@ -17,8 +18,6 @@ use Rattle.timing.specs.Checks.{checked}
 use Rattle.timing.specs.Delays.{matrix_cells}
 use Rattle.timing.specs.Queries.{matrix_into, matrix_call}
 use Rattle.timing.proofs.Checks.{checked_accepted}
-use Rattle.paths.specs.declared.queries.Answer.{Answer}
-use Rattle.paths.specs.declared.queries.Answer.TheVariants as A
 use Rattle.paths.specs.Queries.{query_meaning, Fills}
 use Rattle.codec.proofs.Places.{AreBytes}
 use Rattle.host.specs.Runs.{whole_cells, cells_of, with_cells}
@@ -72,25 +71,25 @@ module _ (m n N s : ℕ) (table : List ℕ) (t' : List ℤ) (copy : Copy N table
       of (accepted g) e = into (small m n N (checked_accepted m n N s (cells_of 4 table) g e).good.sizes) g
 
 -- the matrix over copies: it left `after`, and answered r
-pub record Over (m n N s : ℕ) (table bytes : List ℕ) (t' d' after : List ℤ) (r : Answer) : Type 0 where
+pub record Over (m n N s : ℕ) (table bytes : List ℕ) (t' d' after : List ℤ) (r : Result (Unit {0}) Refusal) : Type 0 where
   pub are : AreBytes bytes
   pub copy : Copy N table t'
   pub long : length d' ≡ pairs_shown m n (whole_cells 8 bytes)
   pub call : Fills (matrix_call m n N s t' d') d' after r
 
-module _ {m n N s : ℕ} {table bytes : List ℕ} {t' d' after : List ℤ} {r : Answer} (o : Over m n N s table bytes t' d' after r) where
+module _ {m n N s : ℕ} {table bytes : List ℕ} {t' d' after : List ℤ} {r : Result (Unit {0}) Refusal} (o : Over m n N s table bytes t' d' after r) where
   abbrev verdict : Verdict (List ℤ)
   verdict = matrix_call m n N s (cells_of 4 table) (cells_of 8 bytes)
 
   -- what the call said, once its answer is known to be x
-  said : (x : Answer) → r ≡ x → Seen bytes (query_meaning x after) verdict
-  said x e = rw (ap (λ (y : Answer). query_meaning y after) (sym e) ∙ o.call.answer) (seen m n N s table t' o.copy bytes o.are d' o.long)
+  said : (x : Result (Unit {0}) Refusal) → r ≡ x → Seen bytes (query_meaning x after) verdict
+  said x e = rw (ap (λ (y : Result (Unit {0}) Refusal). query_meaning y after) (sym e) ∙ o.call.answer) (seen m n N s table t' o.copy bytes o.are d' o.long)
 
-  pub done : r ≡ A.Done → (put : List ℕ) → put ≡ with_cells 8 after bytes → (pos 0 ≡ matrix_answer verdict) × (put ≡ matrix_bytes verdict bytes)
-  done e put p = let h = said A.Done e in (h.answer, p ∙ h.after)
+  pub done : r ≡ Ok tt → (put : List ℕ) → put ≡ with_cells 8 after bytes → (pos 0 ≡ matrix_answer verdict) × (put ≡ matrix_bytes verdict bytes)
+  done e put p = let h = said (Ok tt) e in (h.answer, p ∙ h.after)
 
-  pub refuses : (x : Refusal) → r ≡ A.Refused x → (neg_ℤ (pos (number x)) ≡ matrix_answer verdict) × (bytes ≡ matrix_bytes verdict bytes)
-  refuses x e = let h = said (A.Refused x) e in (h.answer, h.after)
+  pub refuses : (x : Refusal) → r ≡ Err x → (neg_ℤ (pos (number x)) ≡ matrix_answer verdict) × (bytes ≡ matrix_bytes verdict bytes)
+  refuses x e = let h = said (Err x) e in (h.answer, h.after)
 
 -- the scratch that is lent on
 pub matrix-room : (m n N s : ℕ) (t d : List ℤ) → matrix_call m n N (shown N N s) t d ≡ matrix_call m n N s t d

@@ -1,4 +1,5 @@
 -- A step over the copied cells answers what the step over the whole run would, and its cells put back are the run's bytes afterwards.
+use Rattle.std.specs.Prelude.{Err, Ok, Result}
 use mathlib.Core.Path.{◌≡◌, refl, sym, ap, ◌∙◌}
 use mathlib.Core.List.{List}
 use Prim.Native.Nat.{ℕ, ◌*◌, ◌≤◌}
@@ -21,8 +22,6 @@ use Rattle.timing.proofs.Verdict.{then_accepted}
 use Rattle.timing.proofs.Checks.{Passed, checked_accepted}
 use Rattle.reduction.specs.Outcome.{Reduced, one_step}
 use Rattle.reduction.specs.Steps.{Step, plan, step_on, step_call}
-use Rattle.steps.specs.declared.answer.Answer.{Answer}
-use Rattle.steps.specs.declared.answer.Answer.TheVariants as A
 use Rattle.steps.specs.Reduces.{reduced_meaning, Reduces}
 use Rattle.codec.proofs.Places.{AreBytes}
 use Rattle.host.specs.Runs.{whole_cells, cells_of, with_cells}
@@ -88,33 +87,33 @@ module _ (m n N s : ℕ) (q : Step) where
     copy_bytes = ap (λ (v : Verdict Reduced). table_bytes v bytes) call_of ∙ bytes_same (planned whole) refl ∙ ap (λ (v : Verdict Reduced). table_bytes v bytes) (sym (step_of whole))
 
 -- the step over a copy of the cells: it left `after`, and answered r
-pub record Over (m n N s : ℕ) (q : Step) (bytes : List ℕ) (t' after : List ℤ) (r : Answer) : Type 0 where
+pub record Over (m n N s : ℕ) (q : Step) (bytes : List ℕ) (t' after : List ℤ) (r : Result ℕ Refusal) : Type 0 where
   pub are : AreBytes bytes
   pub copy : Copy N bytes t'
   pub call : Reduces (step_call m n N s q t') t' after r
 
-module _ {m n N s : ℕ} {q : Step} {bytes : List ℕ} {t' after : List ℤ} {r : Answer} (o : Over m n N s q bytes t' after r) where
+module _ {m n N s : ℕ} {q : Step} {bytes : List ℕ} {t' after : List ℤ} {r : Result ℕ Refusal} (o : Over m n N s q bytes t' after r) where
   abbrev verdict : Verdict Reduced
   verdict = step_call m n N s q (cells_of 4 bytes)
 
   -- what the call said, once its answer is known to be x
-  said : (x : Answer) → r ≡ x → reduced_meaning x after ≡ step_call m n N s q t'
-  said x e = ap (λ (y : Answer). reduced_meaning y after) (sym e) ∙ o.call.answer
+  said : (x : Result ℕ Refusal) → r ≡ x → reduced_meaning x after ≡ step_call m n N s q t'
+  said x e = ap (λ (y : Result ℕ Refusal). reduced_meaning y after) (sym e) ∙ o.call.answer
 
-  said_answer : (x : Answer) → r ≡ x → step_answer (reduced_meaning x after) ≡ step_answer verdict
+  said_answer : (x : Result ℕ Refusal) → r ≡ x → step_answer (reduced_meaning x after) ≡ step_answer verdict
   said_answer x e = ap step_answer (said x e) ∙ copy_answer m n N s q bytes o.are t' o.copy
 
-  said_bytes : (x : Answer) → r ≡ x → table_bytes (reduced_meaning x after) bytes ≡ table_bytes verdict bytes
+  said_bytes : (x : Result ℕ Refusal) → r ≡ x → table_bytes (reduced_meaning x after) bytes ≡ table_bytes verdict bytes
   said_bytes x e = ap (λ (v : Verdict Reduced). table_bytes v bytes) (said x e) ∙ copy_bytes m n N s q bytes o.are t' o.copy
 
-  pub arcs_small : (a : ℕ) → r ≡ A.Left a → a ≤ max_vertices * max_vertices
-  arcs_small a e = few_left m n N s q t' _ (said (A.Left a) e)
+  pub arcs_small : (a : ℕ) → r ≡ Ok a → a ≤ max_vertices * max_vertices
+  arcs_small a e = few_left m n N s q t' _ (said (Ok a) e)
 
-  pub accepts : (a : ℕ) → r ≡ A.Left a → (put : List ℕ) → put ≡ with_cells 4 after bytes → (pos a ≡ step_answer verdict) × (put ≡ table_bytes verdict bytes)
-  accepts a e put p = (said_answer (A.Left a) e, p ∙ said_bytes (A.Left a) e)
+  pub accepts : (a : ℕ) → r ≡ Ok a → (put : List ℕ) → put ≡ with_cells 4 after bytes → (pos a ≡ step_answer verdict) × (put ≡ table_bytes verdict bytes)
+  accepts a e put p = (said_answer (Ok a) e, p ∙ said_bytes (Ok a) e)
 
-  pub refuses : (x : Refusal) → r ≡ A.Refused x → (neg_ℤ (pos (number x)) ≡ step_answer verdict) × (bytes ≡ table_bytes verdict bytes)
-  refuses x e = (said_answer (A.Refused x) e, said_bytes (A.Refused x) e)
+  pub refuses : (x : Refusal) → r ≡ Err x → (neg_ℤ (pos (number x)) ≡ step_answer verdict) × (bytes ≡ table_bytes verdict bytes)
+  refuses x e = (said_answer (Err x) e, said_bytes (Err x) e)
 
 -- the scratch that is lent on
 pub step_room : (m n N s : ℕ) (q : Step) (t : List ℤ) → step_call m n N (shown N N s) q t ≡ step_call m n N s q t

@@ -5,7 +5,6 @@ ghost use Rattle.host.specs.Shown.{shown, pairs_shown};
 ghost use Rattle.host.specs.Answers.{matrix_answer, matrix_bytes, matrix_with, matrix_over};
 
 use crate::{answers, runs};
-use paths::queries::Answer;
 use paths::{queries, room};
 
 // What an accepted call answers.
@@ -28,13 +27,12 @@ fn matrix_in(
     ensures matrix_after { matrix.new ≡ matrix_bytes (matrix_with inputs outputs vertices (length scratch.old) table.now matrix.old) matrix.old }
 {
     runs::take_table(table, cells);
-    let answer = queries::delay_matrix(inputs, outputs, vertices, cells, scratch, delays);
-    match answer {
-        Answer::Done => {
+    match queries::delay_matrix(inputs, outputs, vertices, cells, scratch, delays) {
+        Ok(()) => {
             runs::put_matrix(matrix, delays);
             DONE
         }
-        Answer::Refused(r) => answers::refused(r),
+        Err(refusal) => answers::refused(refusal),
     }
 }
 

@@ -7,7 +7,6 @@ ghost use Rattle.host.specs.Answers.{step_answer, table_bytes, step_with, step_o
 
 use crate::{answers, runs};
 use paths::room;
-use steps::answer::Answer;
 use steps::calls;
 use steps::step::Step;
 
@@ -26,13 +25,12 @@ fn reduce_in(
     ensures table_after { table.new ≡ table_bytes (step_with inputs outputs vertices (length scratch.old) (step_meaning step) table.old) table.old }
 {
     runs::take_table(table, cells);
-    let answer = calls::reduce(inputs, outputs, vertices, cells, scratch, step);
-    match answer {
-        Answer::Left(arcs) => {
+    match calls::reduce(inputs, outputs, vertices, cells, scratch, step) {
+        Ok(arcs) => {
             runs::put_table(table, cells);
             arcs as i64
         }
-        Answer::Refused(r) => answers::refused(r),
+        Err(refusal) => answers::refused(refusal),
     }
 }
 

@@ -10,12 +10,8 @@ ghost use Rattle.paths.specs.Queries.{ScratchAfter};
 ghost use Rattle.paths.specs.Margins.{lists, margins};
 ghost use Rattle.meter.specs.Answers.{Measures, Tells, read_number};
 
-use files::answer::Read;
 use files::read;
-use paths::queries::Answer;
 use paths::{margins, queries};
-use run::answer::Ran;
-use steps::answer::Answer as Stepped;
 use timing::numbers;
 
 #[unsafe(no_mangle)]
@@ -30,10 +26,9 @@ pub extern "C" fn meter_matrix(
     ensures measures { Measures (λ x. x) (matrix_call inputs outputs vertices (length scratch.old) table.now matrix.old) matrix.old matrix.new result }
     ensures scratch_after { ScratchAfter inputs outputs vertices table.now scratch.old scratch.new }
 {
-    let answer = queries::delay_matrix(inputs, outputs, vertices, table, scratch, matrix);
-    match answer {
-        Answer::Done => 0,
-        Answer::Refused(r) => numbers::number(r),
+    match queries::delay_matrix(inputs, outputs, vertices, table, scratch, matrix) {
+        Ok(()) => 0,
+        Err(refusal) => numbers::number(refusal),
     }
 }
 
@@ -52,12 +47,11 @@ pub extern "C" fn meter_margins(
 ) -> usize
     ensures { Tells (margins inputs outputs vertices table.now scratch.now given.now due.now) (lists arrival.old required.old margin.old) (lists arrival.new required.new margin.new) result }
 {
-    let answer = margins::margins(
+    match margins::margins(
         inputs, outputs, vertices, table, scratch, given, due, arrival, required, margin,
-    );
-    match answer {
-        Answer::Done => 0,
-        Answer::Refused(r) => numbers::number(r),
+    ) {
+        Ok(()) => 0,
+        Err(refusal) => numbers::number(refusal),
     }
 }
 
@@ -72,10 +66,9 @@ pub extern "C" fn meter_prune(
     ensures measures { Measures (λ x. x.table) (step_call inputs outputs vertices (length scratch.old) prune table.old) table.old table.new result }
     ensures scratch_after { ScratchAfter inputs outputs vertices table.old scratch.old scratch.new }
 {
-    let answer = steps::calls::prune(inputs, outputs, vertices, table, scratch);
-    match answer {
-        Stepped::Left(_) => 0,
-        Stepped::Refused(r) => numbers::number(r),
+    match steps::calls::prune(inputs, outputs, vertices, table, scratch) {
+        Ok(_arcs) => 0,
+        Err(refusal) => numbers::number(refusal),
     }
 }
 
@@ -90,10 +83,9 @@ pub extern "C" fn meter_run(
     ensures measures { Measures (λ x. x.table) (run_call inputs outputs vertices (length scratch.old) table.old) table.old table.new result }
     ensures scratch_after { ScratchAfter inputs outputs vertices table.old scratch.old scratch.new }
 {
-    let answer = run::calls::run(inputs, outputs, vertices, table, scratch);
-    match answer {
-        Ran::Accepted(_, _) => 0,
-        Ran::Refused(r) => numbers::number(r),
+    match run::calls::run(inputs, outputs, vertices, table, scratch) {
+        Ok(_ran) => 0,
+        Err(refusal) => numbers::number(refusal),
     }
 }
 
@@ -107,9 +99,8 @@ pub extern "C" fn meter_read(
     ensures value { result ≡ read_number (read_call library.now bytes.now table.old (length scratch.now)) }
     ensures table_after { table.new ≡ table_read library.now bytes.now table.old (length scratch.now) }
 {
-    let answer = read::read(bytes, table, scratch, library);
-    match answer {
-        Read::Board(_) => 0,
-        Read::Refused(r, _) => numbers::number(r),
+    match read::read(bytes, table, scratch, library) {
+        Ok(_board) => 0,
+        Err(fault) => numbers::number(fault.refusal),
     }
 }

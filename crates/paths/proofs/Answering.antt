@@ -1,4 +1,5 @@
 -- A call's answer from its checks and from what follows them; and what becomes of the scratch.
+use Rattle.std.specs.Prelude.{Err, Ok, Result}
 use mathlib.Core.Path.{◌≡◌, refl, sym, ap, ◌∙◌, subst}
 use mathlib.Core.Bool.{false, ◌&&◌}
 use mathlib.Core.List.{List}
@@ -16,10 +17,6 @@ use Rattle.timing.specs.Refusal.{number, Verdict, refused, accepted, ◌then◌,
 use Rattle.timing.specs.Table.{graph_of}
 use Rattle.timing.specs.Checks.{sizes_fit, table_fits, scratch_fits, checked}
 use Rattle.paths.specs.declared.board.Board.{Board}
-use Rattle.paths.specs.declared.board.Made.{Made}
-use Rattle.paths.specs.declared.board.Made.TheVariants as M
-use Rattle.paths.specs.declared.queries.Answer.{Answer}
-use Rattle.paths.specs.declared.queries.Answer.TheVariants as A
 use Rattle.paths.specs.Checked.{Checking, Passable}
 use Rattle.paths.specs.Queries.{lent_fits, ScratchAfter}
 use Rattle.paths.proofs.Sizes.{sizes_fit_lem}
@@ -29,27 +26,27 @@ use Rattle.paths.proofs.Checking.{call_on, call_refused}
 abbrev pub Part : Type 0 → Type 0
 Part A = ℕ → ℕ → ℕ → Graph → Verdict A
 
-module _ {m n N s : ℕ} {t : List ℤ} {o : List ℕ} {made : Made} (c : Checking m n N s t o made) where
+module _ {m n N s : ℕ} {t : List ℤ} {o : List ℕ} {made : Result Board Refusal} (c : Checking m n N s t o made) where
   -- the checks passed: what holds of what follows them holds of the call
-  pub call_is : {A : Type 0} (P : Verdict A → Type 0) (f : Part A) (b : Board) → made ≡ M.Board b → P (f b.inputs b.outputs b.vertices (graph_of b.vertices t)) → P (checked m n N s t then f m n N)
+  pub call_is : {A : Type 0} (P : Verdict A → Type 0) (f : Part A) (b : Board) → made ≡ Ok b → P (f b.inputs b.outputs b.vertices (graph_of b.vertices t)) → P (checked m n N s t then f m n N)
   call_is P f b q h =
       let e = call_on m n N s t b made c.answer q (f m n N) in
       subst P (sym e.0) (subst (λ (x : Board). P (f x.inputs x.outputs x.vertices (graph_of x.vertices t))) (sym e.1) h)
 
   -- and so does a promise
   module _ {R A L : Type 0} {meaning : R → L → Verdict A} {part : A → L} where
-    pub answers_on : (b : Board) → made ≡ M.Board b → (f : Part A) (before after : L) (r : R) → Answers meaning part (f b.inputs b.outputs b.vertices (graph_of b.vertices t)) before after r
+    pub answers_on : (b : Board) → made ≡ Ok b → (f : Part A) (before after : L) (r : R) → Answers meaning part (f b.inputs b.outputs b.vertices (graph_of b.vertices t)) before after r
         → Answers meaning part (checked m n N s t then f m n N) before after r
     answers_on b q f before after r h = call_is (λ (v : Verdict A). Answers meaning part v before after r) f b q h
 
     -- the checks refused, and answer r says their number
-    pub answers_refused : (x : Refusal) → made ≡ M.Refused x → (f : Graph → Verdict A) (before : L) (r : R) → meaning r before ≡ refused (number x) → Answers meaning part (checked m n N s t then f) before before r
+    pub answers_refused : (x : Refusal) → made ≡ Err x → (f : Graph → Verdict A) (before : L) (r : R) → meaning r before ≡ refused (number x) → Answers meaning part (checked m n N s t then f) before before r
     answers_refused x q f before r said =
         let e = call_refused m n N s t x made c.answer q f in
         record { answer = said ∙ sym e; left = sym (ap (λ (v : Verdict A). left_by part v before) e) }
 
   -- the checks passed, so that only the cells past those that the call may use are promised
-  pub scratch_on : (b : Board) → made ≡ M.Board b → (before after : List ℤ) → s ≡ length before → drop (scratch_cells b.vertices) after ≡ drop (scratch_cells b.vertices) before → ScratchAfter m n N t before after
+  pub scratch_on : (b : Board) → made ≡ Ok b → (before after : List ℤ) → s ≡ length before → drop (scratch_cells b.vertices) after ≡ drop (scratch_cells b.vertices) before → ScratchAfter m n N t before after
   scratch_on b q before after len h =
       let e = call_on m n N s t b made c.answer q (λ _. accepted (tt {0})) in
       let p = c.passable b q in

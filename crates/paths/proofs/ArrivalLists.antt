@@ -1,4 +1,5 @@
 -- The arrival call after its checks: the lists that fit, and the answers.
+use Rattle.std.specs.Prelude.{Err, Ok}
 use mathlib.Core.Path.{◌≡◌, ap, ◌∙◌}
 use mathlib.Core.Logic.{◌≢◌, ◌⊎◌, inl, inr}
 use mathlib.Core.Bool.{true, false, ◌&&◌}
@@ -23,7 +24,6 @@ use Rattle.timing.specs.Delays.{arrival_in, arrival_at, arrivals_fit, output_arr
 use Rattle.timing.specs.Queries.{arrivals_into}
 use Rattle.timing.proofs.Limits.{fits_span, span_fits}
 use Rattle.paths.specs.declared.board.Board.{Board}
-use Rattle.paths.specs.declared.queries.Answer.TheVariants as A
 use Rattle.paths.specs.Arrivals.{inside_limit, filled, Given}
 use Rattle.paths.specs.Queries.{Fills}
 use Rattle.paths.proofs.Starting.{stored_cell}
@@ -39,7 +39,7 @@ given_of k a e =
     }
 
 module _ (m n N : ℕ) (a before : List ℤ) (g : Graph) where
-  pub lists_refused : (arrivals_fit m a ≡ false) ⊎ (length before ≢ n) → Fills (arrivals_into m n N a before g) before before (A.Refused ArrivalLists)
+  pub lists_refused : (arrivals_fit m a ≡ false) ⊎ (length before ≢ n) → Fills (arrivals_into m n N a before g) before before (Err ArrivalLists)
   unfolding arrivals_into
   lists_refused h = let e = fails h in record { answer = simp e; left = simp e }
     where
@@ -47,7 +47,7 @@ module _ (m n N : ℕ) (a before : List ℤ) (g : Graph) where
       fails (inl z) = simp z
       fails (inr ne) = is_false (arrivals_fit m a && eqb (length before) n) (λ t. ne (eqb→eq (length before) n (and_e (arrivals_fit m a) (eqb (length before) n) t).1))
 
-  pub lists_done : arrivals_fit m a ≡ true → length before ≡ n → (after : List ℤ) → after ≡ output_arrivals m n N g a → Fills (arrivals_into m n N a before g) before after A.Done
+  pub lists_done : arrivals_fit m a ≡ true → length before ≡ n → (after : List ℤ) → after ≡ output_arrivals m n N g a → Fills (arrivals_into m n N a before g) before after (Ok tt)
   unfolding arrivals_into
   lists_done e l after q =
       let k = T_true {b = eqb (length before) n} (eq→eqb (length before) n l) in

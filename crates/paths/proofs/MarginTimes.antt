@@ -1,4 +1,5 @@
 -- Required times and margins as the code has them: lists that are started, passed over, mirrored and subtracted.
+use Rattle.std.specs.Prelude.{Err, Ok}
 use mathlib.Core.Path.{◌≡◌, sym, ap, ap₂, ◌∙◌, subst}
 use mathlib.Core.Bool.{true, false, ◌&&◌}
 use mathlib.Core.List.{List}
@@ -26,7 +27,6 @@ use Rattle.timing.proofs.Table.{read_held}
 use Rattle.timing.proofs.Recursion.{required_propagated}
 use Rattle.timing.proofs.Margins.{arrival_span, mirrored_span, required_span}
 use Rattle.paths.specs.declared.board.Board.{Board}
-use Rattle.paths.specs.declared.queries.Answer.TheVariants as A
 use Rattle.paths.specs.Board.{graph_in}
 use Rattle.paths.specs.Checked.{Checked, Passable}
 use Rattle.paths.specs.Arrivals.{inside_limit, reached_limit, stored, filled, arrivals_from, Started, Given}
@@ -169,12 +169,12 @@ fitting b a r x e =
     }
 
 module _ (b : Board) (t a r : List ℤ) (before : Times) where
-  pub margins_refused : lists_fit b a r before ≡ false → Fills (margins_on b t a r before) before before (A.Refused ArrivalLists)
+  pub margins_refused : lists_fit b a r before ≡ false → Fills (margins_on b t a r before) before before (Err ArrivalLists)
   unfolding margins_into
   margins_refused e = record { answer = simp e; left = simp e }
 
   pub margins_done : lists_fit b a r before ≡ true → (x y z : List ℤ) → x ≡ cells b.vertices (arrivals_from b t a) → y ≡ cells b.vertices (required_from b t r)
-      → z ≡ cells b.vertices (margin_at b.inputs b.outputs b.vertices (graph_in b t) (arrival_in a) (arrival_in r)) → Fills (margins_on b t a r before) before (lists x y z) A.Done
+      → z ≡ cells b.vertices (margin_at b.inputs b.outputs b.vertices (graph_in b t) (arrival_in a) (arrival_in r)) → Fills (margins_on b t a r before) before (lists x y z) (Ok tt)
   unfolding margins_into times
   margins_done e x y z p q w = let same = three p q w in record { answer = simp e (ap accepted same); left = simp e same }
     where

@@ -1,4 +1,5 @@
 -- A matrix that is filled row by row.
+use Rattle.std.specs.Prelude.{Err, Ok}
 use mathlib.Core.Path.{◌≡◌, ap, ◌∙◌}
 use mathlib.Core.List.{List, ◌++◌}
 use Prim.Native.Nat.{ℕ, ◌+◌, ◌-◌, ◌*◌, ◌≤◌, ◌<◌}
@@ -19,7 +20,6 @@ use Rattle.timing.specs.declared.Refusal.TheVariants.{DestinationShort}
 use Rattle.timing.specs.Refusal.{accepted}
 use Rattle.timing.specs.Delays.{matrix, matrix_cells}
 use Rattle.timing.specs.Queries.{matrix_into}
-use Rattle.paths.specs.declared.queries.Answer.TheVariants as A
 use Rattle.paths.specs.Queries.{Fills, entry, RowsMade}
 use Rattle.paths.specs.declared.board.Board.{Board}
 use Rattle.paths.specs.Arrivals.{filled, delays_from}
@@ -49,11 +49,11 @@ module _ {b : Board} {t : List ℤ} {o : List ℕ} (p : Passable b t o) (i : ℕ
 
 -- the answers
 module _ (m n N : ℕ) (before : List ℤ) (g : Graph) where
-  pub matrix_short : length before < n * m → Fills (matrix_into m n N before g) before before (A.Refused DestinationShort)
+  pub matrix_short : length before < n * m → Fills (matrix_into m n N before g) before before (Err DestinationShort)
   unfolding matrix_into
   matrix_short h = let e = lt-leb (m * n) (length before) (omega (arith, h, mul_comm m n)) in record { answer = simp e; left = simp e }
 
-  pub matrix_done : n * m ≤ length before → (after : List ℤ) → after ≡ matrix_cells m n N g ++ drop (n * m) before → Fills (matrix_into m n N before g) before after A.Done
+  pub matrix_done : n * m ≤ length before → (after : List ℤ) → after ≡ matrix_cells m n N g ++ drop (n * m) before → Fills (matrix_into m n N before g) before after (Ok tt)
   unfolding matrix_into
   matrix_done h after q =
       let e = le-leb (m * n) (length before) (omega (arith, h, mul_comm m n)) in

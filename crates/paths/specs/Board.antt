@@ -1,5 +1,6 @@
 -- What the board's constructor answers, and what its boards promise.
-use Rattle.std.specs.Prelude.{◌≡◌, Bool, false, List, ℕ, ◌+◌, ◌*◌, ◌≤◌, ◌<◌, ℤ, length, get_or}
+use Rattle.timing.specs.declared.Refusal.{Refusal}
+use Rattle.std.specs.Prelude.{Err, Ok, Result, ◌≡◌, Bool, false, List, ℕ, ◌+◌, ◌*◌, ◌≤◌, ◌<◌, ℤ, length, get_or}
 use Rattle.laws.specs.Lent.{Past}
 use Rattle.graph.specs.Graph.{Graph}
 use Rattle.timing.specs.Limits.{max_vertices, scratch_cells}
@@ -8,13 +9,6 @@ use Rattle.timing.specs.Refusal.{number, Verdict, refused, accepted, require}
 use Rattle.timing.specs.Table.{graph_of}
 use Rattle.timing.specs.Checks.{sizes_fit}
 use Rattle.paths.specs.declared.board.Board.{Board}
-use Rattle.paths.specs.declared.board.Made.{Made}
-use Rattle.paths.specs.declared.board.Made.TheVariants as M
-
--- document 01's number, or the board
-abbrev pub board_meaning : Made → Verdict Board
-board_meaning (M.Board b) = accepted b
-board_meaning (M.Refused r) = refused (number r)
 
 -- check 1
 unfoldable pub board_of : ℕ → ℕ → ℕ → Verdict Board

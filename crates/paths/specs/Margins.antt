@@ -1,5 +1,6 @@
 -- Required times and margins over a table that has passed its checks.
-use Rattle.std.specs.Prelude.{◌≡◌, Bool, ◌&&◌, List, ℕ, ◌≤◌, ◌<◌, T, ℤ, length}
+use Rattle.timing.specs.declared.Refusal.{Refusal}
+use Rattle.std.specs.Prelude.{Result, ◌≡◌, Bool, ◌&&◌, List, ℕ, ◌≤◌, ◌<◌, T, ℤ, length}
 use Rattle.graph.specs.Delay.{Delay, ◌⋓◌, ◌⊕◌, mirror, greatest}
 use Rattle.graph.specs.Graph.{reversed, propagated}
 use Rattle.timing.specs.Limits.{absent_wide, fits}
@@ -8,7 +9,6 @@ use Rattle.timing.specs.Table.{read_cell, write_cell}
 use Rattle.timing.specs.Delays.{arrival_in, arrivals_fit}
 use Rattle.timing.specs.Margins.{own_time, required_at, Times, times_fit, margins_into, margins_call}
 use Rattle.paths.specs.declared.board.Board.{Board}
-use Rattle.paths.specs.declared.queries.Answer.{Answer}
 use Rattle.paths.specs.Board.{graph_in}
 use Rattle.paths.specs.Chain.{walked_at}
 use Rattle.paths.specs.Arrivals.{reached_limit}
@@ -50,5 +50,5 @@ abbrev pub margins : ℕ → ℕ → ℕ → List ℤ → List ℤ → List ℤ 
 margins m n N table scratch given due x = margins_call m n N (length scratch) table given due x
 
 -- r and three lent lists afterwards are what the call says of the lists as they were
-abbrev pub Timed : (Times → Verdict Times) → Times → Times → Answer → Type 0
+abbrev pub Timed : (Times → Verdict Times) → Times → Times → Result (Unit {0}) Refusal → Type 0
 Timed call before after r = Fills (call before) before after r

@@ -1,5 +1,6 @@
 -- What the answers of the matrix call and the arrival call mean, and what becomes of the lent memory.
-use Rattle.std.specs.Prelude.{◌≡◌, Bool, false, ◌&&◌, List, ◌++◌, ℕ, ◌*◌, ℤ, length, drop}
+use Rattle.timing.specs.declared.Refusal.{Refusal}
+use Rattle.std.specs.Prelude.{Err, Ok, Result, ◌≡◌, Bool, false, ◌&&◌, List, ◌++◌, ℕ, ◌*◌, ℤ, length, drop}
 use Rattle.laws.specs.Lists.{rows}
 use Rattle.laws.specs.Lent.{Past}
 use Rattle.timing.specs.Limits.{absent_wide, scratch_cells}
@@ -9,17 +10,15 @@ use Rattle.timing.specs.Table.{write_cell}
 use Rattle.timing.specs.Delays.{matrix, matrix_cells}
 use Rattle.timing.specs.Queries.{matrix_into, arrivals_into}
 use Rattle.paths.specs.declared.board.Board.{Board}
-use Rattle.paths.specs.declared.queries.Answer.{Answer}
-use Rattle.paths.specs.declared.queries.Answer.TheVariants as A
 use Rattle.paths.specs.Board.{graph_in}
 
 -- document 01's number, or the destination afterwards: a list, or three
-abbrev pub query_meaning : {L : Type 0} → Answer → L → Verdict L
-query_meaning A.Done destination = accepted destination
-query_meaning (A.Refused r) destination = refused (number r)
+abbrev pub query_meaning : {L : Type 0} → Result (Unit {0}) Refusal → L → Verdict L
+query_meaning (Ok tt) destination = accepted destination
+query_meaning (Err r) destination = refused (number r)
 
 -- r and the destination afterwards are what v says
-abbrev pub Fills : {L : Type 0} → Verdict L → L → L → Answer → Type 0
+abbrev pub Fills : {L : Type 0} → Verdict L → L → L → Result (Unit {0}) Refusal → Type 0
 Fills = Answers query_meaning (λ cells. cells)
 
 -- the two calls after their checks, at a board's table

@@ -1,7 +1,8 @@
 // The board's type, with document 01's limits and marks.
+ghost use Rattle.timing.specs.Refusal.{verdict};
 ghost use Rattle.std.specs.Prelude.{◌≡◌, ◌*◌};
 ghost use Rattle.timing.specs.Limits.{scratch_cells};
-ghost use Rattle.paths.specs.Board.{Sized, board_meaning, board_of};
+ghost use Rattle.paths.specs.Board.{Sized, board_of};
 
 use timing::Refusal;
 
@@ -11,12 +12,6 @@ pub struct Board {
     pub inputs: usize,
     pub outputs: usize,
     pub vertices: usize,
-}
-
-#[derive(Clone, Copy)]
-pub enum Made {
-    Board(Board),
-    Refused(Refusal),
 }
 
 impl Board {
@@ -43,25 +38,25 @@ impl Board {
     pub const ABSENT_WIDE: i64 = -9_223_372_036_854_775_808;
 
     // Check 1.
-    pub fn new(inputs: usize, outputs: usize, vertices: usize) -> Made
-        ensures { board_meaning result ≡ board_of inputs outputs vertices }
+    pub fn new(inputs: usize, outputs: usize, vertices: usize) -> Result<Board, Refusal>
+        ensures { verdict result ≡ board_of inputs outputs vertices }
     {
         if inputs < 1 {
-            return Made::Refused(Refusal::Sizes);
+            return Err(Refusal::Sizes);
         }
         if outputs < 1 {
-            return Made::Refused(Refusal::Sizes);
+            return Err(Refusal::Sizes);
         }
         if Board::MAX_VERTICES < vertices {
-            return Made::Refused(Refusal::Sizes);
+            return Err(Refusal::Sizes);
         }
         if vertices < inputs {
-            return Made::Refused(Refusal::Sizes);
+            return Err(Refusal::Sizes);
         }
         if vertices - inputs < outputs {
-            return Made::Refused(Refusal::Sizes);
+            return Err(Refusal::Sizes);
         }
-        Made::Board(Board {
+        Ok(Board {
             inputs,
             outputs,
             vertices,

@@ -4,7 +4,7 @@ ghost use Rattle.timing.specs.Limits.{max_vertices};
 ghost use Rattle.paths.specs.Board.{Lent};
 ghost use Rattle.paths.specs.Checked.{MemoryChecking, ArcsChecking, Checking};
 
-use crate::board::{Board, Made};
+use crate::board::Board;
 use crate::order::Order;
 use crate::{cells, order};
 use timing::Refusal;
@@ -16,34 +16,32 @@ pub fn memory_checked(
     vertices: usize,
     table: &[i32],
     scratch: usize,
-) -> Made
+) -> Result<Board, Refusal>
     ensures { MemoryChecking inputs outputs vertices scratch table.now result }
 {
-    let made = Board::new(inputs, outputs, vertices);
-    if let Made::Board(board) = made {
-        if table.len() < board.cells() {
-            return Made::Refused(Refusal::TableShort);
-        }
-        if scratch < board.scratch_cells() {
-            return Made::Refused(Refusal::ScratchShort);
-        }
+    let board = Board::new(inputs, outputs, vertices)?;
+    if table.len() < board.cells() {
+        return Err(Refusal::TableShort);
     }
-    made
+    if scratch < board.scratch_cells() {
+        return Err(Refusal::ScratchShort);
+    }
+    Ok(board)
 }
 
 // Checks 5 and 6 of a board's table, with a topological order in `order`.
-pub fn arcs_checked(board: Board, table: &[i32], order: &mut Order) -> Made
+pub fn arcs_checked(board: Board, table: &[i32], order: &mut Order) -> Result<Board, Refusal>
     requires lent { Lent board table.now }
     requires order_len { length order.old ≡ max_vertices }
     ensures { ArcsChecking board table.now order.new result }
 {
     if !cells::no_arc_into_input(board, table) {
-        return Made::Refused(Refusal::ArcIntoInput);
+        return Err(Refusal::ArcIntoInput);
     }
     if !order::topological_order(board, table, order) {
-        return Made::Refused(Refusal::Cycle);
+        return Err(Refusal::Cycle);
     }
-    Made::Board(board)
+    Ok(board)
 }
 
 // The board, with a topological order in `order`, or the first refusal.
@@ -54,16 +52,13 @@ pub fn checked(
     table: &[i32],
     scratch: usize,
     order: &mut Order,
-) -> Made
+) -> Result<Board, Refusal>
     requires { length order.old ≡ max_vertices }
     ensures { Checking inputs outputs vertices scratch table.now order.new result }
 {
-    let made = memory_checked(inputs, outputs, vertices, table, scratch);
-    if let Made::Board(board) = made {
-        if !cells::cells_fit(board, table) {
-            return Made::Refused(Refusal::OddCell);
-        }
-        return arcs_checked(board, table, order);
+    let board = memory_checked(inputs, outputs, vertices, table, scratch)?;
+    if !cells::cells_fit(board, table) {
+        return Err(Refusal::OddCell);
     }
-    made
+    arcs_checked(board, table, order)
 }

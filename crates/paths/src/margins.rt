@@ -11,9 +11,8 @@ ghost use Rattle.paths.specs.Arrivals.{reached_limit, stored, filled, Started, G
 ghost use Rattle.paths.specs.Checked.{Passable};
 ghost use Rattle.paths.specs.Margins.{InReach, Pulled, latest_back, own_from, required_from, lists, lists_fit, margins_on, margins, Timed};
 
-use crate::board::{Board, Made};
+use crate::board::Board;
 use crate::order::Order;
-use crate::queries::Answer;
 use crate::{arrivals, chain, checks, queries, room};
 use timing::Refusal;
 
@@ -202,19 +201,19 @@ fn margins_answer(
     arrival: &mut [i64],
     required: &mut [i64],
     margin: &mut [i64],
-) -> Answer
+) -> Result<(), Refusal>
     requires { Passable board table.now order.now }
     ensures { Timed (margins_on board table.now given.now due.now) (lists arrival.old required.old margin.old) (lists arrival.new required.new margin.new) result }
 {
     if !lists_fit(board, given, due, arrival, required, margin) {
-        return Answer::Refused(Refusal::ArrivalLists);
+        return Err(Refusal::ArrivalLists);
     }
     let mut chain = room::cell_bytes();
     chain::chains(board, table, order, &mut chain);
     arrivals::arrivals(board, table, order, &chain, given, arrival);
     required_times(board, table, order, &chain, due, required);
     fill_margins(required, arrival, margin);
-    Answer::Done
+    Ok(())
 }
 
 // The arrival, the required time and the margin of every vertex, from the m arrivals at the inputs and the n required times at the outputs.
@@ -230,15 +229,10 @@ pub fn margins(
     arrival: &mut [i64],
     required: &mut [i64],
     margin: &mut [i64],
-) -> Answer
+) -> Result<(), Refusal>
     ensures { Timed (margins inputs outputs vertices table.now scratch.now given.now due.now) (lists arrival.old required.old margin.old) (lists arrival.new required.new margin.new) result }
 {
     let mut order = room::vertex_bytes();
-    let lent = checks::checked(inputs, outputs, vertices, table, scratch.len(), &mut order);
-    match lent {
-        Made::Board(board) => {
-            margins_answer(board, table, &order, given, due, arrival, required, margin)
-        }
-        Made::Refused(r) => Answer::Refused(r),
-    }
+    let board = checks::checked(inputs, outputs, vertices, table, scratch.len(), &mut order)?;
+    margins_answer(board, table, &order, given, due, arrival, required, margin)
 }

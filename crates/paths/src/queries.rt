@@ -11,16 +11,10 @@ ghost use Rattle.paths.specs.Checked.{Passable};
 ghost use Rattle.paths.specs.Queries.{ScratchAfter, Fills, matrix_on, arrivals_on, with_matrix, RowsMade};
 ghost use Rattle.paths.specs.Board.{ScratchRoom, PastScratch};
 
-use crate::board::{Board, Made};
+use crate::board::Board;
 use crate::order::Order;
 use crate::{arrivals, chain, checks, room};
 use timing::Refusal;
-
-#[derive(Clone, Copy)]
-pub enum Answer {
-    Done,
-    Refused(Refusal),
-}
 
 // The outputs' cells: they stand in f from m on.
 fn copy_out(row: &mut [i64], f: &[i64], m: usize)
@@ -105,17 +99,17 @@ fn matrix_answer(
     order: &Order,
     scratch: &mut [i64],
     destination: &mut [i64],
-) -> Answer
+) -> Result<(), Refusal>
     requires passable { Passable board table.now order.now }
     requires scratch_room { ScratchRoom board scratch.old }
     ensures fills { Fills (matrix_on board table.now destination.old) destination.old destination.new result }
     ensures past_scratch { PastScratch board scratch.old scratch.new }
 {
-    if destination.len() >= board.outputs * board.inputs {
-        fill_matrix(board, table, order, scratch, destination);
-        return Answer::Done;
+    if destination.len() < board.outputs * board.inputs {
+        return Err(Refusal::DestinationShort);
     }
-    Answer::Refused(Refusal::DestinationShort)
+    fill_matrix(board, table, order, scratch, destination);
+    Ok(())
 }
 
 // The delay matrix, row by row, into the first m × n cells of `destination`.
@@ -126,16 +120,13 @@ pub fn delay_matrix(
     table: &[i32],
     scratch: &mut [i64],
     destination: &mut [i64],
-) -> Answer
+) -> Result<(), Refusal>
     ensures fills { Fills (matrix_call inputs outputs vertices (length scratch.old) table.now destination.old) destination.old destination.new result }
     ensures scratch_after { ScratchAfter inputs outputs vertices table.now scratch.old scratch.new }
 {
     let mut order = room::vertex_bytes();
-    let lent = checks::checked(inputs, outputs, vertices, table, scratch.len(), &mut order);
-    match lent {
-        Made::Board(board) => matrix_answer(board, table, &order, scratch, destination),
-        Made::Refused(r) => Answer::Refused(r),
-    }
+    let board = checks::checked(inputs, outputs, vertices, table, scratch.len(), &mut order)?;
+    matrix_answer(board, table, &order, scratch, destination)
 }
 
 // Whether an arrival is absent or within the limits.
@@ -176,23 +167,23 @@ fn arrivals_answer(
     scratch: &mut [i64],
     given: &[i64],
     answers: &mut [i64],
-) -> Answer
+) -> Result<(), Refusal>
     requires passable { Passable board table.now order.now }
     requires scratch_room { ScratchRoom board scratch.old }
     ensures fills { Fills (arrivals_on board table.now given.now answers.old) answers.old answers.new result }
     ensures past_scratch { PastScratch board scratch.old scratch.new }
 {
     if !times_fit(given, board.inputs) {
-        return Answer::Refused(Refusal::ArrivalLists);
+        return Err(Refusal::ArrivalLists);
     }
     if answers.len() != board.outputs {
-        return Answer::Refused(Refusal::ArrivalLists);
+        return Err(Refusal::ArrivalLists);
     }
     let mut chain = room::cell_bytes();
     chain::chains(board, table, order, &mut chain);
     arrivals::arrivals(board, table, order, &chain, given, scratch);
     copy_out(answers, scratch, board.inputs);
-    Answer::Done
+    Ok(())
 }
 
 // The arrivals at the n outputs from the m input arrivals `given`.
@@ -204,14 +195,11 @@ pub fn output_arrivals(
     scratch: &mut [i64],
     given: &[i64],
     answers: &mut [i64],
-) -> Answer
+) -> Result<(), Refusal>
     ensures fills { Fills (arrival_call inputs outputs vertices (length scratch.old) table.now given.now answers.old) answers.old answers.new result }
     ensures scratch_after { ScratchAfter inputs outputs vertices table.now scratch.old scratch.new }
 {
     let mut order = room::vertex_bytes();
-    let lent = checks::checked(inputs, outputs, vertices, table, scratch.len(), &mut order);
-    match lent {
-        Made::Board(board) => arrivals_answer(board, table, &order, scratch, given, answers),
-        Made::Refused(r) => Answer::Refused(r),
-    }
+    let board = checks::checked(inputs, outputs, vertices, table, scratch.len(), &mut order)?;
+    arrivals_answer(board, table, &order, scratch, given, answers)
 }

@@ -17,11 +17,10 @@ use Rattle.graph.specs.Delay.{Delay, absent, at, present, ticks, ◌⊕◌, eq_d
 use Rattle.graph.proofs.Delay.{eq_d→eq, eq→eq_d}
 use Rattle.graph.proofs.Presence.{not-present, at_present, ticks_is}
 use Rattle.timing.specs.declared.Refusal.TheVariants.{NoCommonDifference}
-use Rattle.timing.specs.Refusal.{refused, accepted, require}
+use Rattle.timing.specs.Refusal.{refused, accepted, require, verdict}
 use Rattle.reduction.specs.Common.{first_difference, common_difference}
 use Rattle.plans.specs.declared.common.Seen.{Seen}
 use Rattle.plans.specs.declared.common.Seen.TheVariants.{Nothing, One, Clash}
-use Rattle.plans.specs.Verdict.{difference_meaning}
 use Rattle.plans.specs.Comparing.{compared, seen, settled}
 
 pub seen_none : (a b : ℕ → Delay) → Nothing ≡ seen 0 a b
@@ -124,14 +123,14 @@ module _ (a b : ℕ → Delay) where
         sym (ap (λ (c : Bool). require c NoCommonDifference (accepted fd)) (is_true (ltb f n && every n same)
         (and_i (ltb f n) (every n same) (lt→ltb f n l) (every_all n same (λ j k. eq→eq_d (b j) (a j ⊕ at fd) (sh j k ∙ ap (λ (z : ℤ). a j ⊕ at z) (sym q)))))) ∙ ap accepted q)
 
-    settles : (s : Seen) → Says s n → difference_meaning (settled s) ≡ common_difference n a b
+    settles : (s : Seen) → Says s n → verdict (settled s) ≡ common_difference n a b
     settles Nothing h = not_common (λ l _. not-present (a f) (h f l).0 (first_holds n (λ j. present (a j)) l))
     settles (One e) h = is_common e (first_below n (λ j. present (a j)) h.0.0 h.0.1 h.0.2) h.1
     settles Clash h = not_common (λ _ sh. h fd sh)
 
-  pub seen_common : (n : ℕ) → difference_meaning (settled (seen n a b)) ≡ common_difference n a b
+  pub seen_common : (n : ℕ) → verdict (settled (seen n a b)) ≡ common_difference n a b
   seen_common n = settles n (seen n a b) (says n)
 
 -- it depends on the first n places alone
 pub common_same : (n : ℕ) (a b a' b' : ℕ → Delay) → ((j : ℕ) → j < n → (a j ≡ a' j) × (b j ≡ b' j)) → common_difference n a b ≡ common_difference n a' b'
-common_same n a b a' b' h = sym (seen_common a b n) ∙ ap (λ (s : Seen). difference_meaning (settled s)) (seen_same n a b a' b' h) ∙ seen_common a' b' n
+common_same n a b a' b' h = sym (seen_common a b n) ∙ ap (λ (s : Seen). verdict (settled s)) (seen_same n a b a' b' h) ∙ seen_common a' b' n

@@ -1,4 +1,5 @@
 -- The conditions of the shares, put together from their parts.
+use Rattle.std.specs.Prelude.{Err, Ok, Result}
 use mathlib.Core.Path.{◌≡◌, sym, ap, ◌∙◌}
 use mathlib.Core.Bool.{Bool, true, false, not, ◌&&◌}
 use Prim.Native.Nat.{ℕ, ◌+◌, ◌≤◌, ◌<◌}
@@ -10,7 +11,7 @@ use Rattle.graph.specs.Graph.{Graph}
 use Rattle.graph.specs.Count.{fan_in, fan_out}
 use Rattle.timing.specs.declared.Refusal.{Refusal}
 use Rattle.timing.specs.declared.Refusal.TheVariants.{WrongVertex, NumberTaken}
-use Rattle.timing.specs.Refusal.{Verdict, refused, require, ◌then◌}
+use Rattle.timing.specs.Refusal.{Verdict, refused, require, ◌then◌, verdict}
 use Rattle.timing.specs.Delays.{matrix, column}
 use Rattle.reduction.specs.Outcome.{is_input, is_output, is_inner, unused}
 use Rattle.reduction.specs.Common.{common_difference}
@@ -18,9 +19,6 @@ use Rattle.reduction.specs.ShareInputs.{inputs_saved, share_inputs_verdict}
 use Rattle.reduction.specs.ShareOutputs.{outputs_saved, share_outputs_verdict}
 use Rattle.paths.specs.declared.board.Board.{Board}
 use Rattle.paths.specs.Board.{Sized}
-use Rattle.plans.specs.declared.verdict.Difference.{Difference}
-use Rattle.plans.specs.declared.verdict.Difference.TheVariants as D
-use Rattle.plans.specs.Verdict.{difference_meaning}
 use Rattle.plans.specs.Sharing.{TwoOutputs}
 
 pub two_outputs_lem : (board : Board) → Sized board → (a b : ℕ) → (is_output board.inputs board.outputs a && is_output board.inputs board.outputs b && not (eqb a b)) ≡ true → TwoOutputs board a b
@@ -62,18 +60,18 @@ module _ (m n N a b : ℕ) (g : Graph) where
   unfolding share_outputs_verdict
   outputs_wrong e = sym (ap (λ (c : Bool). require c WrongVertex (common_difference m (column N g a) (column N g b) then outputs_saved N g a b)) e)
 
-  module _ (e : (is_output m n a && is_output m n b && not (eqb a b)) ≡ true) (found : Difference) (said : difference_meaning found ≡ common_difference m (column N g a) (column N g b)) where
-    outputs_right : (difference_meaning found then outputs_saved N g a b) ≡ share_outputs_verdict m n N a b g
+  module _ (e : (is_output m n a && is_output m n b && not (eqb a b)) ≡ true) (found : Result ℤ Refusal) (said : verdict found ≡ common_difference m (column N g a) (column N g b)) where
+    outputs_right : (verdict found then outputs_saved N g a b) ≡ share_outputs_verdict m n N a b g
     unfolding share_outputs_verdict
     outputs_right =
         ap (λ (x : Verdict ℤ). x then outputs_saved N g a b) said
         ∙ sym (ap (λ (c : Bool). require c WrongVertex (common_difference m (column N g a) (column N g b) then outputs_saved N g a b)) e)
 
-    pub outputs_common : (z : ℤ) → found ≡ D.Common z → outputs_saved N g a b z ≡ share_outputs_verdict m n N a b g
-    outputs_common z q = sym (ap (λ (x : Difference). difference_meaning x then outputs_saved N g a b) q) ∙ outputs_right
+    pub outputs_common : (z : ℤ) → found ≡ Ok z → outputs_saved N g a b z ≡ share_outputs_verdict m n N a b g
+    outputs_common z q = sym (ap (λ (x : Result ℤ Refusal). verdict x then outputs_saved N g a b) q) ∙ outputs_right
 
-    pub outputs_refused : (r : Refusal) → found ≡ D.Refused r → difference_meaning found ≡ share_outputs_verdict m n N a b g
-    outputs_refused r q = ap difference_meaning q ∙ sym (ap (λ (x : Difference). difference_meaning x then outputs_saved N g a b) q) ∙ outputs_right
+    pub outputs_refused : (r : Refusal) → found ≡ Err r → verdict found ≡ share_outputs_verdict m n N a b g
+    outputs_refused r q = ap verdict q ∙ sym (ap (λ (x : Result ℤ Refusal). verdict x then outputs_saved N g a b) q) ∙ outputs_right
 
 -- ---- the verdict of share inputs
 
@@ -96,15 +94,15 @@ module _ (m n N a b k : ℕ) (g : Graph) where
     unfolding share_inputs_verdict
     number_taken f = sym (ap (λ (c : Bool). require c WrongVertex (require free NumberTaken (common then inputs_saved N g b))) e ∙ ap (λ (c : Bool). require c NumberTaken (common then inputs_saved N g b)) f)
 
-    module _ (f : (is_inner m n N k && unused N g k) ≡ true) (found : Difference) (said : difference_meaning found ≡ common_difference n (matrix m N g a) (matrix m N g b)) where
-      inputs_right : (difference_meaning found then inputs_saved N g b) ≡ share_inputs_verdict m n N a b k g
+    module _ (f : (is_inner m n N k && unused N g k) ≡ true) (found : Result ℤ Refusal) (said : verdict found ≡ common_difference n (matrix m N g a) (matrix m N g b)) where
+      inputs_right : (verdict found then inputs_saved N g b) ≡ share_inputs_verdict m n N a b k g
       unfolding share_inputs_verdict
       inputs_right =
           ap (λ (x : Verdict ℤ). x then inputs_saved N g b) said
           ∙ sym (ap (λ (c : Bool). require c WrongVertex (require free NumberTaken (common then inputs_saved N g b))) e ∙ ap (λ (c : Bool). require c NumberTaken (common then inputs_saved N g b)) f)
 
-      pub inputs_common : (z : ℤ) → found ≡ D.Common z → inputs_saved N g b z ≡ share_inputs_verdict m n N a b k g
-      inputs_common z q = sym (ap (λ (x : Difference). difference_meaning x then inputs_saved N g b) q) ∙ inputs_right
+      pub inputs_common : (z : ℤ) → found ≡ Ok z → inputs_saved N g b z ≡ share_inputs_verdict m n N a b k g
+      inputs_common z q = sym (ap (λ (x : Result ℤ Refusal). verdict x then inputs_saved N g b) q) ∙ inputs_right
 
-      pub inputs_refused : (r : Refusal) → found ≡ D.Refused r → difference_meaning found ≡ share_inputs_verdict m n N a b k g
-      inputs_refused r q = ap difference_meaning q ∙ sym (ap (λ (x : Difference). difference_meaning x then inputs_saved N g b) q) ∙ inputs_right
+      pub inputs_refused : (r : Refusal) → found ≡ Err r → verdict found ≡ share_inputs_verdict m n N a b k g
+      inputs_refused r q = ap verdict q ∙ sym (ap (λ (x : Result ℤ Refusal). verdict x then inputs_saved N g b) q) ∙ inputs_right

@@ -1,12 +1,11 @@
 -- Two rows or columns of delays, compared place by place.
-use Rattle.std.specs.Prelude.{◌≡◌, cond, List, ℕ, zero, suc, ◌<◌, T, ℤ, ◌-ℤ◌, length}
+use Rattle.timing.specs.declared.Refusal.{Refusal}
+use Rattle.std.specs.Prelude.{Err, Ok, Result, ◌≡◌, cond, List, ℕ, zero, suc, ◌<◌, T, ℤ, ◌-ℤ◌, length}
 use Rattle.laws.specs.Integers.{eq_z}
 use Rattle.graph.specs.Delay.{Delay, absent, at}
 use Rattle.timing.specs.Limits.{arrival_limit, fits}
 use Rattle.timing.specs.Delays.{arrival_in}
 use Rattle.timing.specs.declared.Refusal.TheVariants.{NoCommonDifference}
-use Rattle.plans.specs.declared.verdict.Difference.{Difference}
-use Rattle.plans.specs.declared.verdict.Difference.TheVariants as D
 use Rattle.plans.specs.declared.common.Seen.{Seen}
 use Rattle.plans.specs.declared.common.Seen.TheVariants.{Nothing, One, Clash}
 
@@ -24,10 +23,10 @@ unfoldable pub seen : ℕ → (ℕ → Delay) → (ℕ → Delay) → Seen
 seen zero a b = Nothing
 seen (suc n) a b = compared (seen n a b) (a n) (b n)
 
-abbrev pub settled : Seen → Difference
-settled Nothing = D.Refused NoCommonDifference
-settled (One e) = D.Common e
-settled Clash = D.Refused NoCommonDifference
+abbrev pub settled : Seen → Result ℤ Refusal
+settled Nothing = Err NoCommonDifference
+settled (One e) = Ok e
+settled Clash = Err NoCommonDifference
 
 -- two lists of one length, in which every number is far from the ends of its 64 bits
 pub record Comparable (xs ys : List ℤ) : Type 0 where

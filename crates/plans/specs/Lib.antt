@@ -1,4 +1,3 @@
-pub mod Verdict
 pub mod ShrunkRow
 pub mod Comparing
 pub mod SharedRow

@@ -1,5 +1,6 @@
 -- Document 01's conditions and new tables, at a board's table.
-use Rattle.std.specs.Prelude.{Bool, not, ◌&&◌, ◌||◌, List, ℕ, ◌+◌, T, eqb, ℤ, length}
+use Rattle.timing.specs.declared.Refusal.{Refusal}
+use Rattle.std.specs.Prelude.{Err, Ok, Result, Bool, not, ◌&&◌, ◌||◌, List, ℕ, ◌+◌, T, eqb, ℤ, length}
 use Rattle.laws.specs.Bounded.{every}
 use Rattle.laws.specs.Lists.{tabulate}
 use Rattle.graph.specs.Delay.{◌⊕◌}
@@ -18,8 +19,6 @@ use Rattle.reduction.specs.MergeBack.{merge_back_verdict}
 use Rattle.reduction.specs.Steps.{Step, plan}
 use Rattle.paths.specs.declared.board.Board.{Board}
 use Rattle.paths.specs.Board.{graph_in}
-use Rattle.plans.specs.declared.verdict.Fit.{Fit}
-use Rattle.plans.specs.declared.verdict.Fit.TheVariants as F
 
 -- every delay is in range
 abbrev pub InRange : Board → List ℤ → Type 0
@@ -92,10 +91,10 @@ abbrev pub table_by : Board → Step → List ℤ → Verdict (List ℤ)
 table_by b q t = plan b.inputs b.outputs b.vertices q (graph_in b t) then λ g'. accepted (with_graph b.vertices g' t)
 
 -- document 01's number, or the table afterwards
-abbrev pub fit_table : Fit → List ℤ → Verdict (List ℤ)
-fit_table F.Accepted table = accepted table
-fit_table (F.Refused r) table = refused (number r)
+abbrev pub fit_table : Result (Unit {0}) Refusal → List ℤ → Verdict (List ℤ)
+fit_table (Ok tt) table = accepted table
+fit_table (Err r) table = refused (number r)
 
 -- r and the table afterwards are the step's
-abbrev pub Applies : Board → Step → List ℤ → List ℤ → Fit → Type 0
+abbrev pub Applies : Board → Step → List ℤ → List ℤ → Result (Unit {0}) Refusal → Type 0
 Applies b q before after r = Answers fit_table (λ t. t) (table_by b q before) before after r

@@ -1,13 +1,12 @@
 // The common difference of two rows or columns of path delays.
+ghost use Rattle.timing.specs.Refusal.{verdict};
 ghost use Rattle.std.specs.Prelude.{◌≡◌, T, length};
 ghost use Rattle.timing.specs.Limits.{arrival_limit, absent_wide, fits};
 ghost use Rattle.timing.specs.Table.{read_cell};
 ghost use Rattle.timing.specs.Delays.{arrival_in};
 ghost use Rattle.reduction.specs.Common.{common_difference};
-ghost use Rattle.plans.specs.Verdict.{difference_meaning};
 ghost use Rattle.plans.specs.Comparing.{compared, settled, Comparable};
 
-use crate::verdict::Difference;
 use paths::Board;
 use timing::Refusal;
 
@@ -42,20 +41,19 @@ pub fn seen_next(seen: Seen, x: i64, y: i64) -> Seen
     }
 }
 
-pub fn settle(seen: Seen) -> Difference
+pub fn settle(seen: Seen) -> Result<i64, Refusal>
     ensures { result ≡ settled seen }
 {
     match seen {
-        Seen::Nothing => Difference::Refused(Refusal::NoCommonDifference),
-        Seen::One(e) => Difference::Common(e),
-        Seen::Clash => Difference::Refused(Refusal::NoCommonDifference),
+        Seen::One(e) => Ok(e),
+        Seen::Nothing | Seen::Clash => Err(Refusal::NoCommonDifference),
     }
 }
 
 // ys less xs where both are joined, if that is one number.
-pub fn common_difference(xs: &[i64], ys: &[i64]) -> Difference
+pub fn common_difference(xs: &[i64], ys: &[i64]) -> Result<i64, Refusal>
     requires { Comparable xs.now ys.now }
-    ensures { difference_meaning result ≡ common_difference (length xs.now) (arrival_in xs.now) (arrival_in ys.now) }
+    ensures { verdict result ≡ common_difference (length xs.now) (arrival_in xs.now) (arrival_in ys.now) }
 {
     let mut seen = Seen::Nothing;
     let mut j = 0;
@@ -65,7 +63,7 @@ pub fn common_difference(xs: &[i64], ys: &[i64]) -> Difference
         }
         seen = seen_next(seen, xs[j], ys[j]);
         if let Seen::Clash = seen {
-            break 'compare Difference::Refused(Refusal::NoCommonDifference);
+            break 'compare Err(Refusal::NoCommonDifference);
         }
         j += 1;
     }

@@ -9,4 +9,3 @@ pub mod share_inputs;
 pub mod share_outputs;
 pub mod shrink;
 pub mod sums;
-pub mod verdict;

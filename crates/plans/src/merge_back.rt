@@ -1,4 +1,5 @@
 // Merge back: the step's conditions, and the new table.
+ghost use Rattle.timing.specs.Refusal.{verdict};
 ghost use Rattle.std.specs.Prelude.{◌≡◌, ◌<◌, T, neg_ℤ};
 ghost use Rattle.laws.specs.Bounded.{every};
 ghost use Rattle.graph.specs.Delay.{at, ◌⊕◌};
@@ -6,12 +7,10 @@ ghost use Rattle.timing.specs.Limits.{delay_limit, absent_cell, fits};
 ghost use Rattle.timing.specs.Table.{read_cell};
 ghost use Rattle.reduction.specs.MergeBack.{merge_fits};
 ghost use Rattle.paths.specs.Board.{Lent, graph_in};
-ghost use Rattle.plans.specs.Verdict.{driven_meaning};
 ghost use Rattle.plans.specs.MergedRow.{redirected_cell, merged_cell, Redirectable, Mergeable, Drives};
 ghost use Rattle.plans.specs.OnBoards.{InRange, merge_back_on, remade};
 
 use crate::rows::Row;
-use crate::verdict::Driven;
 use crate::{rows, shrink, sums};
 use paths::{Board, cells};
 use timing::Refusal;
@@ -58,29 +57,29 @@ fn merge_fits(board: Board, table: &[i32], v: usize, o: usize, d: i32) -> bool
     shrink::row_sums_fit(negated(d), &table[from..], n)
 }
 
-// The step's conditions, in document 01's order. A driver that will not do and a second arc get one refusal, so that the first found settles it.
-pub fn merge_back_verdict(board: Board, table: &[i32], o: usize) -> Driven
+// The step's conditions, in document 01's order: the driver and its delay. A driver that will not do and a second arc get one refusal, so that the first found settles it.
+pub fn merge_back_verdict(board: Board, table: &[i32], o: usize) -> Result<(usize, i32), Refusal>
     requires lent { Lent board table.now }
     requires in_range { InRange board table.now }
-    ensures { driven_meaning result ≡ merge_back_on board table.now o }
+    ensures { verdict result ≡ merge_back_on board table.now o }
 {
     if !rows::is_output(board, o) {
-        return Driven::Refused(Refusal::WrongVertex);
+        return Err(Refusal::WrongVertex);
     }
     let v = cells::next_into(board, table, o, 0);
     if !rows::is_inner(board, v) {
-        return Driven::Refused(Refusal::WrongArcs);
+        return Err(Refusal::WrongArcs);
     }
     let n = board.vertices;
     if cells::next_into(board, table, o, v + 1) != n {
-        return Driven::Refused(Refusal::WrongArcs);
+        return Err(Refusal::WrongArcs);
     }
     let at = n * v + o;
     let d = table[at];
     if !merge_fits(board, table, v, o, d) {
-        return Driven::Refused(Refusal::DelayOutOfRange);
+        return Err(Refusal::DelayOutOfRange);
     }
-    Driven::By(v, d)
+    Ok((v, d))
 }
 
 // The row of another vertex than v: its arc to v, which was `into`, leads to o.

@@ -1,17 +1,16 @@
 // Share inputs: the step's conditions, and a row of its new table.
+ghost use Rattle.timing.specs.Refusal.{verdict};
 ghost use Rattle.std.specs.Prelude.{◌≡◌, ◌&&◌, ◌+◌, ◌<◌, ◌≤◌, ltb, pos, length, get_or};
 ghost use Rattle.laws.specs.Lent.{Past};
 ghost use Rattle.timing.specs.Limits.{max_vertices};
 ghost use Rattle.reduction.specs.ShareInputs.{enough_out};
 ghost use Rattle.paths.specs.Board.{graph_in, Lent, ScratchRoom, PastScratch};
 ghost use Rattle.paths.specs.Checked.{Passable};
-ghost use Rattle.plans.specs.Verdict.{difference_meaning};
 ghost use Rattle.plans.specs.SharedRow.{only_arc, inputs_cell};
 ghost use Rattle.plans.specs.Sharing.{TwoVectors};
 ghost use Rattle.plans.specs.OnBoards.{two_inputs, share_inputs_on, inputs_saved_on, rows_difference, vectors_difference, remade};
 
 use crate::rows::Row;
-use crate::verdict::Difference;
 use crate::{common, rows};
 use paths::order::Order;
 use paths::{Board, arrivals, cells, chain, order, room};
@@ -74,9 +73,9 @@ fn two_inputs(board: Board, a: usize, b: usize, k: usize) -> bool
 }
 
 // The outputs' delays are compared: those in the second N cells less those in the first N.
-fn outputs_difference(board: Board, delays: &[i64]) -> Difference
+fn outputs_difference(board: Board, delays: &[i64]) -> Result<i64, Refusal>
     requires { TwoVectors board delays.now }
-    ensures { difference_meaning result ≡ vectors_difference board delays.now }
+    ensures { verdict result ≡ vectors_difference board delays.now }
 {
     let m = board.inputs;
     let o = board.outputs;
@@ -95,12 +94,12 @@ fn rows_difference(
     scratch: &mut [i64],
     a: usize,
     b: usize,
-) -> Difference
+) -> Result<i64, Refusal>
     requires passable { Passable board table.now order.now }
     requires vertices_in_bounds { board.vertices + board.vertices ≤ length scratch.old }
     requires a_lt_inputs { a < board.inputs }
     requires b_lt_inputs { b < board.inputs }
-    ensures result_value { difference_meaning result ≡ rows_difference board table.now a b }
+    ensures result_value { verdict result ≡ rows_difference board table.now a b }
     ensures past { Past (board.vertices + board.vertices) scratch.old scratch.new }
 {
     let mut chain = room::cell_bytes();
@@ -121,18 +120,18 @@ pub fn enough_out(board: Board, table: &[i32], b: usize) -> bool
 }
 
 // What is left to ask where e is the common difference.
-pub fn inputs_saved(board: Board, table: &[i32], b: usize, e: i64) -> Difference
+pub fn inputs_saved(board: Board, table: &[i32], b: usize, e: i64) -> Result<i64, Refusal>
     requires lent { Lent board table.now }
     requires b_lt_vertices { b < board.vertices }
-    ensures { difference_meaning result ≡ inputs_saved_on board table.now b e }
+    ensures { verdict result ≡ inputs_saved_on board table.now b e }
 {
     if !enough_out(board, table, b) {
-        return Difference::Refused(Refusal::NothingSaved);
+        return Err(Refusal::NothingSaved);
     }
     if !cells::in_range(e) {
-        return Difference::Refused(Refusal::DelayOutOfRange);
+        return Err(Refusal::DelayOutOfRange);
     }
-    Difference::Common(e)
+    Ok(e)
 }
 
 // The conditions of share inputs, in document 01's order.
@@ -144,21 +143,18 @@ pub fn share_inputs_verdict(
     a: usize,
     b: usize,
     k: usize,
-) -> Difference
+) -> Result<i64, Refusal>
     requires passable { Passable board table.now order.now }
     requires scratch_room { ScratchRoom board scratch.old }
-    ensures result_value { difference_meaning result ≡ share_inputs_on board table.now a b k }
+    ensures result_value { verdict result ≡ share_inputs_on board table.now a b k }
     ensures past_scratch { PastScratch board scratch.old scratch.new }
 {
     if !two_inputs(board, a, b, k) {
-        return Difference::Refused(Refusal::WrongVertex);
+        return Err(Refusal::WrongVertex);
     }
     if !rows::is_free(board, table, k) {
-        return Difference::Refused(Refusal::NumberTaken);
+        return Err(Refusal::NumberTaken);
     }
-    let found = rows_difference(board, table, order, scratch, a, b);
-    if let Difference::Common(e) = found {
-        return inputs_saved(board, table, b, e);
-    }
-    found
+    let e = rows_difference(board, table, order, scratch, a, b)?;
+    inputs_saved(board, table, b, e)
 }

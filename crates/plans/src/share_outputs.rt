@@ -1,4 +1,5 @@
 // Share outputs: the step's conditions, and a row of its new table.
+ghost use Rattle.timing.specs.Refusal.{verdict};
 ghost use Rattle.std.specs.Prelude.{◌≡◌, true, ℕ, ◌<◌, ◌≤◌, T, length};
 ghost use Rattle.laws.specs.Lent.{Past};
 ghost use Rattle.timing.specs.Limits.{max_vertices};
@@ -6,13 +7,11 @@ ghost use Rattle.paths.specs.Board.{Sized, graph_in, ScratchRoom, PastScratch, L
 ghost use Rattle.paths.specs.Order.{stands_before};
 ghost use Rattle.paths.specs.Checked.{Checked, Passable};
 ghost use Rattle.reach.specs.RowSets.{RowSets};
-ghost use Rattle.plans.specs.Verdict.{difference_meaning};
 ghost use Rattle.plans.specs.SharedRow.{outputs_cell};
 ghost use Rattle.plans.specs.Sharing.{TwoOutputs, Indexed, path_on};
 ghost use Rattle.plans.specs.OnBoards.{two_outputs, share_outputs_on, outputs_saved_on, columns_difference, remade};
 
 use crate::common::Seen;
-use crate::verdict::Difference;
 use crate::{common, rows};
 use paths::order::Order;
 use paths::{Board, arrivals, cells, chain, order, room};
@@ -51,11 +50,11 @@ fn columns_difference(
     scratch: &mut [i64],
     a: usize,
     b: usize,
-) -> Difference
+) -> Result<i64, Refusal>
     requires passable { Passable board table.now order.now }
     requires vertices_in_bounds { board.vertices ≤ length scratch.old }
     requires two_outputs { TwoOutputs board a b }
-    ensures result_value { difference_meaning result ≡ columns_difference board table.now a b }
+    ensures result_value { verdict result ≡ columns_difference board table.now a b }
     ensures past { Past board.vertices scratch.old scratch.new }
 {
     let mut chain = room::cell_bytes();
@@ -70,7 +69,7 @@ fn columns_difference(
         arrivals::delays_from(board, table, order, &chain, i, scratch);
         seen = common::seen_next(seen, scratch[a], scratch[b]);
         if let Seen::Clash = seen {
-            break 'compare Difference::Refused(Refusal::NoCommonDifference);
+            break 'compare Err(Refusal::NoCommonDifference);
         }
         i += 1;
     }
@@ -138,21 +137,27 @@ pub fn path_back(
 }
 
 // What is left to ask where e is the common difference, and `back` says whether a path leads back.
-pub fn outputs_saved(board: Board, table: &[i32], back: bool, b: usize, e: i64) -> Difference
+pub fn outputs_saved(
+    board: Board,
+    table: &[i32],
+    back: bool,
+    b: usize,
+    e: i64,
+) -> Result<i64, Refusal>
     requires lent { Lent board table.now }
     requires b_lt_vertices { b < board.vertices }
-    ensures { (a : ℕ) → back ≡ path_on board table.now b a → difference_meaning result ≡ outputs_saved_on board table.now a b e }
+    ensures { (a : ℕ) → back ≡ path_on board table.now b a → verdict result ≡ outputs_saved_on board table.now a b e }
 {
     if back {
-        return Difference::Refused(Refusal::PathBack);
+        return Err(Refusal::PathBack);
     }
     if cells::fan_in(board, table, b) < 2 {
-        return Difference::Refused(Refusal::NothingSaved);
+        return Err(Refusal::NothingSaved);
     }
     if !cells::in_range(e) {
-        return Difference::Refused(Refusal::DelayOutOfRange);
+        return Err(Refusal::DelayOutOfRange);
     }
-    Difference::Common(e)
+    Ok(e)
 }
 
 // The conditions of share outputs, in document 01's order.
@@ -163,20 +168,17 @@ pub fn share_outputs_verdict(
     scratch: &mut [i64],
     a: usize,
     b: usize,
-) -> Difference
+) -> Result<i64, Refusal>
     requires passable { Passable board table.now order.now }
     requires scratch_room { ScratchRoom board scratch.old }
-    ensures result_value { difference_meaning result ≡ share_outputs_on board table.now a b }
+    ensures result_value { verdict result ≡ share_outputs_on board table.now a b }
     ensures past_scratch { PastScratch board scratch.old scratch.new }
 {
     if !two_outputs(board, a, b) {
-        return Difference::Refused(Refusal::WrongVertex);
+        return Err(Refusal::WrongVertex);
     }
-    let found = columns_difference(board, table, order, scratch, a, b);
-    if let Difference::Common(e) = found {
-        let mut words = reach::words();
-        let looked = path_back(board, table, order, true, &mut words, false, a, b);
-        return outputs_saved(board, table, looked.found, b, e);
-    }
-    found
+    let e = columns_difference(board, table, order, scratch, a, b)?;
+    let mut words = reach::words();
+    let looked = path_back(board, table, order, true, &mut words, false, a, b);
+    outputs_saved(board, table, looked.found, b, e)
 }

@@ -1,4 +1,5 @@
 // Shrink: the step's conditions, and the new table.
+ghost use Rattle.timing.specs.Refusal.{verdict};
 ghost use Rattle.std.specs.Prelude.{◌≡◌, ◌<◌, ◌≤◌, T, length};
 ghost use Rattle.laws.specs.Bounded.{every};
 ghost use Rattle.graph.specs.Delay.{at};
@@ -6,12 +7,10 @@ ghost use Rattle.timing.specs.Limits.{max_vertices, delay_limit, absent_cell, fi
 ghost use Rattle.timing.specs.Table.{read_cell};
 ghost use Rattle.paths.specs.Board.{Lent};
 ghost use Rattle.paths.specs.Cells.{cell_at};
-ghost use Rattle.plans.specs.Verdict.{fit_meaning};
 ghost use Rattle.plans.specs.ShrunkRow.{sums_fit, joined_cell, bypassed_cell, shrunk_cell, Shrinkable};
 ghost use Rattle.plans.specs.OnBoards.{InRange, sums_through, relays, shrink_on, remade};
 
 use crate::rows::Row;
-use crate::verdict::Fit;
 use crate::{rows, sums};
 use paths::{Board, cells};
 use timing::Refusal;
@@ -64,21 +63,21 @@ fn sums_fit(board: Board, table: &[i32], k: usize) -> bool
 }
 
 // The step's conditions, in document 01's order.
-pub fn shrink_verdict(board: Board, table: &[i32], k: usize) -> Fit
+pub fn shrink_verdict(board: Board, table: &[i32], k: usize) -> Result<(), Refusal>
     requires lent { Lent board table.now }
     requires in_range { InRange board table.now }
-    ensures { fit_meaning result ≡ shrink_on board table.now k }
+    ensures { verdict result ≡ shrink_on board table.now k }
 {
     if !rows::is_inner(board, k) {
-        return Fit::Refused(Refusal::WrongVertex);
+        return Err(Refusal::WrongVertex);
     }
     if !is_relay(board, table, k) {
-        return Fit::Refused(Refusal::WrongArcs);
+        return Err(Refusal::WrongArcs);
     }
     if !sums_fit(board, table, k) {
-        return Fit::Refused(Refusal::DelayOutOfRange);
+        return Err(Refusal::DelayOutOfRange);
     }
-    Fit::Accepted
+    Ok(())
 }
 
 // A row with the arcs by way of k: `into` leads to k, and k's row is `via`.

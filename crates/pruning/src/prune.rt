@@ -18,7 +18,6 @@ ghost use Rattle.pruning.specs.PruneMarks.{RowMarked, MarkedFrom, MarkedFour, Fr
 
 use paths::order::Order;
 use paths::{Board, arrivals, cells, chain, room};
-use plans::verdict::Fit;
 use timing::Refusal;
 
 // Whether the arc is tight: what is at its head came over it.
@@ -259,7 +258,7 @@ fn prune_in(
     order: &Order,
     scratch: &mut [i64],
     marks: &mut [bool],
-) -> Fit
+) -> Result<(), Refusal>
     requires passable { Passable board table.old order.now }
     requires scratch_room { ScratchRoom board scratch.old }
     requires unmarked { Unmarked board marks.old }
@@ -268,14 +267,19 @@ fn prune_in(
 {
     prune_marks(board, table, order, scratch, marks);
     if !some_unmarked(board, table, marks) {
-        return Fit::Refused(Refusal::NothingSaved);
+        return Err(Refusal::NothingSaved);
     }
     thin(board, table, marks);
-    Fit::Accepted
+    Ok(())
 }
 
 // The step: what it answers, and the table after it. Nothing is written where it refuses.
-pub fn prune_step(board: Board, table: &mut [i32], order: &Order, scratch: &mut [i64]) -> Fit
+pub fn prune_step(
+    board: Board,
+    table: &mut [i32],
+    order: &Order,
+    scratch: &mut [i64],
+) -> Result<(), Refusal>
     requires passable { Passable board table.old order.now }
     requires scratch_room { ScratchRoom board scratch.old }
     ensures applies { Applies board prune table.old table.new result }

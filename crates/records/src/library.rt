@@ -1,9 +1,9 @@
 // What stands at an offset of a library file.
+ghost use Rattle.timing.specs.Refusal.{verdict};
 ghost use Rattle.std.specs.Prelude.{◌≡◌, ◌+◌, ◌≤◌, length};
 ghost use Rattle.format.specs.declared.Mark.TheVariants.{End, Library};
 ghost use Rattle.format.specs.Library.{ticks_fit};
 ghost use Rattle.format.specs.LibraryFile.{entry_body, entry_at};
-ghost use Rattle.records.specs.Records.{entry_meaning};
 
 use crate::parse;
 use codec::{signed, unsigned};
@@ -17,12 +17,6 @@ pub const CODES: usize = 32;
 // The most ticks of a code.
 pub const MAX_TICKS: i64 = 1_000_000;
 
-#[derive(Clone, Copy)]
-pub enum FoundEntry {
-    Entry(Entry),
-    Refused(Refusal),
-}
-
 // Whether a code may have so many ticks.
 fn ticks_fit(x: i64) -> bool
     ensures { result ≡ ticks_fit x }
@@ -33,49 +27,46 @@ fn ticks_fit(x: i64) -> bool
     x <= MAX_TICKS
 }
 
-fn ticks_at(bytes: &[u8], at: usize) -> FoundEntry
+fn ticks_at(bytes: &[u8], at: usize) -> Result<Entry, Refusal>
     requires { at + 2 ≤ length bytes.now }
-    ensures { entry_meaning result ≡ entry_body bytes.now at Library }
+    ensures { verdict result ≡ entry_body bytes.now at Library }
 {
     if bytes.len() - at < 7 {
-        return FoundEntry::Refused(Refusal::FileEnds);
+        return Err(Refusal::FileEnds);
     }
     let code = parse::byte(bytes, at + 2);
     if code >= CODES {
-        return FoundEntry::Refused(Refusal::WrongField);
+        return Err(Refusal::WrongField);
     }
     let ticks = signed::decode(bytes, at + 3, 4);
     if !ticks_fit(ticks) {
-        return FoundEntry::Refused(Refusal::WrongLibrary);
+        return Err(Refusal::WrongLibrary);
     }
-    FoundEntry::Entry(Entry::Ticks(code, cells::narrow(ticks)))
+    Ok(Entry::Ticks(code, cells::narrow(ticks)))
 }
 
-fn count_at(bytes: &[u8], at: usize) -> FoundEntry
+fn count_at(bytes: &[u8], at: usize) -> Result<Entry, Refusal>
     requires { at + 2 ≤ length bytes.now }
-    ensures { entry_meaning result ≡ entry_body bytes.now at End }
+    ensures { verdict result ≡ entry_body bytes.now at End }
 {
     if bytes.len() - at < 4 {
-        return FoundEntry::Refused(Refusal::FileEnds);
+        return Err(Refusal::FileEnds);
     }
-    FoundEntry::Entry(Entry::End(unsigned::number(bytes, at + 2, 2) as usize))
+    Ok(Entry::End(unsigned::number(bytes, at + 2, 2) as usize))
 }
 
 // The record at `at`.
-pub fn entry_at(bytes: &[u8], at: usize) -> FoundEntry
+#[tactic(auto, unfolding(format::specs::LibraryFile::entry_at))]
+pub fn entry_at(bytes: &[u8], at: usize) -> Result<Entry, Refusal>
     requires { at ≤ length bytes.now }
-    ensures { entry_meaning result ≡ entry_at bytes.now at }
+    ensures { verdict result ≡ entry_at bytes.now at }
 {
     if bytes.len() - at < 2 {
-        return FoundEntry::Refused(Refusal::FileEnds);
+        return Err(Refusal::FileEnds);
     }
-    let mark = parse::mark_at(bytes, at);
-    match mark {
-        Mark::Board => FoundEntry::Refused(Refusal::WrongMark),
-        Mark::Arc => FoundEntry::Refused(Refusal::WrongMark),
-        Mark::Cell => FoundEntry::Refused(Refusal::WrongMark),
-        Mark::End => count_at(bytes, at),
+    match parse::mark_at(bytes, at) {
         Mark::Library => ticks_at(bytes, at),
-        Mark::Other => FoundEntry::Refused(Refusal::WrongMark),
+        Mark::End => count_at(bytes, at),
+        Mark::Board | Mark::Arc | Mark::Cell | Mark::Other => Err(Refusal::WrongMark),
     }
 }

@@ -1,35 +1,16 @@
 // What stands at an offset of a file.
+ghost use Rattle.timing.specs.Refusal.{verdict};
 ghost use Rattle.std.specs.Prelude.{◌≡◌, ◌&&◌, ℕ, ◌+◌, ◌*◌, ◌<◌, ◌≤◌, ltb, length};
 ghost use Rattle.timing.specs.Limits.{max_vertices};
 ghost use Rattle.format.specs.declared.Mark.TheVariants.{Arc, Cell, End};
 ghost use Rattle.format.specs.Library.{ticks_of};
 ghost use Rattle.format.specs.Records.{byte_at, letters, mark_at, body, record_at};
-ghost use Rattle.records.specs.Records.{ticks_meaning, ends_meaning, found_meaning, ends_of};
+ghost use Rattle.records.specs.Records.{ends_of};
 
 use codec::{signed, unsigned};
 use format::{Mark, Record};
 use paths::cells;
 use timing::Refusal;
-
-// The ticks of a cell code.
-#[derive(Clone, Copy)]
-pub enum Ticks {
-    Of(i32),
-    Refused(Refusal),
-}
-
-// The ends of an arc.
-#[derive(Clone, Copy)]
-pub enum Ends {
-    Of(usize, usize),
-    Refused(Refusal),
-}
-
-#[derive(Clone, Copy)]
-pub enum Found {
-    Record(Record),
-    Refused(Refusal),
-}
 
 fn wide(x: u8) -> usize
     ensures { (result ≡ x) × (result < 256) }
@@ -78,21 +59,22 @@ pub fn mark_at(bytes: &[u8], at: usize) -> Mark
 }
 
 // The built-in ticks.
-pub fn cell_ticks(code: u8) -> Ticks
-    ensures { ticks_meaning result ≡ ticks_of code }
+#[tactic(auto, unfolding(format::specs::Library::cell_ticks, format::specs::Library::ticks_of))]
+pub fn cell_ticks(code: u8) -> Result<i32, Refusal>
+    ensures { verdict result ≡ ticks_of code }
 {
     match code {
         // INV
-        0 => Ticks::Of(1),
+        0 => Ok(1),
         // NAND2
-        1 => Ticks::Of(2),
+        1 => Ok(2),
         // AND
-        2 => Ticks::Of(2),
+        2 => Ok(2),
         // OR
-        3 => Ticks::Of(2),
+        3 => Ok(2),
         // MUX
-        4 => Ticks::Of(2),
-        5..=255 => Ticks::Refused(Refusal::WrongField),
+        4 => Ok(2),
+        5..=255 => Err(Refusal::WrongField),
     }
 }
 
@@ -107,76 +89,67 @@ fn vertices(n: usize, u: usize, v: usize) -> bool
 }
 
 // Both ends of a record of `size` bytes, its mark included; 15 where they are not all there, 17 where an end is no vertex.
-fn ends_at(bytes: &[u8], n: usize, at: usize, size: usize) -> Ends
+#[tactic(auto, unfolding(crate::specs::Records::ends_of))]
+fn ends_at(bytes: &[u8], n: usize, at: usize, size: usize) -> Result<(usize, usize), Refusal>
     requires at_in_bounds { at ≤ length bytes.now }
     requires le_size { 4 ≤ size }
-    ensures { ends_meaning result ≡ ends_of n bytes.now at size }
+    ensures { verdict result ≡ ends_of n bytes.now at size }
 {
     if bytes.len() - at < size {
-        return Ends::Refused(Refusal::FileEnds);
+        return Err(Refusal::FileEnds);
     }
     let u = byte(bytes, at + 2);
     let v = byte(bytes, at + 3);
     if !vertices(n, u, v) {
-        return Ends::Refused(Refusal::WrongField);
+        return Err(Refusal::WrongField);
     }
-    Ends::Of(u, v)
+    Ok((u, v))
 }
 
-fn arc_at(bytes: &[u8], n: usize, at: usize) -> Found
+fn arc_at(bytes: &[u8], n: usize, at: usize) -> Result<Record, Refusal>
     requires { at + 2 ≤ length bytes.now }
-    ensures { found_meaning result ≡ body n bytes.now at Arc }
+    ensures { verdict result ≡ body n bytes.now at Arc }
 {
-    let ends = ends_at(bytes, n, at, 8);
-    match ends {
-        Ends::Of(u, v) => {
-            let d = signed::decode(bytes, at + 4, 4);
-            if !cells::in_range(d) {
-                return Found::Refused(Refusal::WrongField);
-            }
-            Found::Record(Record::Arc(u, v, cells::narrow(d)))
-        }
-        Ends::Refused(r) => Found::Refused(r),
+    let (u, v) = ends_at(bytes, n, at, 8)?;
+    let d = signed::decode(bytes, at + 4, 4);
+    if !cells::in_range(d) {
+        return Err(Refusal::WrongField);
     }
+    Ok(Record::Arc(u, v, cells::narrow(d)))
 }
 
-fn cell_at(bytes: &[u8], n: usize, at: usize) -> Found
+fn cell_at(bytes: &[u8], n: usize, at: usize) -> Result<Record, Refusal>
     requires { at + 2 ≤ length bytes.now }
-    ensures { found_meaning result ≡ body n bytes.now at Cell }
+    ensures { verdict result ≡ body n bytes.now at Cell }
 {
-    let ends = ends_at(bytes, n, at, 5);
-    match ends {
-        Ends::Of(u, v) => Found::Record(Record::Cell(u, v, bytes[at + 4])),
-        Ends::Refused(r) => Found::Refused(r),
-    }
+    let (u, v) = ends_at(bytes, n, at, 5)?;
+    Ok(Record::Cell(u, v, bytes[at + 4]))
 }
 
-fn end_at(bytes: &[u8], at: usize) -> Found
+fn end_at(bytes: &[u8], at: usize) -> Result<Record, Refusal>
     requires { at + 2 ≤ length bytes.now }
-    ensures { (n : ℕ) → found_meaning result ≡ body n bytes.now at End }
+    ensures { (n : ℕ) → verdict result ≡ body n bytes.now at End }
 {
     if bytes.len() - at < 4 {
-        return Found::Refused(Refusal::FileEnds);
+        return Err(Refusal::FileEnds);
     }
-    Found::Record(Record::End(unsigned::number(bytes, at + 2, 2) as usize))
+    Ok(Record::End(unsigned::number(bytes, at + 2, 2) as usize))
 }
 
 // The record at `at`, in a file of n vertices.
-pub fn record_at(bytes: &[u8], n: usize, at: usize) -> Found
+#[tactic(auto, unfolding(format::specs::Records::record_at))]
+pub fn record_at(bytes: &[u8], n: usize, at: usize) -> Result<Record, Refusal>
     requires { at ≤ length bytes.now }
-    ensures { found_meaning result ≡ record_at n bytes.now at }
+    ensures { verdict result ≡ record_at n bytes.now at }
 {
     if bytes.len() - at < 2 {
-        return Found::Refused(Refusal::FileEnds);
+        return Err(Refusal::FileEnds);
     }
-    let mark = mark_at(bytes, at);
-    match mark {
-        Mark::Board => Found::Refused(Refusal::WrongMark),
+    match mark_at(bytes, at) {
         Mark::Arc => arc_at(bytes, n, at),
         Mark::Cell => cell_at(bytes, n, at),
         Mark::End => end_at(bytes, at),
-        Mark::Library => Found::Refused(Refusal::WrongMark),
-        Mark::Other => Found::Refused(Refusal::WrongMark),
+        Mark::Board | Mark::Library | Mark::Other => Err(Refusal::WrongMark),
     }
 }
 

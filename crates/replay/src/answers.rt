@@ -2,12 +2,9 @@
 ghost use Rattle.replay.specs.Page.{OnPage};
 
 use crate::print;
-use files::answer::Read;
-use files::scan::Scanned;
-use files::write::Written;
-use paths::queries;
+use files::answer::Fault;
+use paths::Board;
 use run::answer::Ran;
-use steps::answer::Answer;
 use timing::{Refusal, numbers};
 
 // A word with its number, and the line's end.
@@ -51,67 +48,67 @@ fn refused_at(page: &mut [u8], at: usize, refusal: Refusal, offset: usize) -> us
     )
 }
 
-pub fn step(page: &mut [u8], at: usize, answer: Answer) -> usize
+pub fn step(page: &mut [u8], at: usize, answer: Result<usize, Refusal>) -> usize
     requires { OnPage page.old at }
     ensures { OnPage page.new result }
 {
     match answer {
-        Answer::Left(arcs) => line(page, at, b"left", arcs),
-        Answer::Refused(r) => refused(page, at, r),
+        Ok(arcs) => line(page, at, b"left", arcs),
+        Err(r) => refused(page, at, r),
     }
 }
 
-pub fn ran(page: &mut [u8], at: usize, answer: Ran) -> usize
+pub fn ran(page: &mut [u8], at: usize, answer: Result<Ran, Refusal>) -> usize
     requires { OnPage page.old at }
     ensures { OnPage page.new result }
 {
     match answer {
-        Ran::Accepted(steps, arcs) => pair(page, at, b"accepted", steps, b" arcs", arcs),
-        Ran::Refused(r) => refused(page, at, r),
+        Ok(ran) => pair(page, at, b"accepted", ran.steps, b" arcs", ran.arcs),
+        Err(r) => refused(page, at, r),
     }
 }
 
-pub fn query(page: &mut [u8], at: usize, answer: queries::Answer) -> usize
+pub fn query(page: &mut [u8], at: usize, answer: Result<(), Refusal>) -> usize
     requires { OnPage page.old at }
     ensures { OnPage page.new result }
 {
     match answer {
-        queries::Answer::Done => print::word(page, at, b"ok\n"),
-        queries::Answer::Refused(r) => refused(page, at, r),
+        Ok(()) => print::word(page, at, b"ok\n"),
+        Err(r) => refused(page, at, r),
     }
 }
 
-pub fn written(page: &mut [u8], at: usize, answer: Written) -> usize
+pub fn written(page: &mut [u8], at: usize, answer: Result<usize, Refusal>) -> usize
     requires { OnPage page.old at }
     ensures { OnPage page.new result }
 {
     match answer {
-        Written::Bytes(count) => line(page, at, b"bytes", count),
-        Written::Refused(r) => refused(page, at, r),
+        Ok(count) => line(page, at, b"bytes", count),
+        Err(r) => refused(page, at, r),
     }
 }
 
-pub fn read(page: &mut [u8], at: usize, answer: Read) -> usize
+pub fn read(page: &mut [u8], at: usize, answer: Result<Board, Fault>) -> usize
     requires { OnPage page.old at }
     ensures { OnPage page.new result }
 {
     match answer {
-        Read::Board(board) => {
+        Ok(board) => {
             let next = print::word(page, at, b"board");
             let next = print::number(page, next, board.inputs);
             let next = print::number(page, next, board.outputs);
             line(page, next, b"", board.vertices)
         }
-        Read::Refused(r, offset) => refused_at(page, at, r, offset),
+        Err(fault) => refused_at(page, at, fault.refusal, fault.at),
     }
 }
 
-pub fn scanned(page: &mut [u8], at: usize, answer: Scanned) -> usize
+pub fn scanned(page: &mut [u8], at: usize, answer: Result<(), Fault>) -> usize
     requires { OnPage page.old at }
     ensures { OnPage page.new result }
 {
     match answer {
-        Scanned::Done => print::word(page, at, b"ok\n"),
-        Scanned::Refused(r, offset) => refused_at(page, at, r, offset),
+        Ok(()) => print::word(page, at, b"ok\n"),
+        Err(fault) => refused_at(page, at, fault.refusal, fault.at),
     }
 }

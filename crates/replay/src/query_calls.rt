@@ -5,7 +5,7 @@ use crate::calls::{Call, Played};
 use crate::input::Got;
 use crate::{answers, input, lines, memory};
 use paths::queries;
-use paths::queries::Answer;
+use timing::Refusal;
 
 // How many arrivals a call is given.
 fn given(kind: usize) -> Got {
@@ -21,7 +21,7 @@ fn answer(
     scratch: &mut [i64],
     given: &[i64],
     delays: &mut [i64],
-) -> Answer {
+) -> Result<(), Refusal> {
     let kind = call.kind;
     let m = call.sizes.inputs;
     let n = call.sizes.outputs;

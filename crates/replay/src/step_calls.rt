@@ -4,9 +4,15 @@ ghost use Rattle.replay.specs.Page.{OnPage, EndsOn};
 use crate::calls::{Call, Played};
 use crate::input::Got;
 use crate::{answers, calls, input, memory};
-use steps::answer::Answer;
+use timing::Refusal;
 
-fn stepped(page: &mut [u8], at: usize, answer: Answer, table: &[i32], scratch: &[i64]) -> usize
+fn stepped(
+    page: &mut [u8],
+    at: usize,
+    answer: Result<usize, Refusal>,
+    table: &[i32],
+    scratch: &[i64],
+) -> usize
     requires { OnPage page.old at }
     ensures { OnPage page.new result }
 {
@@ -24,7 +30,12 @@ fn given(kind: usize) -> usize {
     }
 }
 
-fn answer(call: Call, table: &mut [i32], scratch: &mut [i64], list: [usize; 3]) -> Answer {
+fn answer(
+    call: Call,
+    table: &mut [i32],
+    scratch: &mut [i64],
+    list: [usize; 3],
+) -> Result<usize, Refusal> {
     let kind = call.kind;
     let m = call.sizes.inputs;
     let n = call.sizes.outputs;

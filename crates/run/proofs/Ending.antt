@@ -1,4 +1,6 @@
 -- The rounds as the loop makes them: one accepts nothing and is the last, or it leaves fewer arcs.
+use Rattle.run.specs.declared.answer.Ran.{Ran}
+use Rattle.std.specs.Prelude.{Err, Ok, Result}
 use mathlib.Core.Path.{◌≡◌, refl, sym, ap, ◌∙◌, subst}
 use mathlib.Core.Logic.{◌≢◌}
 use mathlib.Core.Bool.{Bool, true, false, not, cond}
@@ -17,12 +19,8 @@ use Rattle.reduction.specs.Run.{Progress, round, rounds, tries, reduce, whole_ru
 use Rattle.reduction.proofs.Rounds.{round_less, fuel_enough}
 use Rattle.reduction.proofs.Run.{tries_gain}
 use Rattle.paths.specs.declared.board.Board.{Board}
-use Rattle.paths.specs.declared.board.Made.{Made}
-use Rattle.paths.specs.declared.board.Made.TheVariants as M
 use Rattle.paths.specs.Checked.{Checking}
 use Rattle.paths.proofs.Answering.{answers_on, answers_refused}
-use Rattle.run.specs.declared.answer.Ran.{Ran}
-use Rattle.run.specs.declared.answer.Ran.TheVariants as R
 use Rattle.run.specs.Running.{progress}
 use Rattle.run.specs.Runs.{Runs, run_on}
 
@@ -70,7 +68,7 @@ module _ (m n N s : ℕ) (p q : Progress) (way : round (tries m n N s) p ≡ q) 
       (λ e. subst (λ (x : Bool). rounds_left N (not x) q.table < suc (arcs N (graph_of N p.table))) (sym e) (omega (arith, fewer_arcs m n N s p q way (neqb→ne q.steps p.steps (subst (λ (x : Bool). T (not x)) (sym e) tt)))))
 
 -- what the loop answers
-pub runs_done : (m n N s : ℕ) (t after : List ℤ) (c a : ℕ) → reduce m n N s t ≡ progress after c → a ≡ arcs N (graph_of N after) → Runs (accepted (whole_run m n N s t)) t after (R.Accepted c a)
+pub runs_done : (m n N s : ℕ) (t after : List ℤ) (c a : ℕ) → reduce m n N s t ≡ progress after c → a ≡ arcs N (graph_of N after) → Runs (accepted (whole_run m n N s t)) t after (Ok (record { steps = c; arcs = a }))
 runs_done m n N s t after c a whole count = record {
   answer = ap (λ (x : ℕ). accepted (record { table = after; steps = c; arcs_left = x })) count
       ∙ sym (ap (λ (p : Progress). accepted (record { table = p.table; steps = p.steps; arcs_left = arcs N (graph_of N p.table) })) whole);
@@ -78,11 +76,11 @@ runs_done m n N s t after c a whole count = record {
 }
 
 -- the call, from its checks and its rounds
-module _ {m n N s : ℕ} {t : List ℤ} {o : List ℕ} {made : Made} (c : Checking m n N s t o made) where
-  pub run_done : (b : Board) → made ≡ M.Board b → (after : List ℤ) (r : Ran) → Runs (run_on b s t) t after r → Runs (run_call m n N s t) t after r
+module _ {m n N s : ℕ} {t : List ℤ} {o : List ℕ} {made : Result Board Refusal} (c : Checking m n N s t o made) where
+  pub run_done : (b : Board) → made ≡ Ok b → (after : List ℤ) (r : Result Ran Refusal) → Runs (run_on b s t) t after r → Runs (run_call m n N s t) t after r
   unfolding run_call
   run_done b e after r h = answers_on c b e (λ m n N _. accepted (whole_run m n N s t)) t after r h
 
-  pub run_refused : (x : Refusal) → made ≡ M.Refused x → Runs (run_call m n N s t) t t (R.Refused x)
+  pub run_refused : (x : Refusal) → made ≡ Err x → Runs (run_call m n N s t) t t (Err x)
   unfolding run_call
-  run_refused x e = answers_refused c x e (λ _. accepted (whole_run m n N s t)) t (R.Refused x) refl
+  run_refused x e = answers_refused c x e (λ _. accepted (whole_run m n N s t)) t (Err x) refl

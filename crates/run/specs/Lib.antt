@@ -1,6 +1,5 @@
 pub mod Sides
 pub mod Pairs
 pub mod Running
-pub mod Accepted
 pub mod VertexSteps
 pub mod Runs

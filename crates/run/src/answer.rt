@@ -1,9 +1,8 @@
-// What a run's call answers.
-use timing::Refusal;
+// What an accepted run answers.
 
+// The steps that it accepted, and the arcs left.
 #[derive(Clone, Copy)]
-pub enum Ran {
-    // So many steps were accepted; so many arcs are left.
-    Accepted(usize, usize),
-    Refused(Refusal),
+pub struct Ran {
+    pub steps: usize,
+    pub arcs: usize,
 }

@@ -1,7 +1,6 @@
 // The automatic run as a call over lent memory.
 #![tactic(auto)]
 
-pub mod accepted;
 pub mod answer;
 pub mod calls;
 pub mod counts;

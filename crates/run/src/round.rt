@@ -7,7 +7,7 @@ ghost use Rattle.run.specs.Running.{progress, Running, Held, Leads, LeanOn, trie
 
 use crate::side::Side;
 use crate::vertex_tries::VertexStep;
-use crate::{accepted, shares, vertex_tries};
+use crate::{shares, vertex_tries};
 use paths::order::Order;
 use paths::{Board, order};
 use pruning::prune;
@@ -35,7 +35,7 @@ fn try_prune(
         return steps;
     }
     sort(board, table, order, sorted);
-    if accepted::accepted(prune::prune_step(board, table, order, scratch)) {
+    if prune::prune_step(board, table, order, scratch).is_ok() {
         return steps + 1;
     }
     steps

@@ -1,9 +1,9 @@
 // A try of a share whose rows or columns have been compared.
+ghost use Rattle.timing.specs.Refusal.{verdict};
 ghost use Rattle.std.specs.Prelude.{◌≡◌, true, ◌*◌, ◌<◌, ◌≤◌, length};
 ghost use Rattle.paths.specs.Checked.{Passable, Checked};
 ghost use Rattle.paths.specs.Board.{Sized};
 ghost use Rattle.reach.specs.RowSets.{OneSource};
-ghost use Rattle.plans.specs.Verdict.{difference_meaning};
 ghost use Rattle.plans.specs.Sharing.{Indexed};
 ghost use Rattle.run.specs.declared.side.Side.TheVariants.{Inputs, Outputs};
 ghost use Rattle.run.specs.Sides.{share_step, pair_try};
@@ -15,8 +15,8 @@ use crate::{counts, fresh};
 use paths::order::Order;
 use paths::{Board, cells};
 use plans::rewrite::Rewriting;
-use plans::verdict::Difference;
 use plans::{rewrite, share_inputs, share_outputs};
+use timing::Refusal;
 
 // The steps accepted so far, the smallest free number where inputs are shared, whether the order is one of the table's, and whether its row sets are there.
 #[derive(Clone, Copy)]
@@ -39,7 +39,7 @@ fn share_rows(board: Board, table: &mut [i32], a: usize, b: usize, k: usize, e: 
         return false;
     }
     let saved = share_inputs::inputs_saved(board, table, b, e);
-    if let Difference::Common(d) = saved {
+    if let Ok(d) = saved {
         let d = cells::narrow(d);
         rewrite::rewrite(board, table, Rewriting::ShareInputs(a, b, k, d));
         return true;
@@ -82,7 +82,7 @@ fn share_columns(
     }
     let looked = share_outputs::path_back(board, table, order, sorted, words, made, a, b);
     let saved = share_outputs::outputs_saved(board, table, looked.found, b, e);
-    if let Difference::Common(d) = saved {
+    if let Ok(d) = saved {
         let d = cells::narrow(d);
         rewrite::rewrite(board, table, Rewriting::ShareOutputs(a, b, d));
         return Shared {
@@ -150,7 +150,7 @@ pub fn try_share(
     side: Side,
     a: usize,
     b: usize,
-    difference: Difference,
+    difference: Result<i64, Refusal>,
     tally: Tally,
 ) -> Tally
     requires running { Running board (progress table.old tally.steps) }
@@ -158,7 +158,7 @@ pub fn try_share(
     requires counted { Counted side board table.old rich.old }
     requires rows_kept { RowsKept side board table.old words.old tally.made }
     requires pair { Pair side board a b }
-    requires difference_value { difference_meaning difference ≡ compared_by side board table.old a b }
+    requires difference_value { verdict difference ≡ compared_by side board table.old a b }
     ensures leads { Leads board (pair_try board side a b) table.old tally.steps table.new result.steps }
     ensures ready_2 { Ready side board table.new order.now result.fresh result.sorted × Counted side board table.new rich.new }
     ensures rows_kept_2 { RowsKept side board table.new words.new result.made }
@@ -166,7 +166,7 @@ pub fn try_share(
     let steps = tally.steps;
     let k = tally.fresh;
     let sorted = tally.sorted;
-    if let Difference::Common(e) = difference {
+    if let Ok(e) = difference {
         let shared = share(
             board, table, order, sorted, words, side, tally.made, a, b, k, e,
         );

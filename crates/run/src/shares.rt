@@ -11,7 +11,6 @@ use paths::Board;
 use paths::order::Order;
 use plans::common;
 use plans::common::Seen;
-use plans::verdict::Difference;
 use timing::Refusal;
 
 // All tries of a side, each on the table as it then is. Too few arcs at b, or no free number, refuse a pair before anything is compared; then the first entry at which
@@ -62,7 +61,7 @@ pub fn shares(
                         }
                         seen = common::seen_next(seen, matrix[p], matrix[q]);
                         if let Seen::Clash = seen {
-                            break 'compare Difference::Refused(Refusal::NoCommonDifference);
+                            break 'compare Err(Refusal::NoCommonDifference);
                         }
                         p += stride;
                         q += stride;

@@ -6,7 +6,6 @@ ghost use Rattle.paths.specs.Checked.{Checked};
 ghost use Rattle.run.specs.Running.{progress, Running, TriesStep, LeanOn, Leads};
 ghost use Rattle.run.specs.VertexSteps.{vertex_step, first_vertex, kind_tries, vertex_end};
 
-use crate::accepted;
 use paths::{Board, cells};
 use steps::apply;
 
@@ -46,7 +45,7 @@ fn try_shrink(board: Board, table: &mut [i32], k: usize) -> bool
     if cells::fan_out(board, table, k) == 0 {
         return false;
     }
-    accepted::accepted(apply::apply_shrink(board, table, k))
+    apply::apply_shrink(board, table, k).is_ok()
 }
 
 fn try_vertex(board: Board, table: &mut [i32], kind: VertexStep, v: usize) -> bool
@@ -57,7 +56,7 @@ fn try_vertex(board: Board, table: &mut [i32], kind: VertexStep, v: usize) -> bo
 {
     match kind {
         VertexStep::Shrink => try_shrink(board, table, v),
-        VertexStep::MergeBack => accepted::accepted(apply::apply_merge_back(board, table, v)),
+        VertexStep::MergeBack => apply::apply_merge_back(board, table, v).is_ok(),
     }
 }
 

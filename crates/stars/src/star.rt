@@ -1,4 +1,5 @@
 // Star: the conditions, and the table after an accepted step.
+ghost use Rattle.timing.specs.Refusal.{verdict};
 ghost use Rattle.std.specs.Prelude.{◌≡◌, true, false, ◌&&◌, ℕ, ◌+◌, ◌<◌, ◌≤◌, T, ltb, ◌-ℤ◌, ◌+ℤ◌, length, get_or, drop};
 ghost use Rattle.laws.specs.Integers.{eq_z, min_z};
 ghost use Rattle.laws.specs.Bounded.{each, member};
@@ -7,7 +8,6 @@ ghost use Rattle.timing.specs.Limits.{max_vertices, delay_limit, fits};
 ghost use Rattle.reduction.specs.Star.{non_empty, distinct, starred};
 ghost use Rattle.paths.specs.Board.{Lent, graph_in};
 ghost use Rattle.paths.specs.Cells.{cell_at};
-ghost use Rattle.plans.specs.Verdict.{fit_meaning};
 ghost use Rattle.plans.specs.OnBoards.{InRange, changed, remade};
 ghost use Rattle.stars.specs.StarCells.{least_gap, meeting, cleared_cell, source_cell, centre_cell, cell_after, gap};
 ghost use Rattle.stars.specs.StarReady.{below, VertexSet, Bundle};
@@ -16,7 +16,6 @@ ghost use Rattle.stars.specs.StarOn.{star_on, covered_on, centre_fits, StarReady
 use paths::{Board, cells};
 use plans::rows;
 use plans::rows::Row;
-use plans::verdict::Fit;
 use timing::Refusal;
 
 // How many arcs are covered, and whether the delays to the centre are in range.
@@ -228,35 +227,35 @@ pub fn star_verdict(
     sources: &[usize],
     targets: &[usize],
     k: usize,
-) -> Fit
+) -> Result<(), Refusal>
     requires lent { Lent board table.now }
     requires in_range { InRange board table.now }
-    ensures { fit_meaning result ≡ star_on board table.now sources.now targets.now k }
+    ensures { verdict result ≡ star_on board table.now sources.now targets.now k }
 {
     let n = board.vertices;
     if !exist(sources, targets, k, n) {
-        return Fit::Refused(Refusal::WrongVertex);
+        return Err(Refusal::WrongVertex);
     }
     if !is_set(sources, n) {
-        return Fit::Refused(Refusal::WrongSet);
+        return Err(Refusal::WrongSet);
     }
     if !is_set(targets, n) {
-        return Fit::Refused(Refusal::WrongSet);
+        return Err(Refusal::WrongSet);
     }
     if !rows::is_free(board, table, k) {
-        return Fit::Refused(Refusal::NumberTaken);
+        return Err(Refusal::NumberTaken);
     }
     if !all_joined(board, table, sources, targets) {
-        return Fit::Refused(Refusal::WrongArcs);
+        return Err(Refusal::WrongArcs);
     }
     let weight = weigh_all(board, table, sources, targets);
     if weight.covered <= sources.len() + targets.len() {
-        return Fit::Refused(Refusal::NothingSaved);
+        return Err(Refusal::NothingSaved);
     }
     if !weight.in_range {
-        return Fit::Refused(Refusal::DelayOutOfRange);
+        return Err(Refusal::DelayOutOfRange);
     }
-    Fit::Accepted
+    Ok(())
 }
 
 // The marks of a list's members.

@@ -1,29 +1,26 @@
 -- What a step's call answers, and what becomes of the table.
-use Rattle.std.specs.Prelude.{List, ℕ, ℤ}
+use Rattle.timing.specs.declared.Refusal.{Refusal}
+use Rattle.std.specs.Prelude.{Err, Ok, Result, List, ℕ, ℤ}
 use Rattle.graph.specs.Count.{arcs}
 use Rattle.timing.specs.Refusal.{number, Verdict, refused, accepted, Answers}
 use Rattle.timing.specs.Table.{graph_of}
 use Rattle.reduction.specs.Outcome.{Reduced}
 use Rattle.reduction.specs.Steps.{Step, shrink, share_inputs, share_outputs, prune, merge_back}
-use Rattle.plans.specs.declared.verdict.Fit.{Fit}
-use Rattle.plans.specs.declared.verdict.Fit.TheVariants as F
-use Rattle.steps.specs.declared.answer.Answer.{Answer}
-use Rattle.steps.specs.declared.answer.Answer.TheVariants as A
 use Rattle.steps.specs.declared.step.Step as S
 use Rattle.steps.specs.declared.step.Step.TheVariants as W
 
 -- the answer of a call, from its step's and the table afterwards
-abbrev pub counted : ℕ → Fit → List ℤ → Answer
-counted N F.Accepted table = A.Left (arcs N (graph_of N table))
-counted N (F.Refused r) table = A.Refused r
+abbrev pub counted : ℕ → Result (Unit {0}) Refusal → List ℤ → Result ℕ Refusal
+counted N (Ok tt) table = Ok (arcs N (graph_of N table))
+counted N (Err r) table = Err r
 
 -- document 01's number, or the table afterwards, one step and the arcs left
-abbrev pub reduced_meaning : Answer → List ℤ → Verdict Reduced
-reduced_meaning (A.Left a) table = accepted (record { table = table; steps = 1; arcs_left = a })
-reduced_meaning (A.Refused r) table = refused (number r)
+abbrev pub reduced_meaning : Result ℕ Refusal → List ℤ → Verdict Reduced
+reduced_meaning (Ok a) table = accepted (record { table = table; steps = 1; arcs_left = a })
+reduced_meaning (Err r) table = refused (number r)
 
 -- r and the table afterwards are what v says
-abbrev pub Reduces : Verdict Reduced → List ℤ → List ℤ → Answer → Type 0
+abbrev pub Reduces : Verdict Reduced → List ℤ → List ℤ → Result ℕ Refusal → Type 0
 Reduces = Answers reduced_meaning (λ x. x.table)
 
 -- the step that the code's name stands for

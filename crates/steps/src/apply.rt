@@ -7,36 +7,26 @@ ghost use Rattle.plans.specs.OnBoards.{Applies};
 use paths::order::Order;
 use paths::{Board, cells};
 use plans::rewrite::Rewriting;
-use plans::verdict::{Difference, Driven, Fit};
 use plans::{merge_back, rewrite, share_inputs, share_outputs, shrink};
 use stars::star;
+use timing::Refusal;
 
-pub fn apply_shrink(board: Board, table: &mut [i32], k: usize) -> Fit
+pub fn apply_shrink(board: Board, table: &mut [i32], k: usize) -> Result<(), Refusal>
     requires { Checked board table.old }
     ensures { Applies board (shrink k) table.old table.new result }
 {
-    let fit = shrink::shrink_verdict(board, table, k);
-    match fit {
-        Fit::Accepted => {
-            rewrite::rewrite(board, table, Rewriting::Shrink(k));
-            Fit::Accepted
-        }
-        Fit::Refused(r) => Fit::Refused(r),
-    }
+    shrink::shrink_verdict(board, table, k)?;
+    rewrite::rewrite(board, table, Rewriting::Shrink(k));
+    Ok(())
 }
 
-pub fn apply_merge_back(board: Board, table: &mut [i32], o: usize) -> Fit
+pub fn apply_merge_back(board: Board, table: &mut [i32], o: usize) -> Result<(), Refusal>
     requires { Checked board table.old }
     ensures { Applies board (merge_back o) table.old table.new result }
 {
-    let driven = merge_back::merge_back_verdict(board, table, o);
-    match driven {
-        Driven::By(v, d) => {
-            rewrite::rewrite(board, table, Rewriting::MergeBack(v, o, d));
-            Fit::Accepted
-        }
-        Driven::Refused(r) => Fit::Refused(r),
-    }
+    let (v, d) = merge_back::merge_back_verdict(board, table, o)?;
+    rewrite::rewrite(board, table, Rewriting::MergeBack(v, o, d));
+    Ok(())
 }
 
 pub fn apply_star(
@@ -45,18 +35,13 @@ pub fn apply_star(
     sources: &[usize],
     targets: &[usize],
     k: usize,
-) -> Fit
+) -> Result<(), Refusal>
     requires { Checked board table.old }
     ensures { Applies board (star sources.now targets.now k) table.old table.new result }
 {
-    let fit = star::star_verdict(board, table, sources, targets, k);
-    match fit {
-        Fit::Accepted => {
-            star::star_apply(board, table, sources, targets, k);
-            Fit::Accepted
-        }
-        Fit::Refused(r) => Fit::Refused(r),
-    }
+    star::star_verdict(board, table, sources, targets, k)?;
+    star::star_apply(board, table, sources, targets, k);
+    Ok(())
 }
 
 pub fn apply_share_inputs(
@@ -67,20 +52,18 @@ pub fn apply_share_inputs(
     a: usize,
     b: usize,
     k: usize,
-) -> Fit
+) -> Result<(), Refusal>
     requires { Passable board table.old order.now × (ScratchRoom board scratch.old) }
     ensures applies { Applies board (share_inputs a b k) table.old table.new result }
     ensures past_scratch { PastScratch board scratch.old scratch.new }
 {
-    let difference = share_inputs::share_inputs_verdict(board, table, order, scratch, a, b, k);
-    match difference {
-        Difference::Common(e) => {
-            let d = cells::narrow(e);
-            rewrite::rewrite(board, table, Rewriting::ShareInputs(a, b, k, d));
-            Fit::Accepted
-        }
-        Difference::Refused(r) => Fit::Refused(r),
-    }
+    let e = share_inputs::share_inputs_verdict(board, table, order, scratch, a, b, k)?;
+    rewrite::rewrite(
+        board,
+        table,
+        Rewriting::ShareInputs(a, b, k, cells::narrow(e)),
+    );
+    Ok(())
 }
 
 pub fn apply_share_outputs(
@@ -90,18 +73,16 @@ pub fn apply_share_outputs(
     scratch: &mut [i64],
     a: usize,
     b: usize,
-) -> Fit
+) -> Result<(), Refusal>
     requires { Passable board table.old order.now × (ScratchRoom board scratch.old) }
     ensures applies { Applies board (share_outputs a b) table.old table.new result }
     ensures past_scratch { PastScratch board scratch.old scratch.new }
 {
-    let difference = share_outputs::share_outputs_verdict(board, table, order, scratch, a, b);
-    match difference {
-        Difference::Common(e) => {
-            let d = cells::narrow(e);
-            rewrite::rewrite(board, table, Rewriting::ShareOutputs(a, b, d));
-            Fit::Accepted
-        }
-        Difference::Refused(r) => Fit::Refused(r),
-    }
+    let e = share_outputs::share_outputs_verdict(board, table, order, scratch, a, b)?;
+    rewrite::rewrite(
+        board,
+        table,
+        Rewriting::ShareOutputs(a, b, cells::narrow(e)),
+    );
+    Ok(())
 }

@@ -1,14 +1,13 @@
-// The six steps as calls: any arguments, the checks first, the count of arcs last.
+// The six steps as calls: any arguments, the checks first, the count of the arcs left last.
 ghost use Rattle.std.specs.Prelude.{length};
 ghost use Rattle.reduction.specs.Steps.{shrink, share_inputs, share_outputs, prune, merge_back, star, step_call};
 ghost use Rattle.paths.specs.Queries.{ScratchAfter};
 ghost use Rattle.steps.specs.Reduces.{Reduces, step_meaning};
 
-use crate::answer::Answer;
 use crate::step::Step;
-use crate::{answer, apply, step};
-use paths::board::Made;
-use paths::{checks, room};
+use crate::{apply, step};
+use paths::{cells, checks, room};
+use timing::Refusal;
 
 // The checks, then one of the five steps of the automatic run.
 pub fn reduce(
@@ -18,19 +17,14 @@ pub fn reduce(
     table: &mut [i32],
     scratch: &mut [i64],
     step: Step,
-) -> Answer
+) -> Result<usize, Refusal>
     ensures reduces { Reduces (step_call inputs outputs vertices (length scratch.old) (step_meaning step) table.old) table.old table.new result }
     ensures scratch_after { ScratchAfter inputs outputs vertices table.old scratch.old scratch.new }
 {
     let mut order = room::vertex_bytes();
-    let lent = checks::checked(inputs, outputs, vertices, table, scratch.len(), &mut order);
-    match lent {
-        Made::Board(board) => {
-            let fit = step::apply_step(board, table, &order, scratch, step);
-            answer::counted(board, table, fit)
-        }
-        Made::Refused(r) => Answer::Refused(r),
-    }
+    let board = checks::checked(inputs, outputs, vertices, table, scratch.len(), &mut order)?;
+    step::apply_step(board, table, &order, scratch, step)?;
+    Ok(cells::arcs(board, table))
 }
 
 // Shrinks inner vertex k.
@@ -41,7 +35,7 @@ pub fn shrink(
     table: &mut [i32],
     scratch: &mut [i64],
     k: usize,
-) -> Answer
+) -> Result<usize, Refusal>
     ensures reduces { Reduces (step_call inputs outputs vertices (length scratch.old) (shrink k) table.old) table.old table.new result }
     ensures scratch_after { ScratchAfter inputs outputs vertices table.old scratch.old scratch.new }
 {
@@ -58,7 +52,7 @@ pub fn share_inputs(
     a: usize,
     b: usize,
     k: usize,
-) -> Answer
+) -> Result<usize, Refusal>
     ensures reduces { Reduces (step_call inputs outputs vertices (length scratch.old) (share_inputs a b k) table.old) table.old table.new result }
     ensures scratch_after { ScratchAfter inputs outputs vertices table.old scratch.old scratch.new }
 {
@@ -81,7 +75,7 @@ pub fn share_outputs(
     scratch: &mut [i64],
     a: usize,
     b: usize,
-) -> Answer
+) -> Result<usize, Refusal>
     ensures reduces { Reduces (step_call inputs outputs vertices (length scratch.old) (share_outputs a b) table.old) table.old table.new result }
     ensures scratch_after { ScratchAfter inputs outputs vertices table.old scratch.old scratch.new }
 {
@@ -102,7 +96,7 @@ pub fn prune(
     vertices: usize,
     table: &mut [i32],
     scratch: &mut [i64],
-) -> Answer
+) -> Result<usize, Refusal>
     ensures reduces { Reduces (step_call inputs outputs vertices (length scratch.old) prune table.old) table.old table.new result }
     ensures scratch_after { ScratchAfter inputs outputs vertices table.old scratch.old scratch.new }
 {
@@ -117,7 +111,7 @@ pub fn merge_back(
     table: &mut [i32],
     scratch: &mut [i64],
     o: usize,
-) -> Answer
+) -> Result<usize, Refusal>
     ensures reduces { Reduces (step_call inputs outputs vertices (length scratch.old) (merge_back o) table.old) table.old table.new result }
     ensures scratch_after { ScratchAfter inputs outputs vertices table.old scratch.old scratch.new }
 {
@@ -141,17 +135,12 @@ pub fn star(
     sources: &[usize],
     targets: &[usize],
     k: usize,
-) -> Answer
+) -> Result<usize, Refusal>
     ensures reduces { Reduces (step_call inputs outputs vertices (length scratch.old) (star sources.now targets.now k) table.old) table.old table.new result }
     ensures scratch_after { ScratchAfter inputs outputs vertices table.old scratch.old scratch.new }
 {
     let mut order = room::vertex_bytes();
-    let lent = checks::checked(inputs, outputs, vertices, table, scratch.len(), &mut order);
-    match lent {
-        Made::Board(board) => {
-            let fit = apply::apply_star(board, table, sources, targets, k);
-            answer::counted(board, table, fit)
-        }
-        Made::Refused(r) => Answer::Refused(r),
-    }
+    let board = checks::checked(inputs, outputs, vertices, table, scratch.len(), &mut order)?;
+    apply::apply_star(board, table, sources, targets, k)?;
+    Ok(cells::arcs(board, table))
 }

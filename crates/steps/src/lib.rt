@@ -1,7 +1,6 @@
 // The six steps as calls over lent memory.
 #![tactic(auto)]
 
-pub mod answer;
 pub mod apply;
 pub mod calls;
 pub mod step;

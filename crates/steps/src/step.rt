@@ -7,8 +7,8 @@ ghost use Rattle.steps.specs.Reduces.{step_meaning};
 use crate::apply;
 use paths::Board;
 use paths::order::Order;
-use plans::verdict::Fit;
 use pruning::prune;
+use timing::Refusal;
 
 // A step with its vertices, any numbers.
 #[derive(Clone, Copy)]
@@ -26,7 +26,7 @@ pub fn apply_step(
     order: &Order,
     scratch: &mut [i64],
     step: Step,
-) -> Fit
+) -> Result<(), Refusal>
     requires { Passable board table.old order.now × (ScratchRoom board scratch.old) }
     ensures applies { Applies board (step_meaning step) table.old table.new result }
     ensures past_scratch { PastScratch board scratch.old scratch.new }

@@ -1,4 +1,7 @@
 -- The text of `thin`, from what its reading answers and leaves.
+use Rattle.files.specs.declared.answer.Fault.{Fault}
+use Rattle.std.specs.Prelude.{Result, Err}
+use Rattle.paths.specs.declared.board.Board.{Board}
 use mathlib.Core.Path.{◌≡◌, sym, ap, ap₂, ◌∙◌, subst}
 use mathlib.Core.List.{List, ◌++◌, append_assoc, append-nil}
 use Prim.Native.Nat.{ℕ, zero, suc, ◌+◌, ◌*◌, ◌≤◌}
@@ -12,8 +15,6 @@ use Rattle.timing.specs.Table.{with_graph}
 use Rattle.format.specs.Library.{built_in}
 use Rattle.format.specs.Reading.{Reading, BoardSizes, no_arcs, read_call, table_read}
 use Rattle.format.specs.Text.{text_of, most_cells, blank, thin_text}
-use Rattle.files.specs.declared.answer.Read.{Read}
-use Rattle.files.specs.declared.answer.Read.TheVariants as R
 use Rattle.files.specs.Read.{read_meaning}
 use Rattle.text.proofs.Offsets.{StopsBy, read_stops}
 
@@ -45,13 +46,13 @@ blank-table t e =
 
 -- ---- the call's answer
 
-module _ (s : List ℕ) {l : List ℤ} {t : List ℤ} {k : ℕ} {r : Read} (b : l ≡ built_in) (e : t ≡ blank) (f : k ≡ most_cells) (answer : read_meaning r ≡ read_call l s t k) where
-  pub text_is : {after : List ℤ} → after ≡ table_read l s t k → (x : Read) → r ≡ x → text_of after (read_meaning x) ≡ thin_text s
+module _ (s : List ℕ) {l : List ℤ} {t : List ℤ} {k : ℕ} {r : Result Board Fault} (b : l ≡ built_in) (e : t ≡ blank) (f : k ≡ most_cells) (answer : read_meaning r ≡ read_call l s t k) where
+  pub text_is : {after : List ℤ} → after ≡ table_read l s t k → (x : Result Board Fault) → r ≡ x → text_of after (read_meaning x) ≡ thin_text s
   unfolding thin_text
   text_is left x q =
       ap₂ (λ (a : List ℤ) (b : Reading BoardSizes). text_of a b)
       (left ∙ (λ i. table_read (b i) s (e i) (f i)))
       (ap read_meaning (sym q) ∙ answer ∙ (λ i. read_call (b i) s (e i) (f i)))
 
-  pub stops_inside : (x : Refusal) (p : ℕ) → r ≡ R.Refused x p → p ≤ length s
-  stops_inside x p q = subst (StopsBy (length s)) (sym answer ∙ ap read_meaning q) (read_stops l s t k)
+  pub stops_inside : (f : Fault) → r ≡ Err f → f.at ≤ length s
+  stops_inside f q = subst (StopsBy (length s)) (sym answer ∙ ap read_meaning q) (read_stops l s t k)

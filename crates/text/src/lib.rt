@@ -11,12 +11,10 @@ ghost use Rattle.records.specs.Appending.{Appends};
 ghost use Rattle.files.specs.Read.{sizes_of};
 ghost use Rattle.text.specs.Text.{text_bytes};
 
-use files::answer::Read;
 use files::write::Form;
 use files::{library, place, read, write};
 use paths::{Board, room};
 use records::lines;
-use run::answer::Ran;
 use run::calls;
 use timing::{Refusal, numbers};
 
@@ -59,10 +57,9 @@ fn run_text(board: Board, table: &mut [i32], scratch: &mut [i64], out: &mut [u8]
     ensures appends { Appends (text_of table.old (got (sizes_of board))) out.old 0 out.new result }
     ensures upper_bound { result ≤ text_bytes }
 {
-    let ran = calls::run(board.inputs, board.outputs, board.vertices, table, scratch);
-    match ran {
-        Ran::Accepted(steps, arcs) => reduced_text(board, table, steps, arcs, out),
-        Ran::Refused(r) => refused_text(r, 0, out),
+    match calls::run(board.inputs, board.outputs, board.vertices, table, scratch) {
+        Ok(ran) => reduced_text(board, table, ran.steps, ran.arcs, out),
+        Err(refusal) => refused_text(refusal, 0, out),
     }
 }
 
@@ -83,10 +80,9 @@ fn text_into(
     ensures upper_bound { result ≤ text_bytes }
 {
     place::blank(table, Board::MAX_VERTICES);
-    let found = read::read(input, table, scratch, library);
-    match found {
-        Read::Board(board) => run_text(board, table, scratch, out),
-        Read::Refused(r, at) => refused_text(r, at, out),
+    match read::read(input, table, scratch, library) {
+        Ok(board) => run_text(board, table, scratch, out),
+        Err(fault) => refused_text(fault.refusal, fault.at, out),
     }
 }
 

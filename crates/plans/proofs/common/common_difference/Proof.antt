@@ -1,3 +1,4 @@
+use Rattle.timing.specs.Refusal.{verdict}
 use borrow.Author.Rules.{rules}
 use mathlib.Core.Path.{◌≡◌, sym, ap, ◌∙◌}
 use mathlib.Core.List.{List}
@@ -12,7 +13,6 @@ use Rattle.timing.specs.Limits.{absent_wide}
 use Rattle.timing.specs.Table.{read_cell}
 use Rattle.timing.specs.Delays.{arrival_in}
 use Rattle.plans.specs.declared.common.Seen.{Seen}
-use Rattle.plans.specs.Verdict.{difference_meaning}
 use Rattle.plans.specs.Comparing.{compared, seen, settled}
 use Rattle.plans.proofs.Differences.{seen_none, seen_more, seen_clash, seen_common}
 use Rattle.plans.proofs.common.common_difference.Statement.{statement}
@@ -73,13 +73,13 @@ returns-then-j-xs c =
     let a = arrival_in c.args.xs.now in
     let b = arrival_in c.args.ys.now in
     let e : c.compare.j ≡ length c.args.xs.now = omega (arith, c.if-j-xs.true, c.compare.invariant.0) in
-    ap difference_meaning (c.settle.ensures ∙ ap settled (c.compare.invariant.1 ∙ ap (λ (k : ℕ). seen k a b) e)) ∙ seen_common a b (length c.args.xs.now)
+    ap verdict (c.settle.ensures ∙ ap settled (c.compare.invariant.1 ∙ ap (λ (k : ℕ). seen k a b) e)) ∙ seen_common a b (length c.args.xs.now)
 
 returns-in-Clash : tie.Need-returns-in-Clash invariant-compare decreases-compare
 returns-in-Clash c =
     let a = arrival_in (xs c.before.before.before.before) in
     let b = arrival_in (ys c.before.before.before.before) in
-    sym (ap (λ (s : Seen). difference_meaning (settled s)) (seen_clash a b (j c.before.before.before.before + 1) (length (xs c.before.before.before.before)) (omega (arith, c.if-j-xs.false)) (sym (turned c.before) ∙ c.in-Clash.is)))
+    sym (ap (λ (s : Seen). verdict (settled s)) (seen_clash a b (j c.before.before.before.before + 1) (length (xs c.before.before.before.before)) (omega (arith, c.if-j-xs.false)) (sym (turned c.before) ∙ c.in-Clash.is)))
     ∙ seen_common a b (length (xs c.before.before.before.before))
 
 pub common_difference_spec : {M : Type 1} → statement M

@@ -1,3 +1,4 @@
+use Rattle.timing.specs.Refusal.{verdict}
 use borrow.Author.Rules.{rules}
 use mathlib.Core.Path.{◌≡◌, refl, sym, ap, ◌∙◌}
 use mathlib.Core.List.{List}
@@ -14,7 +15,6 @@ use Rattle.timing.specs.Limits.{arrival_limit, absent_wide, fits}
 use Rattle.timing.specs.Table.{read_cell, graph_of}
 use Rattle.timing.specs.Delays.{column, arrival_in}
 use Rattle.plans.specs.declared.common.Seen.{Seen}
-use Rattle.plans.specs.Verdict.{difference_meaning}
 use Rattle.plans.specs.Comparing.{compared, seen, settled}
 use Rattle.plans.proofs.Differences.{seen_none, seen_more, seen_clash, seen_common}
 use Rattle.paths.proofs.Sizes.{board_area}
@@ -154,7 +154,7 @@ returns-then-i-m c =
     let f = into n c.args.table.now c.args.a in
     let g = into n c.args.table.now c.args.b in
     let e : c.compare.i ≡ c.args.board.inputs = omega (arith, c.if-i-m.true, c.compare.invariant.0) in (
-      ap difference_meaning (c.settle.ensures ∙ ap settled (c.compare.invariant.3 ∙ ap (λ (k : ℕ). seen k f g) e)) ∙ seen_common f g c.args.board.inputs,
+      ap verdict (c.settle.ensures ∙ ap settled (c.compare.invariant.3 ∙ ap (λ (k : ℕ). seen k f g) e)) ∙ seen_common f g c.args.board.inputs,
       c.compare.invariant.2,
     )
 
@@ -167,7 +167,7 @@ returns-in-Clash c =
     let m = (start e).args.board.inputs in
     let f = into (N e) (t e) (a e) in
     let g = into (N e) (t e) (b e) in (
-      sym (ap (λ (s : Seen). difference_meaning (settled s)) (seen_clash f g (i e + 1) m (omega (arith, e.if-i-m.false)) (sym (turned c.before) ∙ c.in-Clash.is))) ∙ seen_common f g m,
+      sym (ap (λ (s : Seen). verdict (settled s)) (seen_clash f g (i e + 1) m (omega (arith, e.if-i-m.false)) (sym (turned c.before) ∙ c.in-Clash.is))) ∙ seen_common f g m,
       past c.before.before.before.before.before ∙ (loop e).compare.invariant.2,
     )
 

@@ -101,8 +101,8 @@ loop-more-preserved c =
       λ _. c.round-after.ensures.1.0,
     )
 
-arcs-left-requires : tie.Need-arcs-left-requires invariant-loop decreases-loop
-arcs-left-requires c κs = c.loop-more.invariant.0.checked.lent
+arcs-arcs-requires : tie.Need-arcs-arcs-requires invariant-loop decreases-loop
+arcs-arcs-requires c κs = c.loop-more.invariant.0.checked.lent
 
 shape_of-table : tie.Need-shape_of-table invariant-loop decreases-loop
 shape_of-table c = c.loop-more.invariant.3
@@ -116,7 +116,7 @@ returns c =
     let s = length c.args.scratch.now in
     let goal = reduce d.inputs d.outputs d.vertices s c.args.table.now in
     let there = subst (λ (x : Bool). Toward d.inputs d.outputs d.vertices s goal x (progress c.loop-more.table c.loop-more.steps)) c.loop-more-test.false (c.loop-more.invariant.6 s c.requires.1.1) in (
-      runs_done d.inputs d.outputs d.vertices s c.args.table.now c.loop-more.table c.loop-more.steps c.arcs-left.result (sym there) c.arcs-left.ensures,
+      runs_done d.inputs d.outputs d.vertices s c.args.table.now c.loop-more.table c.loop-more.steps c.arcs-arcs.result (sym there) c.arcs-arcs.ensures,
       c.loop-more.invariant.5 ∙ c.fill_matrix.ensures.1,
     )
 
@@ -133,7 +133,7 @@ rounds_spec =
     round-after-requires
     loop-more-smaller
     loop-more-preserved
-    arcs-left-requires
+    arcs-arcs-requires
     shape_of-table
     shape_of-scratch
     returns)

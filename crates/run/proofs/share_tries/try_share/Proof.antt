@@ -8,9 +8,8 @@ use lib.IntN.{ℤ}
 use mir.Syntax.{w64}
 use mir.Val.{to_z, of_z}
 use Rattle.timing.specs.Limits.{max_vertices}
-use Rattle.timing.specs.Refusal.{accepted}
+use Rattle.timing.specs.Refusal.{accepted, verdict}
 use Rattle.paths.specs.Board.{Lent}
-use Rattle.plans.specs.Verdict.{difference_meaning}
 use Rattle.paths.specs.Checked.{Checked, Passable}
 use Rattle.timing.proofs.Verdict.{said}
 use Rattle.run.specs.Sides.{OnSide}
@@ -25,12 +24,12 @@ use Rattle.run.proofs.share_tries.try_share.Statement.{statement}
 use Rattle.run.proofs.share_tries.try_share.Tie as tie
 
 -- the difference, as the code has it
-e_is : (c : tie.In-Common) → to_z w64 (of_z w64 c.in-Common.e) ≡ c.in-Common.e
+e_is : (c : tie.In-Ok) → to_z w64 (of_z w64 c.in-Ok.e) ≡ c.in-Ok.e
 e_is c = search rules
 
 share-shared-requires : tie.Need-share-shared-requires
 share-shared-requires c κs =
-    (c.requires.0.checked, (c.requires.1.0, (c.requires.1.1.1.0, (c.requires.1.1.1.1.0, said difference_meaning c.requires.1.1.1.1.1 c.in-Common.is ∙ ap accepted (sym (e_is c.before.before))))))
+    (c.requires.0.checked, (c.requires.1.0, (c.requires.1.1.1.0, (c.requires.1.1.1.1.0, said verdict c.requires.1.1.1.1.1 c.in-Ok.is ∙ ap accepted (sym (e_is c.before.before))))))
 
 -- the share has been tried
 module _ (f : tie.After-share-shared) where
@@ -99,8 +98,8 @@ returns-then-shared c =
     λ q. still_passable (s c.before.before.before.before.before.before.before.before.before).args.board (s c.before.before.before.before.before.before.before.before.before).args.table.now (s c.before.before.before.before.before.before.before.before.before).args.order.now (s c.before.before.before.before.before.before.before.before.before).args.side (s c.before.before.before.before.before.before.before.before.before).args.a (s c.before.before.before.before.before.before.before.before.before).args.b (s c.before.before.before.before.before.before.before.before.before).args.tally.fresh ((s c.before.before.before.before.before.before.before.before.before).requires.1.0.order (sorts q).0) (s c.before.before.before.before.before.before.before.before.before).requires.1.1.1.1.0 (after (made c.before.before.before.before.before.before.before.before.before)) (tried (made c.before.before.before.before.before.before.before.before.before) true c.if-shared.true) (goes c.before.before.before.before.before.before.before.before.before).1 (sorts q).1 (sorts q).2 in
     ((goes c.before.before.before.before.before.before.before.before.before).0, ((record { fresh = c.renew-fresh.ensures; order = order }, counted), rows))
 
-returns-in-Common : tie.Need-returns-in-Common
-returns-in-Common c =
+returns-in-Ok : tie.Need-returns-in-Ok
+returns-in-Ok c =
     let s = start c.before.before.before.before in
     let stays = share_stays s.args.board s.args.table.now s.args.order.now s.args.side s.args.a s.args.b s.args.tally.fresh s.args.tally.steps s.requires.0 s.requires.1.0 (after c.before.before.before.before) (tried c.before.before.before.before false c.if-shared.false) in
     let same = sym ((tried c.before.before.before.before false c.if-shared.false).refused refl).1 in
@@ -108,7 +107,7 @@ returns-in-Common c =
 
 returns : tie.Need-returns
 returns c =
-    let low = share_apart c.args.board c.args.table.now c.args.side c.args.a c.args.b c.args.tally.fresh _ (said difference_meaning c.requires.1.1.1.1.1 c.in_default.is) in
+    let low = share_apart c.args.board c.args.table.now c.args.side c.args.a c.args.b c.args.tally.fresh _ (said verdict c.requires.1.1.1.1.1 c.in_default.is) in
     let left = share_left c.args.board c.args.table.now c.args.side c.args.a c.args.b c.args.tally.fresh low in
     let stays = share_stays c.args.board c.args.table.now c.args.order.now c.args.side c.args.a c.args.b c.args.tally.fresh c.args.tally.steps c.requires.0 c.requires.1.0 c.args.table.now left in
     (stays.0, ((stays.1, c.requires.1.1.0), c.requires.1.1.1.0))
@@ -132,6 +131,6 @@ try_share_spec =
     returns-then-shared
     (λ c. search rules)
     (λ c. search rules)
-    returns-in-Common
+    returns-in-Ok
     (λ c. search rules)
     returns)

@@ -1,3 +1,4 @@
+use Rattle.timing.specs.Refusal.{verdict}
 use borrow.Author.Rules.{rules}
 use mathlib.Core.Path.{◌≡◌, refl, sym, ap, ap₂, ◌∙◌, subst}
 use mathlib.Core.Logic.{◌≢◌}
@@ -20,7 +21,6 @@ use Rattle.reduction.specs.Run.{Try, round}
 use Rattle.paths.specs.declared.board.Board.{Board}
 use Rattle.paths.specs.Board.{Sized}
 use Rattle.plans.specs.declared.common.Seen.{Seen}
-use Rattle.plans.specs.Verdict.{difference_meaning}
 use Rattle.plans.specs.Comparing.{compared, seen, settled}
 use Rattle.plans.proofs.Differences.{seen_none, seen_more, seen_clash, seen_common}
 use Rattle.run.specs.declared.side.Side.{Side}
@@ -331,16 +331,16 @@ compare-preserved : tie.Need-compare-preserved invariant-compare decreases-compa
 compare-preserved c = let e = there c in (omega (arith, inside e), turned c.before, next e (a (turn (pair e))) (compare e).compare.p (p_is e), next e (b (pair e)) (compare e).compare.q (q_is e))
 
 -- where the ways out of the comparison meet, its answer
-answered : (c : tie.Joined-j-across invariant-compare decreases-compare invariant-seconds decreases-seconds invariant-firsts decreases-firsts) → let k = c in difference_meaning c.if-j-across.difference ≡ compared_by (the_side k.before.before.before.before.before.before.before) (the_board k.before.before.before.before.before.before.before) (table k.before.before.before.before.before.before.before) (a (turn k.before.before.before.before.before.before.before)) (b k.before.before.before.before.before.before.before)
+answered : (c : tie.Joined-j-across invariant-compare decreases-compare invariant-seconds decreases-seconds invariant-firsts decreases-firsts) → let k = c in verdict c.if-j-across.difference ≡ compared_by (the_side k.before.before.before.before.before.before.before) (the_board k.before.before.before.before.before.before.before) (table k.before.before.before.before.before.before.before) (a (turn k.before.before.before.before.before.before.before)) (b k.before.before.before.before.before.before.before)
 answered c =
     let total = across_of (the_side c.before.before.before.before.before.before.before) (the_board c.before.before.before.before.before.before.before).inputs (the_board c.before.before.before.before.before.before.before).outputs in
     split c.if-j-across.branch-raw
     (λ w.
     let e : c.compare.j ≡ total = omega (arith, w.if-j-across.true, c.compare.invariant.0, across_is (counted (turn c.before.before.before.before.before.before.before))) in
-    ap difference_meaning (w.difference-is ∙ w.settle-difference.ensures ∙ ap settled (c.compare.invariant.1 ∙ ap (λ (x : ℕ). seen x (line_a c.before.before.before.before.before.before.before) (line_b c.before.before.before.before.before.before.before)) e)) ∙ seen_common (line_a c.before.before.before.before.before.before.before) (line_b c.before.before.before.before.before.before.before) total)
+    ap verdict (w.difference-is ∙ w.settle-difference.ensures ∙ ap settled (c.compare.invariant.1 ∙ ap (λ (x : ℕ). seen x (line_a c.before.before.before.before.before.before.before) (line_b c.before.before.before.before.before.before.before)) e)) ∙ seen_common (line_a c.before.before.before.before.before.before.before) (line_b c.before.before.before.before.before.before.before) total)
     (λ w.
     let p : tie.After-seen_next-seen invariant-compare decreases-compare invariant-seconds decreases-seconds invariant-firsts decreases-firsts = record { before = record { before = record { before = record { before = c.before; if-j-across = w.if-j-across }; seen_next-arg-1 = w.seen_next-arg-1 }; seen_next-arg-in-compare-1 = w.seen_next-arg-in-compare-1 }; seen_next-seen = w.seen_next-seen } in
-    ap difference_meaning w.difference-is ∙ sym (ap (λ (s : Seen). difference_meaning (settled s)) (seen_clash (line_a c.before.before.before.before.before.before.before) (line_b c.before.before.before.before.before.before.before) (c.compare.j + 1) total (omega (arith, inside (here p.before))) (sym (turned p) ∙ w.in-Clash.is)))
+    ap verdict w.difference-is ∙ sym (ap (λ (s : Seen). verdict (settled s)) (seen_clash (line_a c.before.before.before.before.before.before.before) (line_b c.before.before.before.before.before.before.before) (c.compare.j + 1) total (omega (arith, inside (here p.before))) (sym (turned p) ∙ w.in-Clash.is)))
     ∙ seen_common (line_a c.before.before.before.before.before.before.before) (line_b c.before.before.before.before.before.before.before) total)
 
 slice_bounds-try_share-end : tie.Need-slice_bounds-try_share-end invariant-compare decreases-compare invariant-seconds decreases-seconds invariant-firsts decreases-firsts

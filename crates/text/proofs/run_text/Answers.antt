@@ -1,0 +1,29 @@
+use Rattle.std.proofs.Common.{length}
+use Rattle.records.proofs.Appending.{appends_same}
+use Rattle.text.proofs.RunTexts.{ran_checked, ran_text}
+use Rattle.text.proofs.run_text.Goals as goal
+
+pub reduced_text-requires-clause-checked : goal.reduced_text-requires-clause-checked
+reduced_text-requires-clause-checked c =
+    let a = c.args in
+    (ran_checked a.board.inputs a.board.outputs a.board.vertices (length a.scratch.now) a.table.now c.run.ensures.runs _ c.in-Ok.is).0
+
+pub reduced_text-requires-clause-steps_bound : goal.reduced_text-requires-clause-steps_bound
+reduced_text-requires-clause-steps_bound c =
+    let a = c.args in
+    (ran_checked a.board.inputs a.board.outputs a.board.vertices (length a.scratch.now) a.table.now c.run.ensures.runs _ c.in-Ok.is).1
+
+pub reduced_text-requires-clause-arcs_bound : goal.reduced_text-requires-clause-arcs_bound
+reduced_text-requires-clause-arcs_bound c =
+    let a = c.args in
+    (ran_checked a.board.inputs a.board.outputs a.board.vertices (length a.scratch.now) a.table.now c.run.ensures.runs _ c.in-Ok.is).2
+
+pub returns-in-Ok-clause-appends : goal.returns-in-Ok-clause-appends
+returns-in-Ok-clause-appends c =
+    let a = c.args in
+    appends_same (ran_text a.board.inputs a.board.outputs a.board.vertices (length a.scratch.now) a.table.now c.run.ensures.runs _ c.in-Ok.is c.requires.scratch_len) c.reduced_text.ensures.appends
+
+pub returns-in-Err-clause-appends : goal.returns-in-Err-clause-appends
+returns-in-Err-clause-appends c =
+    let a = c.args in
+    appends_same (ran_text a.board.inputs a.board.outputs a.board.vertices (length a.scratch.now) a.table.now c.run.ensures.runs _ c.in-Err.is c.requires.scratch_len) c.refused_text.ensures.appends
