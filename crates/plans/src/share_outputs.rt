@@ -16,6 +16,7 @@ use crate::verdict::Difference;
 use crate::{common, rows};
 use paths::order::Order;
 use paths::{Board, arrivals, cells, chain, order, room};
+use sets::Set;
 use timing::Refusal;
 
 // The row of u: of the arcs into b, a's is left.
@@ -77,7 +78,7 @@ fn columns_difference(
 }
 
 // The table's row sets, made where they are not there.
-fn index(board: Board, table: &[i32], words: &mut [u64], made: bool)
+fn index(board: Board, table: &[i32], words: &mut [Set], made: bool)
     requires lent { Lent board table.now }
     requires indexed { Indexed board table.now words.old made }
     ensures { RowSets board.vertices (graph_in board table.now) words.new }
@@ -112,7 +113,7 @@ pub fn path_back(
     table: &[i32],
     order: &Order,
     sorted: bool,
-    words: &mut [u64],
+    words: &mut [Set],
     made: bool,
     a: usize,
     b: usize,
@@ -133,7 +134,7 @@ pub fn path_back(
         return Looked { found: true, made };
     }
     index(board, table, words, made);
-    let found = reach::leads(words, n, b, a);
+    let found = reach::leads(&words[..n], b, a);
     Looked { found, made: true }
 }
 
@@ -174,7 +175,7 @@ pub fn share_outputs_verdict(
     }
     let found = columns_difference(board, table, order, scratch, a, b);
     if let Difference::Common(e) = found {
-        let mut words = reach::words();
+        let mut words = reach::sets();
         let looked = path_back(board, table, order, true, &mut words, false, a, b);
         return outputs_saved(board, table, looked.found, b, e);
     }

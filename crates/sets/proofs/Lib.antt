@@ -1,4 +1,2 @@
-pub mod Words
 pub mod Members
-pub mod Storing
 pub mod Counting

@@ -79,13 +79,13 @@ e_is : (c : tie.In-Common) → to_z w64 (of_z w64 c.in-Common.e) ≡ c.in-Common
 e_is c = search rules
 
 slice_bounds-path_back-end : tie.Need-slice_bounds-path_back-end
-slice_bounds-path_back-end c = sym c.words-words.ensures
+slice_bounds-path_back-end c = sym c.sets-words.ensures
 
 path_back-looked-requires : tie.Need-path_back-looked-requires
 path_back-looked-requires c κs =
     let e = passed c.before.before.before.before in
     let few = (start e).requires.0.checked.lent.sized.few in
-    ((start e).requires.0.checked, ((λ _. (start e).requires.0), (outputs e, record { long = omega (arith, c.words-words.ensures, few); sets = λ q. absurd (let z : ◌≡◌ {A = ℕ} 0 1 = cc in omega arith) })))
+    ((start e).requires.0.checked, ((λ _. (start e).requires.0), (outputs e, record { long = omega (arith, c.sets-words.ensures, few); sets = λ q. absurd (let z : ◌≡◌ {A = ℕ} 0 1 = cc in omega arith) })))
 
 outputs_saved-requires : tie.Need-outputs_saved-requires
 outputs_saved-requires c κs = let e = passed c.before.before.before.before.before.before in ((start e).requires.0.checked.lent, (outputs e).below_b)

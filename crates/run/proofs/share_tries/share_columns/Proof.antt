@@ -46,20 +46,20 @@ module _ (s : tie.Start) where
 returns-then-not-in_range : tie.Need-returns-then-not-in_range
 returns-then-not-in_range c =
     let far = ap (λ (z : ℤ). fits delay_limit (at z)) (sym (to_z-of_z c.ranges.e)) ∙ sym c.in_range.ensures ∙ not-true _ c.if-not-in_range.true-raw in
-    (share_left (board c.before.before.before) (t c.before.before.before) Outputs c.args.a c.args.b 0 (columns_far (board c.before.before.before) (t c.before.before.before) c.args.a c.args.b c.args.e c.requires.1.1.0 c.requires.1.1.1.0 far), c.requires.1.1.1.1)
+    (share_left (board c.before.before) (t c.before.before) Outputs c.args.a c.args.b 0 (columns_far (board c.before.before) (t c.before.before) c.args.a c.args.b c.args.e c.requires.1.1.0 c.requires.1.1.1.0 far), c.requires.1.1.1.1)
 
 path_back-looked-requires : tie.Need-path_back-looked-requires
-path_back-looked-requires c κs = (c.requires.0, (c.requires.1.0, (outputs c.before.before.before.before, c.requires.1.1.1.1)))
+path_back-looked-requires c κs = (c.requires.0, (c.requires.1.0, (outputs c.before.before.before, c.requires.1.1.1.1)))
 
 outputs_saved-saved-requires : tie.Need-outputs_saved-saved-requires
-outputs_saved-saved-requires c κs = (c.requires.0.lent, (outputs c.before.before.before.before.before.before.before).below_b)
+outputs_saved-saved-requires c κs = (c.requires.0.lent, (outputs c.before.before.before.before.before).below_b)
 
 module _ (d : tie.After-outputs_saved-saved) where
   abbrev looked : tie.After-path_back-looked
-  looked = d.before.before.before
+  looked = d.before.before
 
   abbrev start : tie.Start
-  start = looked.before.before.before.before.before
+  start = looked.before.before.before.before
 
   answered : difference_meaning d.outputs_saved-saved.result ≡ verdict start
   answered =
