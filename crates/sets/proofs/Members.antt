@@ -1,103 +1,139 @@
--- What each operation on the bits does to membership.
-use Rattle.std.proofs.Common.{◌≡◌, refl, sym, ap, subst, ◌∙◌, Bool, true, false, not, ◌&&◌, ◌||◌, ℕ, zero, suc, ◌-◌, ◌*◌, ◌/◌, ◌%◌, ◌^◌, ◌<◌, ◌≤◌, min, max, T, eqb, ltb, arith, lit<, bit_and, bit_or}
-use Rattle.std.specs.Int.{bit_at, bit_not, trailing_zeros, w128}
-use Rattle.std.proofs.lemmas.Nat.Bits.{bit_at-lt, bit_at-zero, bit_at_or, bit_at_and, bit_at_not, bit_at-pow_same, bit_at-pow_other, bit_at-trailing_zeros, shr_and_one}
+-- What each operation on the two words does to membership.
+use Rattle.std.proofs.Common.{◌≡◌, refl, sym, ap, ap₂, ◌∙◌, subst, Bool, true, false, not, cond, ◌&&◌, ◌||◌, ℕ, ◌+◌, ◌-◌, ◌≤◌, ◌<◌, ◌^◌, T, eqb, ltb, arith, bit_and, bit_or}
+use Rattle.std.specs.Int.{bit_not, trailing_zeros, w64}
 use native.Mathlib.Decide.{ℕ_discrete, dec_lt}
 use borrow.Author.Tests.{lt-ltb, le-ltb}
 use lib.Dec.{eqb→eq}
-use lib.Pow.{shl_exact}
-use Rattle.laws.proofs.Booleans.{eqb_same, eqb_other, true_is}
+use lib.Bits.{and_le_l, and_le_r, or_add_and}
+use Rattle.laws.proofs.Booleans.{eqb_other, eq→eqb, true_is}
+use Rattle.laws.proofs.Truth.{same_truth}
 use Rattle.sets.specs.declared.Set.{Set}
+use Rattle.sets.specs.Words.{odd}
 use Rattle.sets.specs.Sets.{room, holds}
+use Rattle.sets.proofs.Words.{odd_none, or_digit, but_digit, least_digit}
 
-abbrev bit : ℕ → ℕ → Bool
-bit x u = eqb (bit_at x u) 1
+abbrev pair : ℕ → ℕ → Set
+pair x y = record { low = x; high = y }
 
-below : (s : Set) (u : ℕ) → u < room → holds s u ≡ bit s.bits u
+-- the three places where a number can lie
+pub low : (s : Set) (u : ℕ) → u < 64 → holds s u ≡ odd s.low u
 unfolding holds
-below s u l = ap (λ (b : Bool). b && bit s.bits u) (lt-ltb u room l)
+low s u l = ap (λ (b : Bool). cond b (odd s.low u) (ltb u room && odd s.high (u - 64))) (lt-ltb u 64 l)
+
+pub high : (s : Set) (u : ℕ) → 64 ≤ u → u < room → holds s u ≡ odd s.high (u - 64)
+unfolding holds
+high s u g l = ap₂ (λ (a b : Bool). cond a (odd s.low u) (b && odd s.high (u - 64))) (le-ltb u 64 g) (lt-ltb u room l)
 
 beyond : (s : Set) (u : ℕ) → room ≤ u → holds s u ≡ false
 unfolding holds
-beyond s u g = ap (λ (b : Bool). b && bit s.bits u) (le-ltb u room g)
+beyond s u g = ap₂ (λ (a b : Bool). cond a (odd s.low u) (b && odd s.high (u - 64))) (le-ltb u 64 (omega arith)) (le-ltb u room g)
 
-pub has_bit : (s : Set) (v : ℕ) → v < room → eqb (bit_and (s.bits / 2 ^ v) 1) 1 ≡ holds s v
-has_bit s v l = ap (λ (d : ℕ). eqb d 1) (shr_and_one s.bits v) ∙ sym (below s v l)
-
--- an operation that works bit by bit works member by member
-module _ (g : Bool → Bool → Bool) (none : g false false ≡ false) (a b c : ℕ) (same : (u : ℕ) → u < room → bit c u ≡ g (bit a u) (bit b u)) where
-  each_member : (u : ℕ) → holds (record { bits = c }) u ≡ g (holds (record { bits = a }) u) (holds (record { bits = b }) u)
-  each_member u = go (dec_lt u room)
-    where
-      go : Dec (u < room) → holds (record { bits = c }) u ≡ g (holds (record { bits = a }) u) (holds (record { bits = b }) u)
-      go (yes l) = below _ u l ∙ same u l ∙ sym (λ k. g (below (record { bits = a }) u l k) (below (record { bits = b }) u l k))
-      go (no n) = beyond _ u (omega arith) ∙ sym none ∙ sym (λ k. g (beyond (record { bits = a }) u (omega arith) k) (beyond (record { bits = b }) u (omega arith) k))
-
--- two digits
-or_digits : (x y : ℕ) → x < 2 → y < 2 → eqb (max x y) 1 ≡ (eqb x 1 || eqb y 1)
-or_digits zero zero h k = refl
-or_digits zero (suc zero) h k = refl
-or_digits (suc zero) zero h k = refl
-or_digits (suc zero) (suc zero) h k = refl
-or_digits (suc (suc x)) y h k = absurd (omega arith)
-or_digits x (suc (suc y)) h k = absurd (omega arith)
-
-but_digits : (x y : ℕ) → x < 2 → y < 2 → eqb (min x (1 - y)) 1 ≡ (eqb x 1 && not (eqb y 1))
-but_digits zero zero h k = refl
-but_digits zero (suc zero) h k = refl
-but_digits (suc zero) zero h k = refl
-but_digits (suc zero) (suc zero) h k = refl
-but_digits (suc (suc x)) y h k = absurd (omega arith)
-but_digits x (suc (suc y)) h k = absurd (omega arith)
-
-pub or_member : (a b u : ℕ) → holds (record { bits = bit_or a b }) u ≡ (holds (record { bits = a }) u || holds (record { bits = b }) u)
-or_member a b = each_member ◌||◌ refl a b (bit_or a b) (λ u l. ap (λ (d : ℕ). eqb d 1) (bit_at_or a b u) ∙ or_digits _ _ (bit_at-lt a u) (bit_at-lt b u))
-
-pub but_member : (a b : ℕ) → b < 2 ^ 128 → (u : ℕ) → holds (record { bits = bit_and a (bit_not w128 b) }) u ≡ (holds (record { bits = a }) u && not (holds (record { bits = b }) u))
-but_member a b h = each_member (λ x y. x && not y) refl a b (bit_and a (bit_not w128 b))
-    (λ u l. ap (λ (d : ℕ). eqb d 1) (bit_at_and a (bit_not w128 b) u ∙ ap (min (bit_at a u)) (bit_at_not w128 b u h l)) ∙ but_digits _ _ (bit_at-lt a u) (bit_at-lt b u))
-
-pub empty_member : (u : ℕ) → holds (record { bits = 0 }) u ≡ false
-unfolding holds
-empty_member u = ap (λ (d : ℕ). ltb u room && eqb d 1) (bit_at-zero u) ∙ none (ltb u room)
+-- a fact of a member and its set, from its words
+place {ℓ} : (P : ℕ → Type ℓ) → ((u : ℕ) → u < 64 → P u) → ((u : ℕ) → 64 ≤ u → u < room → P u) → ((u : ℕ) → room ≤ u → P u) → (u : ℕ) → P u
+place P p q r u = go (dec_lt u 64) (dec_lt u room)
   where
-    none : (b : Bool) → (b && false) ≡ false
-    none true = refl
-    none false = refl
+    go : Dec (u < 64) → Dec (u < room) → P u
+    go (yes l) _ = p u l
+    go (no g) (yes l) = q u (omega arith) l
+    go (no g) (no h) = r u (omega arith)
 
--- the word of one number
-one_member : (v : ℕ) → v < room → (u : ℕ) → holds (record { bits = 1 * 2 ^ v % 2 ^ 128 }) u ≡ eqb u v
-one_member v h u = ap (λ (x : ℕ). holds (record { bits = x }) u) (shl_exact {a = 1} 1 v 128 (lit< tt) (omega arith) ∙ omega arith) ∙ go (ℕ_discrete u v) (dec_lt u room)
-  where
-    go : Dec (u ≡ v) → Dec (u < room) → holds (record { bits = 2 ^ v }) u ≡ eqb u v
-    go (yes e) _ = ap (λ (w : ℕ). holds (record { bits = 2 ^ v }) w) e ∙ below _ v h ∙ ap (λ (d : ℕ). eqb d 1) (bit_at-pow_same v) ∙ sym (eqb_same v) ∙ ap (λ (w : ℕ). eqb w v) (sym e)
-    go (no n) (yes l) = below _ u l ∙ ap (λ (d : ℕ). eqb d 1) (bit_at-pow_other v u n) ∙ sym (eqb_other u v n)
-    go (no n) (no l) = beyond _ u (omega arith) ∙ sym (eqb_other u v n)
+-- an operation that works digit by digit on the words works member by member
+module _ (g : Bool → Bool → Bool) (none : g false false ≡ false) (a b c : Set) (on-low : (i : ℕ) → i < 64 → odd c.low i ≡ g (odd a.low i) (odd b.low i))
+    (on-high : (i : ℕ) → i < 64 → odd c.high i ≡ g (odd a.high i) (odd b.high i)) where
+  each_member : (u : ℕ) → holds c u ≡ g (holds a u) (holds b u)
+  each_member = place (λ u. holds c u ≡ g (holds a u) (holds b u))
+      (λ u l. low c u l ∙ on-low u l ∙ sym (ap₂ g (low a u l) (low b u l)))
+      (λ u h l. high c u h l ∙ on-high (u - 64) (omega arith) ∙ sym (ap₂ g (high a u h l) (high b u h l)))
+      (λ u h. beyond c u h ∙ sym (ap₂ g (beyond a u h) (beyond b u h) ∙ none))
 
-pub plus_member : (s : Set) (v : ℕ) → v < room → (u : ℕ) → holds (record { bits = bit_or (1 * 2 ^ v % 2 ^ 128) s.bits }) u ≡ (eqb u v || holds s u)
-plus_member s v h u = or_member (1 * 2 ^ v % 2 ^ 128) s.bits u ∙ ap (λ (b : Bool). b || holds s u) (one_member v h u)
+pub or-member : (a b : Set) (u : ℕ) → holds (pair (bit_or a.low b.low) (bit_or a.high b.high)) u ≡ (holds a u || holds b u)
+or-member a b = each_member ◌||◌ refl a b _ (λ i _. or_digit a.low b.low i) (λ i _. or_digit a.high b.high i)
 
-pub minus_member : (s : Set) (v : ℕ) → v < room → (u : ℕ) → holds (record { bits = bit_and s.bits (bit_not w128 (1 * 2 ^ v % 2 ^ 128)) }) u ≡ (holds s u && not (eqb u v))
-minus_member s v h u = but_member s.bits (1 * 2 ^ v % 2 ^ 128) (omega arith) u ∙ ap (λ (b : Bool). holds s u && not b) (one_member v h u)
+abbrev but : Bool → Bool → Bool
+but x y = x && not y
+
+pub but_member : (a b : Set) → b.low < 2 ^ 64 → b.high < 2 ^ 64 → (u : ℕ) → holds (pair (bit_and a.low (bit_not w64 b.low)) (bit_and a.high (bit_not w64 b.high))) u ≡ (holds a u && not (holds b u))
+but_member a b l h = each_member but refl a b _ (but_digit a.low b.low l) (but_digit a.high b.high h)
+
+pub empty-member : (u : ℕ) → holds (pair 0 0) u ≡ false
+empty-member = place (λ u. holds (pair 0 0) u ≡ false) (λ u l. low (pair 0 0) u l ∙ odd_none u) (λ u h l. high (pair 0 0) u h l ∙ odd_none (u - 64)) (λ u h. beyond (pair 0 0) u h)
+
+-- ---- one number: the word that has its digit alone
+
+module _ (v w : ℕ) (s : Set) where
+  module _ (h : v < 64) (e : (j : ℕ) → odd w j ≡ eqb j v) where
+    lone_low : (u : ℕ) → holds (pair w 0) u ≡ eqb u v
+    lone_low = place (λ u. holds (pair w 0) u ≡ eqb u v)
+        (λ u l. low _ u l ∙ e u)
+        (λ u g l. high _ u g l ∙ odd_none (u - 64) ∙ sym (eqb_other u v (λ q. omega arith)))
+        (λ u g. beyond _ u g ∙ sym (eqb_other u v (λ q. omega arith)))
+
+    pub plus_low : (u : ℕ) → holds (pair (bit_or w s.low) s.high) u ≡ (eqb u v || holds s u)
+    plus_low u =
+        each_member ◌||◌ refl (pair w 0) s (pair (bit_or w s.low) s.high) (λ i _. or_digit w s.low i) (λ i _. ap (λ (b : Bool). b || odd s.high i) (sym (odd_none i))) u
+        ∙ ap (λ (b : Bool). b || holds s u) (lone_low u)
+
+    pub minus_low : w < 2 ^ 64 → (u : ℕ) → holds (pair (bit_and s.low (bit_not w64 w)) s.high) u ≡ (holds s u && not (eqb u v))
+    minus_low f u =
+        each_member but refl s (pair w 0) (pair (bit_and s.low (bit_not w64 w)) s.high) (but_digit s.low w f) (λ i _. but_none s.high i) u
+        ∙ ap (λ (b : Bool). holds s u && not b) (lone_low u)
+      where
+        but_none : (x i : ℕ) → odd x i ≡ (odd x i && not (odd 0 i))
+        but_none x i = kept (odd x i) (odd 0 i) (odd_none i)
+          where
+            kept : (a b : Bool) → b ≡ false → a ≡ (a && not b)
+            kept true b e = sym (ap not e)
+            kept false b e = refl
+
+  module _ (g : 64 ≤ v) (h : v < room) (e : (j : ℕ) → odd w j ≡ eqb j (v - 64)) where
+    lone_high : (u : ℕ) → holds (pair 0 w) u ≡ eqb u v
+    lone_high = place (λ u. holds (pair 0 w) u ≡ eqb u v)
+        (λ u l. low _ u l ∙ odd_none u ∙ sym (eqb_other u v (λ q. omega arith)))
+        (λ u k l. high _ u k l ∙ e (u - 64) ∙ same_truth (eqb (u - 64) (v - 64)) (eqb u v)
+        (λ t. eq→eqb u v (back u k (eqb→eq (u - 64) (v - 64) t))) (λ t. eq→eqb (u - 64) (v - 64) (ap (λ (z : ℕ). z - 64) (eqb→eq u v t))))
+        (λ u k. beyond _ u k ∙ sym (eqb_other u v (λ q. omega arith)))
+      where
+        back : (u : ℕ) → 64 ≤ u → u - 64 ≡ v - 64 → u ≡ v
+        back u k q = omega arith
+
+    pub plus_high : (u : ℕ) → holds (pair s.low (bit_or w s.high)) u ≡ (eqb u v || holds s u)
+    plus_high u =
+        each_member ◌||◌ refl (pair 0 w) s (pair s.low (bit_or w s.high)) (λ i _. ap (λ (b : Bool). b || odd s.low i) (sym (odd_none i))) (λ i _. or_digit w s.high i) u
+        ∙ ap (λ (b : Bool). b || holds s u) (lone_high u)
+
+    pub minus_high : w < 2 ^ 64 → (u : ℕ) → holds (pair s.low (bit_and s.high (bit_not w64 w))) u ≡ (holds s u && not (eqb u v))
+    minus_high f u =
+        each_member but refl s (pair 0 w) (pair s.low (bit_and s.high (bit_not w64 w))) (λ i _. kept (odd s.low i) (odd 0 i) (odd_none i)) (but_digit s.high w f) u
+        ∙ ap (λ (b : Bool). holds s u && not b) (lone_high u)
+      where
+        kept : (a b : Bool) → b ≡ false → a ≡ (a && not b)
+        kept true b e = sym (ap not e)
+        kept false b e = refl
 
 -- ---- whether there is a member, and the least
 
-pub none_empty : (s : Set) → eqb s.bits 0 ≡ true → (u : ℕ) → holds s u ≡ false
-none_empty s e u = ap (λ (x : ℕ). holds (record { bits = x }) u) (eqb→eq s.bits 0 (true_is e)) ∙ empty_member u
+module _ (s : Set) where
+  pub words_none : s.low ≡ 0 → s.high ≡ 0 → (u : ℕ) → holds s u ≡ false
+  words_none e h u = ap₂ (λ (x y : ℕ). holds (pair x y) u) e h ∙ empty-member u
 
-least_member : (s : Set) → 0 < s.bits → s.bits < 2 ^ 128 → T (holds s (trailing_zeros w128 s.bits))
-least_member s p h = let t = bit_at-trailing_zeros w128 s.bits p h in true_is (below s _ t.0 ∙ ap (λ (d : ℕ). eqb d 1) t.1)
+  pub none_empty : eqb (bit_or s.low s.high) 0 ≡ true → (u : ℕ) → holds s u ≡ false
+  none_empty t =
+      let both : bit_or s.low s.high ≡ 0 = eqb→eq (bit_or s.low s.high) 0 (true_is t) in
+      words_none (omega (arith, both, or_add_and s.low s.high, and_le_r s.low s.high)) (omega (arith, both, or_add_and s.low s.high, and_le_l s.low s.high))
 
-pub some_member : (s : Set) → s.bits < 2 ^ 128 → eqb s.bits 0 ≡ false → (u : ℕ) × T (holds s u)
-some_member s h e = (_, least_member s (above s.bits e) h)
-  where
-    above : (x : ℕ) → eqb x 0 ≡ false → 0 < x
-    above zero q = absurd (subst T q tt)
-    above (suc x) q = omega arith
+  pub least_low : 0 < s.low → s.low < 2 ^ 64 → (trailing_zeros w64 s.low < room) × T (holds s (trailing_zeros w64 s.low))
+  least_low p h = let d = least_digit s.low p h in (omega (arith, d.0), true_is (low s _ d.0 ∙ d.1))
 
-pub first_member : (s : Set) → s.bits < 2 ^ 128 → (u : ℕ) × T (holds s u) → (trailing_zeros w128 s.bits < room) × T (holds s (trailing_zeros w128 s.bits))
-first_member s h m = let p = above s.bits refl in ((bit_at-trailing_zeros w128 s.bits p h).0, least_member s p h)
-  where
-    above : (x : ℕ) → s.bits ≡ x → 0 < x
-    above zero e = absurd (subst T (none_empty s (ap (λ (y : ℕ). eqb y 0) e) m.0) m.1)
-    above (suc x) e = omega arith
+  pub least_high : 0 < s.high → s.high < 2 ^ 64 → (64 + trailing_zeros w64 s.high < room) × T (holds s (64 + trailing_zeros w64 s.high))
+  least_high p h =
+      let d = least_digit s.high p h in
+      let q : (64 + trailing_zeros w64 s.high) - 64 ≡ trailing_zeros w64 s.high = omega arith in
+      (omega (arith, d.0), true_is (high s _ (omega arith) (omega (arith, d.0)) ∙ ap (odd s.high) q ∙ d.1))
+
+  pub some_member : s.low < 2 ^ 64 → s.high < 2 ^ 64 → eqb (bit_or s.low s.high) 0 ≡ false → (u : ℕ) × T (holds s u)
+  some_member f h e = go (ℕ_discrete s.low 0) (ℕ_discrete s.high 0)
+    where
+      go : Dec (s.low ≡ 0) → Dec (s.high ≡ 0) → (u : ℕ) × T (holds s u)
+      go (no p) _ = (_, (least_low (omega arith) f).1)
+      go (yes p) (no q) = (_, (least_high (omega arith) h).1)
+      go (yes p) (yes q) = absurd (subst T (sym (ap₂ (λ (x y : ℕ). eqb (bit_or x y) 0) p q) ∙ e) tt)

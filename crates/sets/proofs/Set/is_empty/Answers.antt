@@ -6,4 +6,4 @@ pub returns-clause-u_value : goal.returns-clause-u_value
 returns-clause-u_value c = none_empty c.args.self
 
 pub returns-clause-by_index : goal.returns-clause-by_index
-returns-clause-by_index c = some_member c.args.self (omega arith)
+returns-clause-by_index c = some_member c.args.self (omega arith) (omega arith)

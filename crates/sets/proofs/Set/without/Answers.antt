@@ -3,4 +3,4 @@ use Rattle.sets.proofs.Members.{but_member}
 use Rattle.sets.proofs.Set.without.Goals as goal
 
 pub returns : goal.returns
-returns c = but_member c.args.self.bits c.args.other.bits (omega arith)
+returns c = but_member c.args.self c.args.other (omega arith) (omega arith)
