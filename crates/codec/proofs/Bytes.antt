@@ -1,8 +1,7 @@
 -- Numbers and their bytes: each is made of the other.
 use mathlib.Core.Path.{◌≡◌, refl, sym, ap, ◌∙◌}
 use Prim.Native.Nat.{ℕ, zero, suc, ◌+◌, ◌-◌, ◌*◌, ◌/◌, ◌%◌, ◌^◌, ◌≤◌, ◌<◌}
-use native.Mathlib.Nat.{not-suc-le-zero, div-one, div-div-eq-div-mul, pow-suc, pow-succ', pow-le-pow_right}
-use native.Mathlib.Numerals.{add-one}
+use native.Mathlib.Nat.{not-suc-le-zero, div-one, div-div-eq-div-mul, pow-succ', pow-le-pow_right}
 use native.Mathlib.Omega.{arith}
 use lib.Dec.{eqb, eqb→eq}
 use Rattle.laws.specs.Bounded.{every}
@@ -36,10 +35,6 @@ byte_first x = ap (λ (y : ℕ). y % 256) (div-one x)
 
 pub byte_next : (x i : ℕ) → byte_of x (suc i) ≡ byte_of (x / 256) i
 byte_next x i = ap (λ (y : ℕ). y % 256) (ap (λ (p : ℕ). x / p) (pow-succ' 256 i) ∙ sym (div-div-eq-div-mul x 256 (256 ^ i)))
-
--- what is left of a number when one byte more is taken off
-pub rest_next : (x i : ℕ) → x / 256 ^ i / 256 ≡ x / 256 ^ (i + 1)
-rest_next x i = div-div-eq-div-mul x (256 ^ i) 256 ∙ ap (λ (p : ℕ). x / p) (sym (pow-suc 256 i) ∙ ap (λ (j : ℕ). 256 ^ j) (sym (add-one i)))
 
 -- a number is that of its bytes
 pub number_of_bytes : (w x : ℕ) → x < 256 ^ w → number_of w (byte_of x) ≡ x

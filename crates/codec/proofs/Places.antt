@@ -1,35 +1,26 @@
 -- Numbers in lists of bytes: what is written is read, and what is read may be written.
-use mathlib.Core.Path.{◌≡◌, refl, ap, ◌∙◌}
-use mathlib.Core.List.{List}
-use Prim.Native.Nat.{ℕ, zero, suc, ◌+◌, ◌*◌, ◌^◌, ◌≤◌, ◌<◌}
+use mathlib.Core.Path.{◌≡◌, refl, sym, ap, ◌∙◌}
+use mathlib.Core.List.{List, [], ◌∷◌}
+use Prim.Native.Nat.{ℕ, zero, suc, ◌+◌, ◌-◌, ◌*◌, ◌^◌, ◌≤◌, ◌<◌}
 use native.Mathlib.Nat.{not-suc-le-zero}
-use native.Mathlib.Decide.{ℕ_discrete}
-use native.Mathlib.Numerals.{add-one}
+use native.Mathlib.Decide.{ℕ_discrete, dec_lt}
+use Rattle.std.proofs.Common.{zero-add}
 use native.Mathlib.Omega.{arith}
 use lib.Dec.{T}
 use lib.IntN.{ℤ}
-use lib.ListN.{length, get_or, set, length-set}
+use lib.ListN.{length, get_or, set, take, drop, length-set}
+use borrow.Rule.Slice.PartMut.{put_mid}
+use Rattle.std.specs.Int.{w64, byte_at, bytes_low_first, to_le_bytes, from_le_bytes}
+use Rattle.std.proofs.lemmas.Grind.{same_number_lists}
+use Rattle.std.proofs.lemmas.List.{places, get_or-take}
 use lib.Seq.{get_or-set_same, get_or-set_other, set-get_or}
 use mir.Syntax.{w8}
 use mir.Val.{Fits}
 use Rattle.codec.specs.Bytes.{number_of, byte_of, twos, pattern, in_width, unsigned_at, signed_at, with_number}
-use Rattle.codec.proofs.Bytes.{number_same, number_of_bytes, bytes_of_number, number-below}
+use Rattle.codec.proofs.Bytes.{number_same, number_of_bytes, bytes_of_number, number-below, byte_first}
 use Rattle.codec.proofs.Patterns.{twos-pattern, pattern-below, pattern-twos, twos_in_width}
 
--- one byte more in front of a number
-pub read_more : (w : ℕ) (s : List ℕ) (p : ℕ) → unsigned_at (w + 1) s p ≡ get_or s p 0 + 256 * unsigned_at w s (p + 1)
-unfolding number_of
-read_more w s p =
-    let first : p + 0 ≡ p = omega arith in
-    let rest : number_of w (λ i. get_or s (p + suc i) 0) ≡ unsigned_at w s (p + 1) = number_same w _ _ (λ i l. ap (λ (j : ℕ). get_or s j 0) (omega arith)) in
-    ap (λ (v : ℕ). unsigned_at v s p) (add-one w) ∙ (λ k. get_or s (first k) 0 + 256 * rest k)
-
 module _ (s : List ℕ) (p x : ℕ) where
-  -- one byte more behind a number
-  pub write_more : (w : ℕ) → with_number (w + 1) s p x ≡ set (with_number w s p x) (p + w) (byte_of x w)
-  unfolding with_number
-  write_more w = ap (λ (v : ℕ). with_number v s p x) (add-one w)
-
   pub length_with : (w : ℕ) → length (with_number w s p x) ≡ length s
   unfolding with_number
   length_with zero = refl
@@ -84,3 +75,70 @@ module _ (s : List ℕ) (p w : ℕ) (bytes : AreBytes s) where
 
   pub signed_written_read : with_number w s p (pattern w (signed_at w s p)) ≡ s
   signed_written_read = ap (with_number w s p) (pattern-twos w (unsigned_at w s p) read_below) ∙ written_read
+
+-- ---- the library's bytes of a 64-bit number
+
+byte_at_is : (i x : ℕ) → byte_at i x ≡ byte_of x i
+byte_at_is zero x = sym (byte_first x)
+byte_at_is (suc i) x = refl
+
+low_first_at : (k j x i : ℕ) → i < k → get_or (bytes_low_first j k x) i 0 ≡ byte_of x (j + i)
+low_first_at zero j x i h = absurd (omega arith)
+low_first_at (suc k) j x zero h = byte_at_is j x ∙ ap (byte_of x) (omega arith)
+low_first_at (suc k) j x (suc i) h = low_first_at k (suc j) x i (omega arith) ∙ ap (byte_of x) (omega arith)
+
+-- the first w bytes of x, copied over the places from p on
+pub put_written : (w : ℕ) (s : List ℕ) (p x : ℕ) (part : List ℕ) → w ≤ 8 → p + w ≤ length s → part ≡ take w (to_le_bytes w64 x) → put_mid p (p + w - p) s part ≡ with_number w s p x
+put_written w s p x part h r e = same_number_lists _ _ (grind (arith, places, length_with s p x w)) at
+  where
+    copied : (i : ℕ) → i < w → get_or part i 0 ≡ byte_of x i
+    copied i l = ap (λ (t : List ℕ). get_or t i 0) e ∙ get_or-take w (to_le_bytes w64 x) i 0 l ∙ low_first_at 8 0 x i (omega arith) ∙ ap (byte_of x) (zero-add i)
+
+    long : length part ≡ w
+    long = grind (arith, places)
+
+    past : (k : ℕ) → p + w ≤ k → get_or (put_mid p (p + w - p) s part) k 0 ≡ get_or s k 0
+    past k a = let q : p + ((p + w - p) + (k - p - w)) ≡ k = omega arith in grind (arith, places)
+
+    middle : (k : ℕ) → p ≤ k → k < p + w → get_or (put_mid p (p + w - p) s part) k 0 ≡ get_or part (k - p) 0
+    middle k a b = grind (arith, places)
+
+    at : (k : ℕ) → k < length (put_mid p (p + w - p) s part) → get_or (put_mid p (p + w - p) s part) k 0 ≡ get_or (with_number w s p x) k 0
+    at k l = go (dec_lt k p) (dec_lt k (p + w))
+      where
+        go : Dec (k < p) → Dec (k < p + w) → get_or (put_mid p (p + w - p) s part) k 0 ≡ get_or (with_number w s p x) k 0
+        go (yes a) _ = let e = byte_left s p x w k (λ i m q. omega arith) in grind (arith, places)
+        go (no a) (yes b) = let q : p + (k - p) ≡ k = omega arith in
+            middle k (omega arith) b ∙ copied (k - p) (omega arith) ∙ sym (byte_written s p x w (k - p) r (omega arith)) ∙ ap (λ (j : ℕ). get_or (with_number w s p x) j 0) q
+        go (no a) (no b) = past k (omega arith) ∙ sym (byte_left s p x w k (λ i m q. omega arith))
+
+number_none : (w : ℕ) (f : ℕ → ℕ) → ((i : ℕ) → f i ≡ 0) → number_of w f ≡ 0
+unfolding number_of
+number_none zero f h = refl
+number_none (suc w) f h = omega (arith, h 0, number_none w (λ i. f (suc i)) (λ i. h (suc i)))
+
+number_longer : (w k n : ℕ) (f : ℕ → ℕ) → w + k ≡ n → ((i : ℕ) → w ≤ i → f i ≡ 0) → number_of n f ≡ number_of w f
+unfolding number_of
+number_longer zero k n f e h = number_none n f (λ i. h i (omega arith))
+number_longer (suc w) k zero f e h = absurd (omega arith)
+number_longer (suc w) k (suc n) f e h = ap (λ (r : ℕ). f 0 + 256 * r) (number_longer w k n (λ i. f (suc i)) (omega arith) (λ i l. h (suc i) (omega arith)))
+
+abbrev zeros : List ℕ
+zeros = 0 ∷ 0 ∷ 0 ∷ 0 ∷ 0 ∷ 0 ∷ 0 ∷ 0 ∷ []
+
+-- w bytes of s, copied over the first of eight zeros
+pub read_copied : (w : ℕ) (s : List ℕ) (p : ℕ) (part : List ℕ) → w ≤ 8 → p + w ≤ length s → part ≡ take (p + w - p) (drop p s) → from_le_bytes w64 (put_mid 0 w zeros part) ≡ unsigned_at w s p
+unfolding number_of
+read_copied w s p part h r e = eight (put_mid 0 w zeros part) ∙ number_longer w (8 - w) 8 _ (omega arith) none ∙ number_same w _ _ same
+  where
+    long : length part ≡ w
+    long = grind (arith, places)
+
+    eight : (t : List ℕ) → from_le_bytes w64 t ≡ number_of 8 (λ i. get_or t i 0)
+    eight t = omega arith
+
+    none : (i : ℕ) → w ≤ i → get_or (put_mid 0 w zeros part) i 0 ≡ 0
+    none i l = grind (arith, places)
+
+    same : (i : ℕ) → i < w → get_or (put_mid 0 w zeros part) i 0 ≡ get_or s (p + i) 0
+    same i l = grind (arith, places)

@@ -10,7 +10,7 @@ fn greatest(width: usize) -> u64
     requires width_bound { width ≤ 8 }
     ensures { result + 1 ≡ 256 ^ width }
 {
-    !0u64 >> (64 - 8 * width)
+    u64::MAX >> (64 - 8 * width)
 }
 
 // The signed number of a pattern.

@@ -1,11 +1,12 @@
 -- The parts of the shares' conditions.
-use Rattle.std.specs.Prelude.{◌≡◌, ◌≢◌, Bool, true, List, ℕ, ◌+◌, ◌*◌, ◌≤◌, ◌<◌, T, ℤ, length}
+use Rattle.std.specs.Prelude.{◌≡◌, ◌≢◌, Bool, true, List, ℕ, ◌+◌, ◌≤◌, ◌<◌, T, ℤ, length}
 use Rattle.graph.specs.Delay.{present}
 use Rattle.graph.specs.Graph.{longest}
 use Rattle.timing.specs.Limits.{arrival_limit, fits}
 use Rattle.timing.specs.Delays.{arrival_in}
 use Rattle.paths.specs.declared.board.Board.{Board}
 use Rattle.paths.specs.Board.{Sized, graph_in}
+use Rattle.sets.specs.declared.Set.{Set}
 use Rattle.reach.specs.RowSets.{RowSets}
 
 -- two outputs
@@ -16,9 +17,9 @@ pub record TwoOutputs (board : Board) (a b : ℕ) : Type 0 where
   pub below_b : b < board.vertices
   pub two : a ≢ b
 
--- where `made`, the words have the table's row sets
-pub record Indexed (board : Board) (t : List ℤ) (words : List ℕ) (made : Bool) : Type 0 where
-  pub long : 2 * board.vertices ≤ length words
+-- where `made`, the sets are the table's rows
+pub record Indexed (board : Board) (t : List ℤ) (words : List Set) (made : Bool) : Type 0 where
+  pub long : board.vertices ≤ length words
   pub sets : made ≡ true → RowSets board.vertices (graph_in board t) words
 
 -- a path leads from u to v

@@ -15,6 +15,7 @@ use crate::common::Seen;
 use crate::{common, rows};
 use paths::order::Order;
 use paths::{Board, arrivals, cells, chain, order, room};
+use sets::Set;
 use timing::Refusal;
 
 // The row of u: of the arcs into b, a's is left.
@@ -76,7 +77,7 @@ fn columns_difference(
 }
 
 // The table's row sets, made where they are not there.
-fn index(board: Board, table: &[i32], words: &mut [u64], made: bool)
+fn index(board: Board, table: &[i32], words: &mut [Set], made: bool)
     requires lent { Lent board table.now }
     requires indexed { Indexed board table.now words.old made }
     ensures { RowSets board.vertices (graph_in board table.now) words.new }
@@ -111,7 +112,7 @@ pub fn path_back(
     table: &[i32],
     order: &Order,
     sorted: bool,
-    words: &mut [u64],
+    words: &mut [Set],
     made: bool,
     a: usize,
     b: usize,
@@ -132,7 +133,7 @@ pub fn path_back(
         return Looked { found: true, made };
     }
     index(board, table, words, made);
-    let found = reach::leads(words, n, b, a);
+    let found = reach::leads(&words[..n], b, a);
     Looked { found, made: true }
 }
 
@@ -178,7 +179,7 @@ pub fn share_outputs_verdict(
         return Err(Refusal::WrongVertex);
     }
     let e = columns_difference(board, table, order, scratch, a, b)?;
-    let mut words = reach::words();
+    let mut words = reach::sets();
     let looked = path_back(board, table, order, true, &mut words, false, a, b);
     outputs_saved(board, table, looked.found, b, e)
 }

@@ -1,3 +1,4 @@
 pub mod Gathering
+pub mod Front
 pub mod Reaching
 pub mod Sources

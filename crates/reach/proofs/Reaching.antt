@@ -1,20 +1,23 @@
 -- What paths reach.
 use mathlib.Core.Path.{◌≡◌, sym, ap, ◌∙◌, subst}
 use mathlib.Core.Logic.{◌⊎◌, inl, inr}
-use mathlib.Core.Bool.{true, false, ◌||◌}
+use mathlib.Core.Bool.{true, false, not, ◌&&◌, ◌||◌}
 use mathlib.Core.List.{List, [], ◌∷◌}
 use Prim.Native.Nat.{ℕ, ◌<◌}
 use lib.Dec.{T, eqb, eqb→eq}
-use Rattle.laws.proofs.Booleans.{or_l, or_r, or_cases, split, is_true, is_false, true_is}
+use lib.ListN.{length}
+use Rattle.laws.proofs.Booleans.{or_l, or_r, or_cases, and_i, and_e, true_or-not, split, is_true, is_false, true_is}
 use Rattle.graph.specs.Delay.{Delay, present}
 use Rattle.graph.specs.Graph.{Graph, path_delay, longest}
 use Rattle.graph.proofs.Presence.{present_l, present_r, present-⊕}
 use Rattle.graph.proofs.Longest.{Within, longest-reached}
 use Rattle.graph.proofs.Cycle.{path_found}
 use Rattle.sets.specs.declared.Set.{Set}
-use Rattle.sets.specs.Sets.{holds}
-use Rattle.sets.specs.Rows.{set_at}
-use Rattle.reach.specs.RowSets.{RowSets}
+use Rattle.sets.specs.Sets.{holds, set_at}
+use Rattle.reach.specs.RowSets.{RowSets, Rowed}
+
+pub within : {N : ℕ} {g : Graph} {sets : List Set} → Rowed N g sets → Within N g
+within r = record { in_range = r.inside }
 
 module _ (N : ℕ) (g : Graph) (w : Within N g) where
   -- from u to v there is a path
@@ -79,12 +82,11 @@ module _ (N : ℕ) (g : Graph) (w : Within N g) where
     walked_all u e all = sym (is_false (present (longest g N v u)) (λ r. subst T e (split (first_arc v u r) (m.start u)
         (λ p. closed (λ x. T (holds met x)) (λ x y h t. m.onward x y (all x h) t) p.0 u (m.start p.0 p.1) p.2))))
 
-  module _ (words : List ℕ) (sets : RowSets N g words) (v : ℕ) where
-    -- the set at place x
-    is : (x : ℕ) → x < N → (row : Set) → row ≡ set_at words x → (y : ℕ) → holds row y ≡ present (g x y)
-    is x l row e y = ap (λ (z : Set). holds z y) e ∙ sets.row x l y
+  module _ (sets : List Set) (rows : RowSets N g sets) (v : ℕ) where
+    is : (x : ℕ) → x < N → (row : Set) → row ≡ set_at sets x → (y : ℕ) → holds row y ≡ present (g x y)
+    is x l row e y = ap (λ (z : Set). holds z y) e ∙ rows.row x l y
 
-    pub walked_start : v < N → (met done : Set) → met ≡ set_at words v → ((x : ℕ) → holds done x ≡ false) → Walked v met done
+    pub walked_start : v < N → (met done : Set) → met ≡ set_at sets v → ((x : ℕ) → holds done x ≡ false) → Walked v met done
     walked_start l met done e none = record {
       only = λ x t. by_arc v x (subst T (is v l met e x) t);
       start = λ x t. subst T (sym (is v l met e x)) t;
@@ -92,7 +94,7 @@ module _ (N : ℕ) (g : Graph) (w : Within N g) where
     }
 
     module _ (met done : Set) (m : Walked v met done) (x : ℕ) (t : T (holds met x)) where
-      pub walked_turn : (row met' done' : Set) → row ≡ set_at words x → ((y : ℕ) → holds met' y ≡ (holds met y || holds row y)) → ((y : ℕ) → holds done' y ≡ (eqb y x || holds done y)) → Walked v met' done'
+      pub walked_turn : (row met' done' : Set) → row ≡ set_at sets x → ((y : ℕ) → holds met' y ≡ (holds met y || holds row y)) → ((y : ℕ) → holds done' y ≡ (eqb y x || holds done y)) → Walked v met' done'
       walked_turn row met' done' e grown more = record {
         only = λ y k. split (or_cases (holds met y) (holds row y) (subst T (grown y) k)) (m.only y) (λ h. then_arc v x y (m.only x t) (subst T (row_is y) h));
         start = λ y k. old y (m.start y k);
@@ -108,3 +110,16 @@ module _ (N : ℕ) (g : Graph) (w : Within N g) where
 
           new : (y : ℕ) → T (present (g x y)) → T (holds met' y)
           new y k = subst T (sym (grown y)) (or_r (holds met y) (holds row y) (subst T (sym (row_is y)) k))
+
+-- what of `met` is left to be done
+module _ (met done left : Set) (less : (u : ℕ) → holds left u ≡ (holds met u && not (holds done u))) where
+  pub is_left : (x : ℕ) → T (holds left x) → T (holds met x) × T (not (holds done x))
+  is_left x t = and_e (holds met x) (not (holds done x)) (subst T (less x) t)
+
+  pub none_left : ((u : ℕ) → holds left u ≡ false) → (x : ℕ) → T (holds met x) → T (holds done x)
+  none_left none x t = split (true_or-not (holds done x)) (λ k. k)
+      (λ k. absurd (subst T (none x) (subst T (sym (less x)) (and_i (holds met x) (not (holds done x)) t k))))
+
+  pub left_below : (sets : List Set) (v : ℕ) → (g : Graph) × Rowed (length sets) g sets → ((g : Graph) (r : Rowed (length sets) g sets) → Walked (length sets) g (within r) v met done)
+      → (x : ℕ) → T (holds left x) → x < length sets
+  left_below sets v rowed walked x t = walked_in_lem (length sets) rowed.0 (within rowed.1) v met done (walked rowed.0 rowed.1) x (is_left x t).0

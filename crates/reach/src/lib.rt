@@ -1,7 +1,7 @@
 // The rows of a table as sets of vertices, and whether a path leads from one vertex to another.
 #![tactic(auto)]
 
-ghost use Rattle.std.specs.Prelude.{◌≡◌, ◌&&◌, ℕ, ◌*◌, ◌<◌, ◌≤◌, ltb, length};
+ghost use Rattle.std.specs.Prelude.{◌≡◌, ◌&&◌, ℕ, ◌<◌, ◌≤◌, ltb, length};
 ghost use Rattle.graph.specs.Delay.{present};
 ghost use Rattle.graph.specs.Graph.{Graph, longest};
 ghost use Rattle.timing.specs.Limits.{max_vertices};
@@ -11,33 +11,27 @@ ghost use Rattle.sets.specs.Sets.{holds};
 ghost use Rattle.reach.specs.RowSets.{Targets, RowSets, Rowed, OneSource};
 
 use paths::{Board, cells};
-use sets::{Set, rows};
-
-// The words of 90 sets.
-pub const WORDS: usize = 2 * Board::MAX_VERTICES;
+use sets::Set;
 
 // Local memory for the sets of any board.
-pub fn words() -> [u64; WORDS]
-    ensures { length result ≡ 2 * max_vertices }
+pub fn sets() -> [Set; Board::MAX_VERTICES]
+    ensures { length result ≡ max_vertices }
 {
-    [0u64; WORDS]
+    [Set::empty(); Board::MAX_VERTICES]
 }
 
-// The targets of a row of n cells.
-fn row_set(row: &[i32], n: usize) -> Set
-    requires n_le_max_vertices { n ≤ max_vertices }
-    requires n_in_bounds { n ≤ length row.now }
-    ensures { (u : ℕ) → holds result u ≡ (ltb u n && present (cell_at row.now u)) }
+// The targets of a row.
+fn row_set(row: &[i32]) -> Set
+    requires { length row.now ≤ max_vertices }
+    ensures { (u : ℕ) → holds result u ≡ (ltb u (length row.now) && present (cell_at row.now u)) }
 {
-    let mut s = Set::empty();
-    let mut v = 0;
-    while v < n {
-        if cells::is_arc(row[v]) {
-            s = s.plus(v);
+    let mut set = Set::empty();
+    for (v, cell) in row.iter().enumerate() {
+        if cells::is_arc(*cell) {
+            set = set.plus(v);
         }
-        v += 1;
     }
-    s
+    set
 }
 
 // The targets of vertex u.
@@ -47,60 +41,49 @@ fn targets(board: Board, table: &[i32], u: usize) -> Set
     ensures { Targets (graph_in board table.now) u result }
 {
     let n = board.vertices;
-    let at = n * u;
-    row_set(&table[at..], n)
+    row_set(&table[n * u..n * u + n])
 }
 
 // The targets of every vertex.
-pub fn row_sets(board: Board, table: &[i32], words: &mut [u64])
+pub fn row_sets(board: Board, table: &[i32], sets: &mut [Set])
     requires lent { Lent board table.now }
-    requires vertices_in_bounds { 2 * board.vertices ≤ length words.old }
-    ensures { RowSets board.vertices (graph_in board table.now) words.new }
+    requires vertices_in_bounds { board.vertices ≤ length sets.old }
+    ensures { RowSets board.vertices (graph_in board table.now) sets.new }
 {
-    let n = board.vertices;
-    let mut u = 0;
-    while u < n {
-        rows::put(words, u, targets(board, table, u));
-        u += 1;
+    for u in 0..board.vertices {
+        sets[u] = targets(board, table, u);
     }
 }
 
 // Makes a the one vertex with an arc to b.
-pub fn one_source(words: &mut [u64], n: usize, a: usize, b: usize)
-    requires n_le_max_vertices { n ≤ max_vertices }
-    requires n_in_bounds { 2 * n ≤ length words.old }
-    requires a_lt_n { a < n }
-    requires b_lt_n { b < n }
-    ensures { OneSource n a b words.old words.new }
+pub fn one_source(sets: &mut [Set], a: usize, b: usize)
+    requires few { length sets.old ≤ max_vertices }
+    requires a_in_bounds { a < length sets.old }
+    requires b_in_bounds { b < length sets.old }
+    ensures { OneSource (length sets.old) a b sets.old sets.new }
 {
-    let mut u = 0;
-    while u < n {
-        let rest = rows::at(words, u).minus(b);
-        rows::put(words, u, rest);
-        u += 1;
+    for set in sets.iter_mut() {
+        *set = set.minus(b);
     }
-    let with = rows::at(words, a).plus(b);
-    rows::put(words, a, with);
+    sets[a] = sets[a].plus(b);
 }
 
 // Whether a path leads from v to u: from v on, each vertex met adds its targets, until u is met or none is left.
-pub fn leads(words: &[u64], n: usize, v: usize, u: usize) -> bool
-    requires n_le_max_vertices { n ≤ max_vertices }
-    requires v_lt_n { v < n }
-    requires u_lt_n { u < n }
-    requires rowed { (g : Graph) × Rowed n g words.now }
-    ensures { (g : Graph) → Rowed n g words.now → result ≡ present (longest g n v u) }
+pub fn leads(sets: &[Set], v: usize, u: usize) -> bool
+    requires few { length sets.now ≤ max_vertices }
+    requires v_in_bounds { v < length sets.now }
+    requires u_in_bounds { u < length sets.now }
+    requires rowed { (g : Graph) × Rowed (length sets.now) g sets.now }
+    ensures { (g : Graph) → Rowed (length sets.now) g sets.now → result ≡ present (longest g (length sets.now) v u) }
 {
-    let mut met = rows::at(words, v);
+    let mut met = sets[v];
     let mut done = Set::empty();
     while !met.has(u) {
-        let left = met.without(done);
-        if left.is_empty() {
+        let Some(x) = met.without(done).first() else {
             return false;
-        }
-        let x = left.first();
+        };
         done = done.plus(x);
-        met = met.or(rows::at(words, x));
+        met = met.or(sets[x]);
     }
     true
 }

@@ -13,14 +13,15 @@ use Rattle.timing.specs.Table.{graph_of}
 use Rattle.reduction.specs.ShareOutputs.{outputs_shared}
 use Rattle.paths.specs.declared.board.Board.{Board}
 use Rattle.paths.specs.Checked.{Checked}
-use Rattle.sets.specs.Rows.{set_at}
+use Rattle.sets.specs.declared.Set.{Set}
+use Rattle.sets.specs.Sets.{set_at}
 use Rattle.reach.specs.RowSets.{Targets, RowSets, OneSource}
 use Rattle.run.specs.declared.side.Side.{Side}
 use Rattle.run.specs.declared.side.Side.TheVariants.{Inputs, Outputs}
 use Rattle.run.specs.Running.{RowsKept}
 use Rattle.run.proofs.TriedShares.{shared, Trying, share_graph}
 
-one_source_left : (N : ℕ) (g : Graph) (a b : ℕ) (e : ℤ) (words words' : List ℕ) → RowSets N g words → OneSource N a b words words' → RowSets N (outputs_shared a b e g) words'
+one_source_left : (N : ℕ) (g : Graph) (a b : ℕ) (e : ℤ) (words words' : List Set) → RowSets N g words → OneSource N a b words words' → RowSets N (outputs_shared a b e g) words'
 unfolding outputs_shared
 one_source_left N g a b e words words' h one = record { long = omega (arith, h.long, one.long); row = row }
   where
@@ -33,7 +34,7 @@ one_source_left N g a b e words words' h one = record { long = omega (arith, h.l
     row u l v = one.rows u v l ∙ ap (cond (eqb v b) (eqb u a)) (h.row u l v) ∙ with_arc_lem (eqb v b) (eqb u a) (g u v)
 
 module _ (board : Board) (t : List ℤ) (side : Side) (a b k : ℕ) (ok : Checked board t) (after : List ℤ) (tried : Trying board t side a b k after true) where
-  pub rows_shared : (words words' : List ℕ) (made : Bool) → RowsKept side board t words made → length words' ≡ length words → (made ≡ true → OneSource board.vertices a b words words') → RowsKept side board after words' made
+  pub rows_shared : (words words' : List Set) (made : Bool) → RowsKept side board t words made → length words' ≡ length words → (made ≡ true → OneSource board.vertices a b words words') → RowsKept side board after words' made
   rows_shared words words' made h long one = record { long = long ∙ h.long; outputs = h.outputs; sets = λ m. go side (h.outputs m) (share_graph board t side a b k ok after tried) (h.sets m) (one m) }
     where
       go : (x : Side) → x ≡ Outputs → (e : ℤ) × (graph_of board.vertices after ≡ shared x a b k (graph_of board.vertices t) e) → RowSets board.vertices (graph_of board.vertices t) words → OneSource board.vertices a b words words'

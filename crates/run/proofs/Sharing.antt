@@ -11,6 +11,7 @@ use Rattle.reduction.specs.Run.{Progress, Try, round, numbers}
 use Rattle.reduction.proofs.Rounds.{All, Gains}
 use Rattle.reduction.proofs.Run.{all_pairs, step_gains, share_gains}
 use Rattle.paths.specs.declared.board.Board.{Board}
+use Rattle.sets.specs.declared.Set.{Set}
 use Rattle.run.specs.declared.side.Side.{Side}
 use Rattle.run.specs.declared.side.Side.TheVariants.{Inputs, Outputs}
 use Rattle.run.specs.declared.share_tries.Tally.{Tally}
@@ -26,7 +27,7 @@ pub share_tries_gain : (m n N : ℕ) (side : Side) (s : ℕ) → All (Gains m n 
 share_tries_gain m n N side s = all_pairs (Gains m n N) (try_share m n N side s) (numbers (first_of side m) (count_of side m n)) (numbers (first_of side m) (count_of side m n)) (share_try_gains m n N side s)
 
 -- from table₀ with tries `all` to table with tries `left`
-pub record Sharing (b : Board) (M : List ℤ) (side : Side) (order : List ℕ) (all : ℕ → List Try) (table₀ : List ℤ) (steps : ℕ) (left : ℕ → List Try) (table : List ℤ) (words : List ℕ) (rich : List Bool) (tally : Tally) : Type 0 where
+pub record Sharing (b : Board) (M : List ℤ) (side : Side) (order : List ℕ) (all : ℕ → List Try) (table₀ : List ℤ) (steps : ℕ) (left : ℕ → List Try) (table : List ℤ) (words : List Set) (rich : List Bool) (tally : Tally) : Type 0 where
   pub running : Running b (progress table tally.steps)
   pub held : Held b M table
   pub ready : Ready side b table order tally.fresh tally.sorted
@@ -37,7 +38,7 @@ pub record Sharing (b : Board) (M : List ℤ) (side : Side) (order : List ℕ) (
 
 module _ {b : Board} {M : List ℤ} {side : Side} {order : List ℕ} {table : List ℤ} (tally : Tally) where
   -- nothing tried yet; the tries may be said in another way
-  pub sharing_none : {words : List ℕ} {rich : List Bool} (all left : ℕ → List Try) → ((s : ℕ) → all s ≡ left s) → Running b (progress table tally.steps) → Held b M table → Ready side b table order tally.fresh tally.sorted → Counted side b table rich → RowsKept side b table words tally.made
+  pub sharing_none : {words : List Set} {rich : List Bool} (all left : ℕ → List Try) → ((s : ℕ) → all s ≡ left s) → Running b (progress table tally.steps) → Held b M table → Ready side b table order tally.fresh tally.sorted → Counted side b table rich → RowsKept side b table words tally.made
       → Sharing b M side order all table tally.steps left table words rich tally
   sharing_none all left e run held ready counted rows = record {
     running = run;
@@ -51,7 +52,7 @@ module _ {b : Board} {M : List ℤ} {side : Side} {order : List ℕ} {table : Li
 
   -- one try
   pub sharing_one : (x y : ℕ) (all left : ℕ → List Try) → ((s : ℕ) → all s ≡ try_share b.inputs b.outputs b.vertices side s x y ∷ left s) → Running b (progress table tally.steps) → Held b M table
-      → (table' : List ℤ) (words' : List ℕ) (rich' : List Bool) (tally' : Tally)
+      → (table' : List ℤ) (words' : List Set) (rich' : List Bool) (tally' : Tally)
       → Reaches b.vertices (λ s. try_share b.inputs b.outputs b.vertices side s x y ∷ []) (progress table tally.steps) (progress table' tally'.steps)
       → Ready side b table' order tally'.fresh tally'.sorted → Counted side b table' rich' → RowsKept side b table' words' tally'.made
       → Sharing b M side order all table tally.steps left table' words' rich' tally'
@@ -79,8 +80,8 @@ module _ {b : Board} {M : List ℤ} {side : Side} {order : List ℕ} {table : Li
       gain s = (share_try_gains b.inputs b.outputs b.vertices side s x y, tt)
 
 -- one way after another
-pub sharing_on : {b : Board} {M : List ℤ} {side : Side} {order : List ℕ} {all left left' : ℕ → List Try} {table₀ : List ℤ} {steps : ℕ} {table : List ℤ} {words : List ℕ} {rich : List Bool} {tally : Tally}
-    {table' : List ℤ} {words' : List ℕ} {rich' : List Bool} {tally' : Tally}
+pub sharing_on : {b : Board} {M : List ℤ} {side : Side} {order : List ℕ} {all left left' : ℕ → List Try} {table₀ : List ℤ} {steps : ℕ} {table : List ℤ} {words : List Set} {rich : List Bool} {tally : Tally}
+    {table' : List ℤ} {words' : List Set} {rich' : List Bool} {tally' : Tally}
     → Sharing b M side order all table₀ steps left table words rich tally → Sharing b M side order left table tally.steps left' table' words' rich' tally'
     → Sharing b M side order all table₀ steps left' table' words' rich' tally'
 sharing_on h k = record {
@@ -94,10 +95,10 @@ sharing_on h k = record {
 }
 
 -- the same state, under other names
-pub sharing_is : {b : Board} {M : List ℤ} {side : Side} {order : List ℕ} {all left : ℕ → List Try} {table₀ : List ℤ} {steps : ℕ} {table table' : List ℤ} {words words' : List ℕ} {rich rich' : List Bool} {tally tally' : Tally}
+pub sharing_is : {b : Board} {M : List ℤ} {side : Side} {order : List ℕ} {all left : ℕ → List Try} {table₀ : List ℤ} {steps : ℕ} {table table' : List ℤ} {words words' : List Set} {rich rich' : List Bool} {tally tally' : Tally}
     → table ≡ table' → words ≡ words' → rich ≡ rich' → tally ≡ tally' → Sharing b M side order all table₀ steps left table' words' rich' tally' → Sharing b M side order all table₀ steps left table words rich tally
 sharing_is {b} {M} {side} {order} {all} {left} {table₀} {steps} {table} {table'} {words} {words'} {rich} {rich'} {tally} {tally'} t s r c h =
     subst (λ (x : List ℤ). Sharing b M side order all table₀ steps left x words rich tally) (sym t)
-    (subst (λ (x : List ℕ). Sharing b M side order all table₀ steps left table' x rich tally) (sym s)
+    (subst (λ (x : List Set). Sharing b M side order all table₀ steps left table' x rich tally) (sym s)
     (subst (λ (x : List Bool). Sharing b M side order all table₀ steps left table' words' x tally) (sym r)
     (subst (λ (x : Tally). Sharing b M side order all table₀ steps left table' words' rich' x) (sym c) h)))

@@ -11,6 +11,7 @@ use Rattle.reduction.specs.Lean.{LeanTable}
 use Rattle.paths.specs.declared.board.Board.{Board}
 use Rattle.paths.specs.Board.{graph_in}
 use Rattle.paths.specs.Checked.{Checked, Passable}
+use Rattle.sets.specs.declared.Set.{Set}
 use Rattle.reach.specs.RowSets.{RowSets}
 use Rattle.plans.specs.OnBoards.{table_by}
 use Rattle.run.specs.declared.side.Side.{Side}
@@ -41,9 +42,9 @@ pub record Counted (side : Side) (b : Board) (t : List ℤ) (rich : List Bool) :
   pub long : length rich ≡ max_vertices
   pub each : (v : ℕ) → OnSide b side v → get_or rich v false ≡ is_rich side b.vertices (graph_of b.vertices t) v
 
--- the words for the table's row sets: where `made`, these are there, and outputs are shared
-pub record RowsKept (side : Side) (b : Board) (t : List ℤ) (words : List ℕ) (made : Bool) : Type 0 where
-  pub long : length words ≡ 2 * max_vertices
+-- room for the table's row sets: where `made`, these are there, and outputs are shared
+pub record RowsKept (side : Side) (b : Board) (t : List ℤ) (words : List Set) (made : Bool) : Type 0 where
+  pub long : length words ≡ max_vertices
   pub outputs : made ≡ true → side ≡ Outputs
   pub sets : made ≡ true → RowSets b.vertices (graph_in b t) words
 

@@ -1,6 +1,6 @@
 // A try of a share whose rows or columns have been compared.
 ghost use Rattle.timing.specs.Refusal.{verdict};
-ghost use Rattle.std.specs.Prelude.{◌≡◌, true, ◌*◌, ◌<◌, ◌≤◌, length};
+ghost use Rattle.std.specs.Prelude.{◌≡◌, true, ◌<◌, ◌≤◌, length};
 ghost use Rattle.paths.specs.Checked.{Passable, Checked};
 ghost use Rattle.paths.specs.Board.{Sized};
 ghost use Rattle.reach.specs.RowSets.{OneSource};
@@ -16,6 +16,7 @@ use paths::order::Order;
 use paths::{Board, cells};
 use plans::rewrite::Rewriting;
 use plans::{rewrite, share_inputs, share_outputs};
+use sets::Set;
 use timing::Refusal;
 
 // The steps accepted so far, the smallest free number where inputs are shared, whether the order is one of the table's, and whether its row sets are there.
@@ -60,7 +61,7 @@ fn share_columns(
     table: &mut [i32],
     order: &Order,
     sorted: bool,
-    words: &mut [u64],
+    words: &mut [Set],
     made: bool,
     a: usize,
     b: usize,
@@ -102,7 +103,7 @@ fn share(
     table: &mut [i32],
     order: &Order,
     sorted: bool,
-    words: &mut [u64],
+    words: &mut [Set],
     side: Side,
     made: bool,
     a: usize,
@@ -128,15 +129,15 @@ fn share(
 }
 
 // The row sets that are there, after an accepted share of outputs.
-fn keep_up(board: Board, words: &mut [u64], made: bool, a: usize, b: usize)
+fn keep_up(board: Board, words: &mut [Set], made: bool, a: usize, b: usize)
     requires sized { Sized board }
-    requires vertices_in_bounds { 2 * board.vertices ≤ length words.old }
+    requires vertices_in_bounds { board.vertices ≤ length words.old }
     requires a_lt_vertices { a < board.vertices }
     requires b_lt_vertices { b < board.vertices }
     ensures { made ≡ true → OneSource board.vertices a b words.old words.new }
 {
     if made {
-        reach::one_source(words, board.vertices, a, b);
+        reach::one_source(&mut words[..board.vertices], a, b);
     }
 }
 
@@ -146,7 +147,7 @@ pub fn try_share(
     table: &mut [i32],
     order: &Order,
     rich: &mut [bool; Board::MAX_VERTICES],
-    words: &mut [u64],
+    words: &mut [Set],
     side: Side,
     a: usize,
     b: usize,

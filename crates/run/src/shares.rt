@@ -44,7 +44,7 @@ pub fn shares(
         return tally;
     }
     let mut rich = counts::rich_ones(board, table, side);
-    let mut words = reach::words();
+    let mut words = reach::sets();
     let mut a = from;
     'firsts: while a < end {
         let mut b = from;

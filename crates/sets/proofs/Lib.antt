@@ -1,4 +1,3 @@
 pub mod Words
 pub mod Members
-pub mod Storing
 pub mod Counting

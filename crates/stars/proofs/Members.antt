@@ -2,20 +2,24 @@
 use mathlib.Core.Path.{◌≡◌, refl, sym, ap, ◌∙◌}
 use mathlib.Core.Bool.{Bool, true, false, not, ◌&&◌, ◌||◌}
 use mathlib.Core.List.{List, [], ◌∷◌}
-use Prim.Native.Nat.{ℕ, zero, suc, ◌+◌, ◌≤◌, ◌<◌}
+use Prim.Native.Nat.{ℕ, zero, suc, ◌+◌, ◌*◌, ◌≤◌, ◌<◌}
 use native.Mathlib.Nat.{not-suc-le-zero}
 use native.Mathlib.Numerals.{add-one}
 use native.Mathlib.Omega.{arith}
-use lib.Dec.{T, eqb, ltb, ltb→lt, lt→ltb}
+use lib.Dec.{T, eqb, eqb→eq, ltb, ltb→lt, lt→ltb}
 use lib.ListN.{length, get_or, drop, drop_of_length-le}
 use lib.Seq.{drop-cons}
+use Rattle.std.specs.List.{list_all, list_any, slice_range}
+use Rattle.std.proofs.lemmas.List.{take_rest}
+use Rattle.std.proofs.lemmas.List.Recursion.{same_from_clauses}
 use Rattle.laws.specs.Bounded.{each, member}
 use Rattle.laws.proofs.Booleans.{is_true, is_false, and_i, and_e, or_l, or_r, eq→eqb}
 use Rattle.laws.proofs.Bounded.{each_at}
+use Rattle.laws.proofs.Grid.{row_in}
 use Rattle.reduction.specs.Star.{non_empty, distinct}
 use Rattle.stars.specs.Members.{sum_over}
 use Rattle.stars.specs.StarReady.{below}
-use Rattle.laws.proofs.Truth.{no_second}
+use Rattle.laws.proofs.Truth.{same_truth}
 
 pub rest : (xs : List ℕ) (i : ℕ) → i < length xs → drop i xs ≡ get_or xs i 0 ∷ drop (i + 1) xs
 rest xs i l = drop-cons xs i 0 l ∙ ap (λ (k : ℕ). get_or xs i 0 ∷ drop k xs) (sym (add-one i))
@@ -31,11 +35,15 @@ module _ (xs : List ℕ) (i : ℕ) (l : i < length xs) where
   each_stop f e = ap (λ (ys : List ℕ). each ys f) (rest xs i l) ∙ ap (λ (b : Bool). b && each (drop (i + 1) xs) f) e
 
   -- a test so far, with what is left
-  pub so_far_pass : (f : ℕ → Bool) (r : Bool) → f (get_or xs i 0) ≡ true → (r && each (drop i xs) f) ≡ each xs f → (r && each (drop (i + 1) xs) f) ≡ each xs f
-  so_far_pass f r e h = ap (λ (b : Bool). r && b) (sym (each_pass f e)) ∙ h
-
-  pub so_far_stop : (f : ℕ → Bool) (r : Bool) → f (get_or xs i 0) ≡ false → (r && each (drop i xs) f) ≡ each xs f → false ≡ each xs f
-  so_far_stop f r e h = sym (no_second r (each (drop i xs) f) (each_stop f e)) ∙ h
+  pub so_far_turn : (f : ℕ → Bool) (r b : Bool) → f (get_or xs i 0) ≡ b → (r && each (drop i xs) f) ≡ each xs f → ((r && b) && each (drop (i + 1) xs) f) ≡ each xs f
+  unfolding each
+  so_far_turn f r b e h =
+      and_both r b (each (drop (i + 1) xs) f)
+      ∙ ap (λ (c : Bool). r && c) (sym (ap (λ (ys : List ℕ). each ys f) (rest xs i l) ∙ ap (λ (c : Bool). c && each (drop (i + 1) xs) f) e)) ∙ h
+    where
+      and_both : (x y z : Bool) → ((x && y) && z) ≡ (x && (y && z))
+      and_both true y z = refl
+      and_both false y z = refl
 
   pub member_pass : (x : ℕ) → eqb x (get_or xs i 0) ≡ false → member x (drop i xs) ≡ member x (drop (i + 1) xs)
   unfolding member
@@ -87,6 +95,10 @@ below-member N xs t x m = ltb→lt x N (each_at xs (λ x. ltb x N) t x m)
 pub below_at : (N : ℕ) (xs : List ℕ) → T (below N xs) → (i : ℕ) → i < length xs → get_or xs i 0 < N
 below_at N xs t i l = below-member N xs t (get_or xs i 0) (member_at xs i l)
 
+-- the row of a member
+pub row_inside : (N : ℕ) (xs : List ℕ) → T (below N xs) → (i : ℕ) → i < length xs → N * get_or xs i 0 + N ≤ N * N
+row_inside N xs t i l = row_in N (get_or xs i 0) (below_at N xs t i l)
+
 pub is_below : (x n : ℕ) → x < n → ltb x n ≡ true
 is_below x n h = is_true (ltb x n) (lt→ltb x n h)
 
@@ -111,3 +123,23 @@ below_wider m n [] h t = tt
 below_wider m n (x ∷ xs) h t =
     let p = and_e (ltb x m) (below m xs) t in
     and_i (ltb x n) (below n xs) (lt→ltb x n (omega (arith, ltb→lt x m p.0))) (below_wider m n xs h p.1)
+
+-- ---- as std's tests
+
+pub each_is : (f : ℕ → Bool) (xs : List ℕ) → list_all f xs ≡ each xs f
+unfolding each
+each_is f = same_from_clauses (list_all f) (λ xs. each xs f) (λ x b. f x && b) refl (λ _ _. refl) (λ _ _. refl)
+
+pub below_is : (n : ℕ) (xs : List ℕ) → list_all (λ x. ltb x n) xs ≡ below n xs
+unfolding below
+below_is n = each_is (λ x. ltb x n)
+
+-- whether x stands in the list from place i on
+pub found_is : (x : ℕ) (xs : List ℕ) (i : ℕ) → list_any (λ y. eqb y x) (slice_range xs i (length xs)) ≡ member x (drop i xs)
+unfolding member
+found_is x xs i =
+    ap (list_any (λ y. eqb y x)) (take_rest xs i)
+    ∙ same_from_clauses (list_any (λ y. eqb y x)) (member x) (λ y b. eqb x y || b) refl (λ y ys. ap (λ (b : Bool). b || list_any (λ y. eqb y x) ys) (turned y)) (λ _ _. refl) (drop i xs)
+  where
+    turned : (y : ℕ) → eqb y x ≡ eqb x y
+    turned y = same_truth (eqb y x) (eqb x y) (λ t. eq→eqb x y (sym (eqb→eq y x t))) (λ t. eq→eqb y x (sym (eqb→eq x y t)))

@@ -2,18 +2,23 @@
 use mathlib.Core.Path.{◌≡◌, refl, ap, ap₂, ◌∙◌, subst}
 use mathlib.Core.Bool.{Bool, true, false, not, cond, ◌&&◌, ◌||◌}
 use mathlib.Core.List.{List, [], ◌∷◌}
-use Prim.Native.Nat.{ℕ, ◌+◌, ◌≤◌}
+use Prim.Native.Nat.{ℕ, ◌+◌, ◌*◌, ◌≤◌, ◌<◌}
 use native.Mathlib.Omega.{arith}
 use lib.Dec.{T, T_not, eqb, ltb, ltb→lt}
+use lib.IntN.{ℤ}
 use lib.ListN.{length}
 use Rattle.laws.specs.Bounded.{sum, each, member}
 use Rattle.laws.proofs.Booleans.{T_true, and_e, or_l, or_r, eq→eqb, eqb_other}
 use Rattle.laws.proofs.Sums.{sum_zero, sum_pick, sum_bound}
 use Rattle.laws.proofs.Update.{update, update_other, update_elim}
-use Rattle.graph.specs.Delay.{Delay, ◌⋒◌, least}
+use Rattle.graph.specs.Delay.{Delay, ◌⋒◌, least, present}
+use Rattle.timing.specs.Table.{graph_of}
+use Rattle.paths.specs.Cells.{cell_at}
+use Rattle.paths.proofs.Rows.{lent, lent_cell}
 use Rattle.reduction.specs.Star.{distinct}
 use Rattle.stars.specs.Members.{sum_over}
 use Rattle.stars.specs.StarReady.{below}
+use Rattle.stars.proofs.Members.{below-member}
 
 -- ---- functions that agree on the members
 
@@ -78,3 +83,8 @@ set-size N xs b d =
       sum_members N xs (λ u. cond (member u xs) 1 0) b d (λ u m. ap (λ (t : Bool). cond t 1 0) m),
       sum_bound N (λ u. cond (member u xs) 1 0) (λ u. one_at_most (member u xs)),
     )
+
+-- a row of a table as it is lent, at vertices below N
+pub joined_lent : (N : ℕ) (t : List ℤ) (u : ℕ) (room : N * N ≤ length t) (l : u < N) (ts : List ℕ) → T (below N ts)
+    → each ts (λ v. present (cell_at (lent N t u room l) v)) ≡ each ts (λ v. present (graph_of N t u v))
+joined_lent N t u room l ts b = each_same ts _ _ (λ v m. ap present (lent_cell N t u room l v (below-member N ts b v m)))

@@ -28,42 +28,14 @@ struct Weight {
 fn all_below(xs: &[usize], n: usize) -> bool
     ensures { result ≡ below n xs.now }
 {
-    let mut i = 0;
-    while i < xs.len() {
-        if n <= xs[i] {
-            return false;
-        }
-        i += 1;
-    }
-    true
+    xs.iter().all(|x| *x < n)
 }
 
 // Refusal 7.
 fn exist(sources: &[usize], targets: &[usize], k: usize, n: usize) -> bool
     ensures { result ≡ (below n sources.now && below n targets.now && ltb k n) }
 {
-    if !all_below(sources, n) {
-        return false;
-    }
-    if !all_below(targets, n) {
-        return false;
-    }
-    k < n
-}
-
-// Whether x stands in the list, from place `from` on.
-fn found(xs: &[usize], from: usize, x: usize) -> bool
-    requires { from ≤ length xs.now }
-    ensures { result ≡ member x (drop from xs.now) }
-{
-    let mut i = from;
-    while i < xs.len() {
-        if x == xs[i] {
-            return true;
-        }
-        i += 1;
-    }
-    false
+    all_below(sources, n) && all_below(targets, n) && k < n
 }
 
 // Whether vertices below n are a set with a member; a list that is too long is not searched.
@@ -71,39 +43,33 @@ fn is_set(xs: &[usize], n: usize) -> bool
     requires { T (below n xs.now) }
     ensures { result ≡ (non_empty xs.now && distinct xs.now) }
 {
-    if xs.len() == 0 {
+    if xs.is_empty() || n < xs.len() {
         return false;
     }
-    if n < xs.len() {
-        return false;
-    }
-    let mut i = 0;
-    while i < xs.len() {
-        if found(xs, i + 1, xs[i]) {
+    for (i, x) in xs.iter().enumerate() {
+        if xs[i + 1..].contains(x) {
             return false;
         }
-        i += 1;
     }
     true
 }
 
 // Whether a row has an arc to each target.
+#[tactic(auto, using(crate::proofs::Members::below_at))]
 fn row_joined(row: &[i32], targets: &[usize]) -> bool
     requires { T (below (length row.now) targets.now) }
     ensures { result ≡ each targets.now (λ t. present (cell_at row.now t)) }
 {
-    let mut i = 0;
-    while i < targets.len() {
-        let t = targets[i];
+    for &t in targets {
         if !cells::is_arc(row[t]) {
             return false;
         }
-        i += 1;
     }
     true
 }
 
 // Whether each source has an arc to each target.
+#[tactic(auto, using(crate::proofs::Members::row_inside))]
 fn all_joined(board: Board, table: &[i32], sources: &[usize], targets: &[usize]) -> bool
     requires lent { Lent board table.now }
     requires t { T (below board.vertices sources.now) }
@@ -111,14 +77,10 @@ fn all_joined(board: Board, table: &[i32], sources: &[usize], targets: &[usize])
     ensures { result ≡ each sources.now (λ s. each targets.now (λ t. present (graph_in board table.now s t))) }
 {
     let n = board.vertices;
-    let mut i = 0;
-    while i < sources.len() {
-        let s = sources[i];
-        let at = n * s;
-        if !row_joined(&table[at..], targets) {
+    for &s in sources {
+        if !row_joined(&table[n * s..], targets) {
             return false;
         }
-        i += 1;
     }
     true
 }
@@ -126,16 +88,7 @@ fn all_joined(board: Board, table: &[i32], sources: &[usize], targets: &[usize])
 fn difference(a: i32, b: i32) -> i64
     ensures { result ≡ a -ℤ b }
 {
-    (a as i64) - (b as i64)
-}
-
-fn lesser(a: i64, b: i64) -> i64
-    ensures { result ≡ min_z a b }
-{
-    if b < a {
-        return b;
-    }
-    a
+    i64::from(a) - i64::from(b)
 }
 
 // Whether an arc's delay is its sum through the centre.
@@ -146,37 +99,33 @@ fn is_covered(delay: i32, first: i32, e: i64) -> bool
 }
 
 // The least difference between a row and the first source's, over the targets.
+#[tactic(auto, using(crate::proofs::Members::below_at))]
 fn least_difference(row: &[i32], first: &Row, targets: &[usize]) -> i64
     requires t { T (below (length row.now) targets.now) }
     requires t_2 { T (below max_vertices targets.now) }
     requires t_3 { T (non_empty targets.now) }
     ensures { at result ≡ least_gap row.now first.now targets.now }
 {
-    let mut i = targets.len() - 1;
-    let last = targets[i];
-    let mut e = difference(row[last], first[last]);
-    while 0 < i {
-        i -= 1;
-        let t = targets[i];
-        e = lesser(difference(row[t], first[t]), e);
+    let t = targets[0];
+    let mut least = difference(row[t], first[t]);
+    for &t in &targets[1..] {
+        least = least.min(difference(row[t], first[t]));
     }
-    e
+    least
 }
 
 // How many targets' arcs are equal to their sum through the centre.
+#[tactic(auto, using(crate::proofs::Members::below_at))]
 fn row_covered(row: &[i32], first: &Row, targets: &[usize], e: i64) -> usize
     requires t { T (below (length row.now) targets.now) }
     requires t_2 { T (below max_vertices targets.now) }
     ensures { result ≡ meeting row.now first.now targets.now e }
 {
     let mut total = 0;
-    let mut i = 0;
-    while i < targets.len() {
-        let t = targets[i];
+    for &t in targets {
         if is_covered(row[t], first[t], e) {
             total += 1;
         }
-        i += 1;
     }
     total
 }
@@ -197,6 +146,7 @@ fn weigh(row: &[i32], first: &Row, targets: &[usize]) -> Weight
 }
 
 // What all sources make.
+#[tactic(auto, using(crate::proofs::Members::row_inside))]
 fn weigh_all(board: Board, table: &[i32], sources: &[usize], targets: &[usize]) -> Weight
     requires lent { Lent board table.now }
     requires bundle { Bundle board.vertices sources.now targets.now (graph_in board table.now) }
@@ -207,15 +157,10 @@ fn weigh_all(board: Board, table: &[i32], sources: &[usize], targets: &[usize]) 
     let first = rows::row_copy(table, n * sources[0], n);
     let mut covered = 0;
     let mut in_range = true;
-    let mut i = 0;
-    while i < sources.len() {
-        let at = n * sources[i];
-        let one = weigh(&table[at..], &first, targets);
+    for &s in sources {
+        let one = weigh(&table[n * s..], &first, targets);
         covered += one.covered;
-        if !one.in_range {
-            in_range = false;
-        }
-        i += 1;
+        in_range &= one.in_range;
     }
     Weight { covered, in_range }
 }
@@ -259,47 +204,41 @@ pub fn star_verdict(
 }
 
 // The marks of a list's members.
+#[tactic(auto, using(crate::proofs::Members::below_at))]
 fn marks(xs: &[usize]) -> [bool; Board::MAX_VERTICES]
     requires { T (below max_vertices xs.now) }
     ensures { (v : ℕ) → v < max_vertices → get_or result v false ≡ member v xs.now }
 {
     let mut marked = [false; Board::MAX_VERTICES];
-    let mut i = 0;
-    while i < xs.len() {
-        let x = xs[i];
+    for &x in xs {
         marked[x] = true;
-        i += 1;
     }
     marked
 }
 
 // The centre's row: the first source's delays at the targets.
+#[tactic(auto, using(crate::proofs::Members::below_at))]
 fn centre_row(row: &mut [i32], first: &Row, targets: &[usize])
     requires vertex_set { VertexSet (length row.old) targets.now }
     requires row_len_bound { length row.old ≤ max_vertices }
     ensures { row.new ≡ remade (centre_cell row.old first.now targets.now) row.old }
 {
-    let mut i = 0;
-    while i < targets.len() {
-        let t = targets[i];
+    for &t in targets {
         row[t] = first[t];
-        i += 1;
     }
 }
 
 // Clears the covered arcs of a source's row.
+#[tactic(auto, using(crate::proofs::Members::below_at))]
 fn clear_covered(row: &mut [i32], first: &Row, targets: &[usize], e: i64)
     requires vertex_set { VertexSet (length row.old) targets.now }
     requires row_len_bound { length row.old ≤ max_vertices }
     ensures { row.new ≡ remade (cleared_cell row.old first.now targets.now e) row.old }
 {
-    let mut i = 0;
-    while i < targets.len() {
-        let t = targets[i];
+    for &t in targets {
         if is_covered(row[t], first[t], e) {
             row[t] = Board::ABSENT;
         }
-        i += 1;
     }
 }
 
@@ -334,6 +273,7 @@ fn row_after(row: &mut [i32], first: &Row, targets: &[usize], k: usize, u: usize
 }
 
 // The step: one pass over the rows.
+#[tactic(auto, using(crate::proofs::Members::row_inside))]
 pub fn star_apply(board: Board, table: &mut [i32], sources: &[usize], targets: &[usize], k: usize)
     requires lent { Lent board table.old }
     requires star_ready_on { StarReadyOn board table.old sources.now targets.now k }
@@ -342,11 +282,8 @@ pub fn star_apply(board: Board, table: &mut [i32], sources: &[usize], targets: &
     let n = board.vertices;
     let first = rows::row_copy(table, n * sources[0], n);
     let is_source = marks(sources);
-    let mut u = 0;
-    while u < n {
+    for u in 0..n {
         let at = n * u;
-        let end = at + n;
-        row_after(&mut table[at..end], &first, targets, k, u, is_source[u]);
-        u += 1;
+        row_after(&mut table[at..at + n], &first, targets, k, u, is_source[u]);
     }
 }

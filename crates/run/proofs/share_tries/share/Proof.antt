@@ -36,23 +36,23 @@ module _ (s : tie.Start) (x : Side) (is : s.args.side ≡ x) where
 share_rows-accepted-requires : tie.Need-share_rows-accepted-requires
 share_rows-accepted-requires c κs =
     let is = c.in-Inputs.is in
-    (c.requires.0, (pair c.before.before.before Inputs is, (compared c.before.before.before Inputs is, c.requires.1.0.fresh is)))
+    (c.requires.0, (pair c.before.before Inputs is, (compared c.before.before Inputs is, c.requires.1.0.fresh is)))
 
 share_columns-requires : tie.Need-share_columns-requires
 share_columns-requires c κs =
     let is = c.in-Outputs.is in
     let rows = c.requires.1.1.0 in
-    (c.requires.0, (c.requires.1.0.order, (pair c.before.before.before.before Outputs is, (compared c.before.before.before.before Outputs is, record { long = omega (arith, rows.long, c.requires.0.lent.sized.few); sets = rows.sets }))))
+    (c.requires.0, (c.requires.1.0.order, (pair c.before.before.before Outputs is, (compared c.before.before.before Outputs is, record { long = omega (arith, rows.long, c.requires.0.lent.sized.few); sets = rows.sets }))))
 
 returns-in-Inputs : tie.Need-returns-in-Inputs
 returns-in-Inputs c =
-    (trying c.before.before.before.before.before Inputs c.in-Inputs.is c.share_rows-accepted.new.table c.share_rows-accepted.result c.share_rows-accepted.ensures, c.requires.1.1.0)
+    (trying c.before.before.before.before Inputs c.in-Inputs.is c.share_rows-accepted.new.table c.share_rows-accepted.result c.share_rows-accepted.ensures, c.requires.1.1.0)
 
 returns-in-Outputs : tie.Need-returns-in-Outputs
 returns-in-Outputs c =
     let is = c.in-Outputs.is in
     let x = c.share_columns in
-    (trying c.before.before.before.before.before.before.before.before Outputs is x.new.table x.result.accepted x.ensures.0, record { long = x.auto.words ∙ c.requires.1.1.0.long; outputs = λ _. is; sets = x.ensures.1.sets })
+    (trying c.before.before.before.before.before.before Outputs is x.new.table x.result.accepted x.ensures.0, record { long = x.auto.words ∙ c.requires.1.1.0.long; outputs = λ _. is; sets = x.ensures.1.sets })
 
 pub share_spec : {M : Type 1} → statement M
 share_spec =

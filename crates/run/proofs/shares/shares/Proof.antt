@@ -1,6 +1,6 @@
 use Rattle.timing.specs.Refusal.{verdict}
 use borrow.Author.Rules.{rules}
-use mathlib.Core.Path.{◌≡◌, refl, sym, ap, ap₂, ◌∙◌, subst}
+use mathlib.Core.Path.{◌≡◌, sym, ap, ap₂, ◌∙◌, subst}
 use mathlib.Core.Logic.{◌≢◌}
 use mathlib.Core.Bool.{true, false}
 use mathlib.Core.List.{List, [], ◌∷◌}
@@ -135,7 +135,7 @@ module _ (r : tie.After-rich_ones-rich invariant-compare decreases-compare invar
 firsts-init : tie.Need-firsts-init invariant-compare decreases-compare invariant-seconds decreases-seconds invariant-firsts decreases-firsts
 firsts-init c =
     let s = start c.before in
-    let unmade : RowsKept (side c.before) (board c.before) s.args.table.now c.words-words.result false = record { long = c.words-words.ensures; outputs = λ q. absurd (never q); sets = λ q. absurd (never q) } in (
+    let unmade : RowsKept (side c.before) (board c.before) s.args.table.now c.sets-words.result false = record { long = c.sets-words.ensures; outputs = λ q. absurd (never q); sets = λ q. absurd (never q) } in (
       omega (arith, from_is c.before),
       omega (arith, from_is c.before),
       sharing_none (record { steps = s.args.steps; fresh = (renewed c.before).renew.result; sorted = s.args.sorted; made = false }) (share_tries (m c.before) (n c.before) s.args.board.vertices (side c.before)) (at_first (board c.before) (side c.before) (renewed c.before).first-from.result) (λ q. firsts_all (try_share (m c.before) (n c.before) s.args.board.vertices (side c.before) q) (first_of (side c.before) (m c.before)) (count_of (side c.before) (m c.before) (n c.before)) ∙ ap (λ (x : ℕ). at_first (board c.before) (side c.before) x q) (sym (from_is c.before))) s.requires.0 s.requires.1.0 (ready (renewed c.before)) c.rich_ones-rich.ensures unmade,

@@ -1,0 +1,20 @@
+use Rattle.std.proofs.Common.{◌≡◌, ap, ◌∙◌, length, ℤ, w64, to_z, of_z, rules}
+use Rattle.laws.specs.Lists.{tabulate}
+use Rattle.graph.specs.Delay.{at, ticks}
+use Rattle.stars.specs.StarCells.{least_gap, source_cell}
+use Rattle.stars.proofs.Members.{below_wider}
+use Rattle.stars.proofs.RowCells.{source_made}
+use Rattle.stars.proofs.star.source_row.Goals as goal
+
+pub least_difference-e-requires-clause-t_2 : goal.least_difference-e-requires-clause-t_2
+least_difference-e-requires-clause-t_2 c = below_wider _ 90 c.args.targets.now c.requires.row_len_bound c.requires.vertex_set.under
+
+pub returns : goal.returns
+returns c =
+    let row = c.args.row.now in
+    let first = c.args.first.now in
+    let ts = c.args.targets.now in
+    let e = to_z w64 (of_z w64 c.least_difference-e.result) in
+    let handed_on : at e ≡ least_gap row first ts = search rules in
+    source_made row first ts c.args.k e c.clear_covered.new.row _ c.requires.k_in_bounds c.clear_covered.ensures (search rules)
+    ∙ ap (λ (z : ℤ). tabulate (length row) (source_cell row first ts c.args.k z)) (ap ticks handed_on)
