@@ -5,6 +5,7 @@ use Rattle.paths.specs.Cells.{between}
 use lib.Signed.{le_z}
 use Rattle.std.proofs.Common.{FitsSigned, w32, of_z}
 use lib.Dec.{eqb, eqb→eq}
+use mir.Val.{bool_byte}
 use mir.Facts.{sfits_lit}
 use Rattle.laws.proofs.Booleans.{T_true, cases, true_is, eq→eqb}
 use Rattle.laws.proofs.Signed.{same_bits, other_bits}
@@ -69,3 +70,11 @@ arc_bit n t u v b k l e = bit_of (graph_of n t u v) b (ap present (graph_of_at n
 
 pub read_bit : (z : ℤ) (b : Bool) → b ≡ present (read_cell absent_cell z) → bit (read_cell absent_cell z) ≡ cond b 1 0
 read_bit z b e = bit_of (read_cell absent_cell z) b (sym e)
+
+-- and as a byte
+pub byte_of_cell : (z : ℤ) (b : Bool) → b ≡ present (read_cell absent_cell z) → bool_byte b ≡ bit (read_cell absent_cell z)
+byte_of_cell z b e = go b (read_bit z b e)
+  where
+    go : (b : Bool) → bit (read_cell absent_cell z) ≡ cond b 1 0 → bool_byte b ≡ bit (read_cell absent_cell z)
+    go true q = sym q
+    go false q = sym q
