@@ -22,7 +22,7 @@ use Rattle.timing.specs.Table.{read_cell, graph_of}
 use Rattle.timing.proofs.Table.{graph_of_at}
 use Rattle.graph.specs.Delay.{Delay}
 use Rattle.laws.proofs.Bounded.{every_same}
-use Rattle.paths.specs.Cells.{cell_at, row_of}
+use Rattle.paths.specs.Cells.{cell_at, row_at}
 
 module _ (N : ℕ) (t : List ℤ) (u : ℕ) (room : N * N ≤ length t) (l : u < N) where
   abbrev pub lent : List ℤ
@@ -40,17 +40,17 @@ unfolding every
 every_next f i = rw (add-one i)
 
 -- a row of a table, cell by cell
-pub row_of_cell : (N : ℕ) (t : List ℤ) (u v : ℕ) → u < N → v < N → cell_at (row_of N u t) v ≡ graph_of N t u v
-row_of_cell N t u v l k = ap (read_cell absent_cell) (row_cell t (N * u) N v (pos 0) k) ∙ sym (graph_of_at N t u v l k)
+pub row_at_cell : (N : ℕ) (t : List ℤ) (u v : ℕ) → u < N → v < N → cell_at (row_at N u t) v ≡ graph_of N t u v
+row_at_cell N t u v l k = ap (read_cell absent_cell) (row_cell t (N * u) N v (pos 0) k) ∙ sym (graph_of_at N t u v l k)
 
-pub length-row_of : {A : Type 0} (N : ℕ) (t : List A) (u : ℕ) → N * N ≤ length t → u < N → length (row_of N u t) ≡ N
-length-row_of N t u room l = simp (length-take, length-drop) (omega (arith, row_in N u l))
+pub length-row_at : {A : Type 0} (N : ℕ) (t : List A) (u : ℕ) → N * N ≤ length t → u < N → length (row_at N u t) ≡ N
+length-row_at N t u room l = simp (length-take, length-drop) (omega (arith, row_in N u l))
 
 -- a test of each of a row's cells
-pub every_row : (f : Delay → Bool) (N : ℕ) (t : List ℤ) (u : ℕ) → N * N ≤ length t → u < N → every (length (row_of N u t)) (λ v. f (cell_at (row_of N u t) v)) ≡ every N (λ v. f (graph_of N t u v))
+pub every_row : (f : Delay → Bool) (N : ℕ) (t : List ℤ) (u : ℕ) → N * N ≤ length t → u < N → every (length (row_at N u t)) (λ v. f (cell_at (row_at N u t) v)) ≡ every N (λ v. f (graph_of N t u v))
 every_row f N t u room l =
-    ap (λ (k : ℕ). every k (λ v. f (cell_at (row_of N u t) v))) (length-row_of N t u room l)
-    ∙ every_same N _ _ (λ v k. ap f (row_of_cell N t u v l k))
+    ap (λ (k : ℕ). every k (λ v. f (cell_at (row_at N u t) v))) (length-row_at N t u room l)
+    ∙ every_same N _ _ (λ v k. ap f (row_at_cell N t u v l k))
 
 pub replicate_is : {A : Type 0} (n : ℕ) (x : A) → replicate n x ≡ tabulate n (λ _. x)
 replicate_is n x = is_tabulate x (replicate n x) n (λ _. x) (length-replicate n x) (λ i l. get_or-replicate n i x x l)

@@ -12,8 +12,8 @@ abbrev pub cell_at : List ℤ → ℕ → Delay
 cell_at t x = read_cell absent_cell (get_or t x (pos 0))
 
 -- row u of a table whose rows have n cells
-abbrev pub row_of : {A : Type 0} → ℕ → ℕ → List A → List A
-row_of n u t = take n (drop (n * u) t)
+abbrev pub row_at : {A : Type 0} → ℕ → ℕ → List A → List A
+row_at n u t = take n (drop (n * u) t)
 
 -- absent, or from low to high
 abbrev pub between : ℤ → ℤ → Delay → Bool

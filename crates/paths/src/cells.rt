@@ -9,7 +9,7 @@ ghost use Rattle.timing.specs.Limits.{delay_limit, absent_cell, fits};
 ghost use Rattle.timing.specs.Table.{read_cell};
 ghost use Rattle.timing.specs.Checks.{cells_fit, no_arc_into_input};
 ghost use Rattle.paths.specs.Board.{Lent, graph_in};
-ghost use Rattle.paths.specs.Cells.{cell_at, row_of, between, InTable, NextInto};
+ghost use Rattle.paths.specs.Cells.{cell_at, row_at, between, InTable, NextInto};
 
 use crate::board::Board;
 
@@ -87,7 +87,7 @@ fn row_fits(row: &[i32]) -> bool
 pub fn row(board: Board, table: &[i32], u: usize) -> &[i32]
     requires lent { Lent board table.now }
     requires u_lt_vertices { u < board.vertices }
-    ensures { result.now ≡ row_of board.vertices u table.now }
+    ensures { result.now ≡ row_at board.vertices u table.now }
 {
     let at = board.vertices * u;
     &table[at..at + board.vertices]

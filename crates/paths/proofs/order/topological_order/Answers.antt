@@ -9,19 +9,19 @@ use Rattle.timing.specs.Limits.{max_vertices}
 use Rattle.timing.specs.Table.{graph_of}
 use Rattle.timing.proofs.Table.{graph_of_within}
 use Rattle.timing.proofs.Checks.{no_cycle_acyclic, acyclic_no_cycle}
-use Rattle.paths.specs.Cells.{cell_at, row_of}
-use Rattle.paths.proofs.Rows.{row_of_cell, length-row_of}
+use Rattle.paths.specs.Cells.{cell_at, row_at}
+use Rattle.paths.proofs.Rows.{row_at_cell, length-row_at}
 use Rattle.paths.proofs.Sorting.{Going, going_start, going_step, going_kept, going_all, going_stuck, covers, order_ranked}
 use Rattle.paths.proofs.order.topological_order.Goals as goal
 
 -- a turn: u is the vertex found, and `row` its row
 module _ (n : ℕ) (t : List ℤ) (o f₀ : List ℕ) (p from u : ℕ) (row : List ℤ) (few : n ≤ max_vertices) (room : n * n ≤ length t) (G : Going n (graph_of n t) o f₀ p) (p-in : p < n) (u-in : u < n) (none : get_or f₀ u 0 ≡ 0)
-    (placed : (v : ℕ) → v < from → 100 ≤ get_or f₀ v 0) (upto : from ≤ n) (is_row : row ≡ row_of n u t) where
+    (placed : (v : ℕ) → v < from → 100 ≤ get_or f₀ v 0) (upto : from ≤ n) (is_row : row ≡ row_at n u t) where
   row_long : length row ≡ n
-  row_long = ap length is_row ∙ length-row_of n t u room u-in
+  row_long = ap length is_row ∙ length-row_at n t u room u-in
 
   row_bit : (v : ℕ) → v < n → bit (cell_at row v) ≡ bit (graph_of n t u v)
-  row_bit v k = ap (λ (x : List ℤ). bit (cell_at x v)) is_row ∙ ap bit (row_of_cell n t u v u-in k)
+  row_bit v k = ap (λ (x : List ℤ). bit (cell_at x v)) is_row ∙ ap bit (row_at_cell n t u v u-in k)
 
   lowerable : (v : ℕ) → v < length row → bit (cell_at row v) ≤ get_or f₀ v 0
   lowerable v k = let l : v < n = omega (arith, row_long) in omega (arith, row_bit v l, covers (graph_of_within n t) G p-in u u-in none v l)
