@@ -236,6 +236,17 @@ module _ {n : ℕ} {t : List ℤ} {c : List ℕ} (C : Chains n t c) (u : ℕ) (r
   pub chain_lent : Chain n (walked_at (lent n t u room l) lent_chain) (λ v. get_or lent_chain v 0)
   chain_lent = chain_same walked_lent cell_lent (C.row u l).chain
 
+-- the same, of rows of N cells
+module _ {n : ℕ} {t : List ℤ} {c : List ℕ} (C : Chains n t c) (u : ℕ) (l : u < n) where
+  cell_row : (v : ℕ) → v < n → chain_at n c u v ≡ get_or (row_at n u c) v 0
+  cell_row v m = sym (row_cell c (n * u) n v 0 m)
+
+  pub walked_row : (v : ℕ) → v < n → walked (chain_at n c u) (graph_of n t u) v ≡ walked_at (row_at n u t) (row_at n u c) v
+  walked_row v m = walked_same (graph_of n t u) (cell_at (row_at n u t)) (chain_at n c u) (λ j. get_or (row_at n u c) j 0) v (sym (row_at_cell n t u v l m)) (cell_row (v - 1) (omega arith))
+
+  pub chain_row : Chain n (walked_at (row_at n u t) (row_at n u c)) (λ v. get_or (row_at n u c) v 0)
+  chain_row = chain_same walked_row cell_row (C.row u l).chain
+
 -- ---- the graph of the arcs that chains walk
 abbrev pub walked_in : ℕ → List ℤ → List ℕ → Graph
 walked_in n t c u = walked (chain_at n c u) (graph_of n t u)

@@ -8,7 +8,7 @@ ghost use Rattle.graph.specs.Count.{bit, fan_in, fan_out, arcs};
 ghost use Rattle.timing.specs.Limits.{delay_limit, absent_cell, fits};
 ghost use Rattle.timing.specs.Table.{read_cell};
 ghost use Rattle.timing.specs.Checks.{cells_fit, no_arc_into_input};
-ghost use Rattle.paths.specs.Board.{Lent, graph_in};
+ghost use Rattle.paths.specs.Board.{Sized, Lent, graph_in};
 ghost use Rattle.paths.specs.Cells.{cell_at, row_at, between, InTable, NextInto};
 
 use crate::board::Board;
@@ -83,14 +83,15 @@ fn row_fits(row: &[i32]) -> bool
     row_within(row, MIN_TICKS, MAX_TICKS)
 }
 
-// The cells of the arcs out of u.
-pub fn row(board: Board, table: &[i32], u: usize) -> &[i32]
-    requires lent { Lent board table.now }
+// The cells of vertex u, where each vertex has a row of N.
+pub fn row<T>(board: Board, cells: &[T], u: usize) -> &[T]
+    requires sized { Sized board }
+    requires room { board.vertices * board.vertices ≤ length cells.now }
     requires u_lt_vertices { u < board.vertices }
-    ensures { result.now ≡ row_at board.vertices u table.now }
+    ensures { result.now ≡ row_at board.vertices u cells.now }
 {
     let at = board.vertices * u;
-    &table[at..at + board.vertices]
+    &cells[at..at + board.vertices]
 }
 
 // Check 4: each cell is absent or in range.
