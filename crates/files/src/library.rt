@@ -26,7 +26,7 @@ pub fn fits(library: &[i32]) -> bool
     if library.len() != library::CODES {
         return false;
     }
-    cells::row_within(library, library::CODES, 0, MAX_TICKS)
+    cells::row_within(library, 0, MAX_TICKS)
 }
 
 // A code's ticks.

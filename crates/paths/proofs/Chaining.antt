@@ -1,6 +1,7 @@
 -- The chain of a row, made from its last cell to its first; and the chains of a table, row by row.
-use mathlib.Core.Path.{◌≡◌, sym, ap, ap₂, ◌∙◌}
+use mathlib.Core.Path.{◌≡◌, sym, ap, ◌∙◌, subst}
 use mathlib.Core.Logic.{◌≢◌, ◌⊎◌, inl, inr}
+use mathlib.Core.Bool.{true, false, not}
 use mathlib.Core.List.{List}
 use Prim.Native.Nat.{ℕ, ◌+◌, ◌-◌, ◌*◌, ◌≤◌, ◌<◌}
 use native.Mathlib.Omega.{arith}
@@ -10,25 +11,26 @@ use lib.IntN.{ℤ}
 use lib.ListN.{length, get_or, set, take, drop, length-set, length-take, length-drop}
 use lib.Seq.{get_or-set_same, get_or-set_other}
 use borrow.Rule.Slice.PartMut.{put_mid, same_len_mid}
-use Rattle.laws.proofs.Booleans.{split}
+use Rattle.laws.proofs.Booleans.{split, true_is}
 use Rattle.laws.proofs.Grid.{row_in, row_of, row_cell}
 use Rattle.laws.proofs.LentParts.{put_before, put_after, put_in}
 use Rattle.laws.proofs.Storing.{Stored, stored-start, stored_turn, stored_keep, stored_skip}
-use Rattle.graph.specs.Delay.{Delay, absent, at, present, ◌⊕◌, ◌⊑◌}
+use Rattle.graph.specs.Delay.{Delay, absent, present, ◌⊕◌, ◌⊑◌}
 use Rattle.graph.specs.Graph.{Graph}
 use Rattle.graph.proofs.Delay.{⊑_trans, ⊑-eq, ⊑-absent}
-use Rattle.graph.proofs.Presence.{present-⊑, absent_or}
+use Rattle.graph.proofs.Presence.{present-⊑, absent_or, absent_unless}
 use Rattle.graph.proofs.Longest.{Within}
+use Rattle.timing.specs.Limits.{delay_limit, fits}
 use Rattle.timing.specs.Table.{graph_of}
 use Rattle.timing.proofs.Table.{graph_of_within}
-use Rattle.timing.proofs.Checks.{sound_inputs}
+use Rattle.timing.proofs.Checks.{sound_inputs, sound_fits}
 use Rattle.paths.specs.declared.board.Board.{Board}
 use Rattle.paths.specs.Checked.{Checked}
-use Rattle.paths.specs.Cells.{cell_at}
+use Rattle.paths.specs.Cells.{cell_at, row_at}
 use Rattle.paths.specs.Order.{TopologicalOrder}
-use Rattle.paths.specs.Chain.{Chain, walked, walked_at, Beaten, Chained, chain_at, Chains, unbeaten}
-use Rattle.paths.proofs.Rows.{lent, lent_cell}
-use Rattle.paths.proofs.Walked.{chain_same, walked_same, chained_same, walked-⊑, chained, unbeaten_none, unbeaten-or}
+use Rattle.paths.specs.Chain.{Chain, walked, walked_at, Beaten, Chained, chain_at, Chains, unbeaten, below, Near}
+use Rattle.paths.proofs.Rows.{lent, lent_cell, row_at_cell, length-row_at}
+use Rattle.paths.proofs.Walked.{unbeaten_no, unbeaten_yes, chain_same, walked_same, chained_same, walked-⊑, chained, unbeaten_none, unbeaten-or}
 
 -- the cells from v on are done, and `after` is the first arc among them
 pub record Linked (n : ℕ) (row : ℕ → Delay) (c : List ℕ) (after v : ℕ) : Type 0 where
@@ -83,39 +85,58 @@ module _ {n : ℕ} {row : ℕ → Delay} {c : List ℕ} {after q : ℕ} (G : Lin
       go w h l (yes p) = ap row p ∙ e
       go w h l (no ne) = G.gap w (omega arith) l
 
+-- a turn of the loop that makes the chain of a row without its beaten arcs
+module _ {n : ℕ} (row next : ℕ → Delay) (d : Delay) {c : List ℕ} {after v : ℕ} (G : Linked n (unbeaten row next d) c after v) (some : 0 < v) where
+  back : Linked n (unbeaten row next d) c after (v - 1 + 1)
+  back = let e : v ≡ v - 1 + 1 = omega arith in subst (λ (k : ℕ). Linked n (unbeaten row next d) c after k) e G
+
+  pub link_kept : present (row (v - 1)) ≡ true → below (row (v - 1)) (d ⊕ next (v - 1)) ≡ false → Linked n (unbeaten row next d) (set c (v - 1) after) (v - 1) (v - 1)
+  link_kept p b = link_arc back (true_is (ap present (unbeaten_no row next d (v - 1) b) ∙ p))
+
+  pub link_beaten : below (row (v - 1)) (d ⊕ next (v - 1)) ≡ true → Linked n (unbeaten row next d) (set c (v - 1) after) after (v - 1)
+  link_beaten b = link_none back (unbeaten_yes row next d (v - 1) b)
+
+  pub link_absent : present (row (v - 1)) ≡ false → Linked n (unbeaten row next d) (set c (v - 1) after) after (v - 1)
+  link_absent p = link_none back (unbeaten_none row next d (v - 1) (absent_unless _ (true_is (ap not p))))
+
 pub linked_all : {n : ℕ} {row : ℕ → Delay} {c : List ℕ} {after : ℕ} → Linked n row c after 0 → Chain n row (λ v. get_or c v 0)
 linked_all G = record { on = λ v l. G.on v (omega arith) l; arc = λ v l. G.arcs v (omega arith) l; between = λ v w l. G.between v (omega arith) l w }
 
--- the chain of vertex u, by what is made from its lent row
-module _ {b : Board} {t : List ℤ} (k : Checked b t) (u : ℕ) (l : u < b.vertices) where
-  abbrev n : ℕ
-  n = b.vertices
+-- the chain of vertex u, without the arcs that are beaten by way of w, by what is made from their rows
+pub chained_by : {b : Board} {t : List ℤ} → Checked b t → (u w : ℕ) → u < b.vertices → w < b.vertices → {c : ℕ → ℕ}
+    → Chain b.vertices (unbeaten (cell_at (row_at b.vertices u t)) (cell_at (row_at b.vertices w t)) (graph_of b.vertices t u w)) c → Chained b.vertices (graph_of b.vertices t) u c
+chained_by {b} {t} k u w l m C = chained C (unbeaten_none row next d 0 first) (λ v h. split (unbeaten-or row next d v) (λ q. inl (q ∙ cell_is v h)) (λ q. inr (
+  q.0,
+  record {
+    via = w;
+    longer = λ j. q.1 (⊑_trans (⊑-eq (ap (λ (x : Delay). d ⊕ x) (row_at_cell n t w v m h))) (⊑_trans j (⊑-eq (sym (cell_is v h)))));
+  },
+)))
+  where
+    n : ℕ
+    n = b.vertices
 
-  cell_is : (v : ℕ) → v < n → cell_at (lent n t u k.lent.room l) v ≡ graph_of n t u v
-  cell_is = lent_cell n t u k.lent.room l
+    row : ℕ → Delay
+    row = cell_at (row_at n u t)
 
-  first : cell_at (lent n t u k.lent.room l) 0 ≡ absent
-  first = cell_is 0 (omega (arith, k.lent.sized)) ∙ sound_inputs k.sound u 0 k.lent.sized.some_inputs
+    next : ℕ → Delay
+    next = cell_at (row_at n w t)
 
-  pub chained_all : {c : ℕ → ℕ} → Chain b.vertices (cell_at (lent b.vertices t u k.lent.room l)) c → Chained b.vertices (graph_of b.vertices t) u c
-  chained_all C = chained C first (λ v h. inl (cell_is v h))
+    d : Delay
+    d = graph_of n t u w
 
-  -- without the arcs that are beaten by way of w
-  pub chained_by : {c : ℕ → ℕ} (w : ℕ) (m : w < b.vertices) (d : ℤ) → graph_of b.vertices t u w ≡ at d
-      → Chain b.vertices (unbeaten (cell_at (lent b.vertices t u k.lent.room l)) (cell_at (lent b.vertices t w k.lent.room m)) d) c → Chained b.vertices (graph_of b.vertices t) u c
-  chained_by w m d e C = chained C (unbeaten_none row next d 0 first) (λ v h. split (unbeaten-or row next d v) (λ q. inl (q ∙ cell_is v h)) (λ q. inr (
-    q.0,
-    record {
-      via = w;
-      longer = λ j. q.1 (⊑_trans (⊑-eq (ap₂ ◌⊕◌ (sym e) (lent_cell n t w k.lent.room m v h))) (⊑_trans j (⊑-eq (sym (cell_is v h)))));
-    },
-  )))
-    where
-      row : ℕ → Delay
-      row = cell_at (lent n t u k.lent.room l)
+    cell_is : (v : ℕ) → v < n → row v ≡ graph_of n t u v
+    cell_is v h = row_at_cell n t u v l h
 
-      next : ℕ → Delay
-      next = cell_at (lent n t w k.lent.room m)
+    first : row 0 ≡ absent
+    first = cell_is 0 (omega (arith, k.lent.sized)) ∙ sound_inputs k.sound u 0 k.lent.sized.some_inputs
+
+-- a row of a checked table
+pub row_near : {b : Board} {t : List ℤ} → Checked b t → (u : ℕ) → u < b.vertices → Near b.vertices (row_at b.vertices u t)
+row_near {b} {t} k u l = record {
+  room = omega (arith, length-row_at b.vertices t u k.lent.room l);
+  near = λ v h. subst (λ (d : Delay). T (fits delay_limit d)) (sym (row_at_cell b.vertices t u v l h)) (sound_fits k.sound u v);
+}
 
 -- the rows of the vertices from place p of the order on are done, and w is one of the vertices
 pub record Rows (n : ℕ) (t : List ℤ) (o c₀ c : List ℕ) (w p : ℕ) : Type 0 where
@@ -165,6 +186,14 @@ module _ {n : ℕ} {t : List ℤ} {o c₀ c : List ℕ} {w : ℕ} (p : ℕ) (s :
       go q h l (yes e) = rw e (chained_same (λ v m. sym (put_in (n * u) (n * u + n) c ys 0 (omega arith) inside sized v (omega arith))) C)
       go q h l (no ne) = chained_same (others (get_or o q 0) (λ e. ne (sym (s.vertex q l).1 ∙ ap s.rank e ∙ (s.vertex p p_in).1))) (R.done q (omega arith) l)
 
+-- a turn of the loop over the order backwards
+pub rows_back : {n : ℕ} {t : List ℤ} {o c₀ c : List ℕ} {w p : ℕ} → TopologicalOrder n (graph_of n t) o → n * n ≤ length c₀ → Rows n t o c₀ c w p → 0 < p → (u : ℕ) → u ≡ get_or o (p - 1) 0
+    → (ys : List ℕ) → length ys ≡ length (take (n * u + n - n * u) (drop (n * u) c)) → Chained n (graph_of n t) u (λ v. get_or ys v 0) → Rows n t o c₀ (put_mid (n * u) (n * u + n - n * u) c ys) u (p - 1)
+rows_back {n} {t} {o} {c₀} {c} {w} {p} s space R some u e =
+    let q : p ≡ p - 1 + 1 = omega arith in
+    subst (λ (u : ℕ). (ys : List ℕ) → length ys ≡ length (take (n * u + n - n * u) (drop (n * u) c)) → Chained n (graph_of n t) u (λ v. get_or ys v 0) → Rows n t o c₀ (put_mid (n * u) (n * u + n - n * u) c ys) u (p - 1))
+    (sym e) (rows_turn (p - 1) s space (subst (λ (k : ℕ). Rows n t o c₀ c w k) q R))
+
 -- ---- a pass along a chain that stores at arcs: the cells before v are done, and v is an arc or the end
 pub record Along {A : Type 0} (Q : ℕ → A → Type 0) (d : A) (n : ℕ) (row : ℕ → Delay) (l₀ l : List A) (v : ℕ) : Type 0 where
   pub upto : v ≤ n
@@ -206,6 +235,17 @@ module _ {n : ℕ} {t : List ℤ} {c : List ℕ} (C : Chains n t c) (u : ℕ) (r
 
   pub chain_lent : Chain n (walked_at (lent n t u room l) lent_chain) (λ v. get_or lent_chain v 0)
   chain_lent = chain_same walked_lent cell_lent (C.row u l).chain
+
+-- the same, of rows of N cells
+module _ {n : ℕ} {t : List ℤ} {c : List ℕ} (C : Chains n t c) (u : ℕ) (l : u < n) where
+  cell_row : (v : ℕ) → v < n → chain_at n c u v ≡ get_or (row_at n u c) v 0
+  cell_row v m = sym (row_cell c (n * u) n v 0 m)
+
+  pub walked_row : (v : ℕ) → v < n → walked (chain_at n c u) (graph_of n t u) v ≡ walked_at (row_at n u t) (row_at n u c) v
+  walked_row v m = walked_same (graph_of n t u) (cell_at (row_at n u t)) (chain_at n c u) (λ j. get_or (row_at n u c) j 0) v (sym (row_at_cell n t u v l m)) (cell_row (v - 1) (omega arith))
+
+  pub chain_row : Chain n (walked_at (row_at n u t) (row_at n u c)) (λ v. get_or (row_at n u c) v 0)
+  chain_row = chain_same walked_row cell_row (C.row u l).chain
 
 -- ---- the graph of the arcs that chains walk
 abbrev pub walked_in : ℕ → List ℤ → List ℕ → Graph

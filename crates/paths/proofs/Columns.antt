@@ -1,13 +1,13 @@
 -- Arcs into a vertex, as a search down its column finds them.
 use mathlib.Core.Path.{◌≡◌, sym, ap, ◌∙◌}
-use mathlib.Core.Bool.{true, false}
+use mathlib.Core.Bool.{false}
 use Prim.Native.Nat.{ℕ, zero, ◌+◌, ◌≤◌, ◌<◌}
 use native.Mathlib.Decide.{ℕ_discrete, dec_lt}
 use native.Mathlib.Omega.{arith}
 use borrow.Author.Tests.{eq-eqb, ne_eqb}
-use lib.Dec.{eqb}
+use lib.Dec.{eqb, ltb, ltb→lt}
 use Rattle.laws.specs.Bounded.{first}
-use Rattle.laws.proofs.Booleans.{T_true}
+use Rattle.laws.proofs.Booleans.{T_true, is_false}
 use Rattle.laws.proofs.Bounded.{first_none, first_found}
 use Rattle.laws.proofs.Sums.{sum_zero, sum_term, sum_pick}
 use Rattle.laws.proofs.Update.{update, update_same, update_other}
@@ -74,6 +74,9 @@ module _ (N : ℕ) (g : Graph) (v : ℕ) where
       go : Dec (r ≡ N) → eqb r N ≡ eqb (fan_in N g v) 0
       go (yes e) = eq-eqb r N e ∙ sym (eq-eqb (fan_in N g v) 0 (no_arc r s e))
       go (no ne) = ne_eqb r N ne ∙ sym (ne_eqb (fan_in N g v) 0 (λ e. omega (arith, an_arc r s (omega (arith, s.upto)))))
+
+  pub none_not_one : (p : ℕ) → NextInto N g v 0 p → N ≤ p → ltb p N ≡ eqb (fan_in N g v) 1
+  none_not_one p s l = is_false (ltb p N) (λ t. absurd (omega (arith, ltb→lt p N t))) ∙ sym (ne_eqb (fan_in N g v) 1 (λ e. omega (arith, no_arc p s (omega (arith, s.upto)))))
 
   pub one_says : (p : ℕ) → NextInto N g v 0 p → p < N → (r : ℕ) → NextInto N g v (p + 1) r → eqb r N ≡ eqb (fan_in N g v) 1
   one_says p s l r n = go (ℕ_discrete r N)

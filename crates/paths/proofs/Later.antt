@@ -1,8 +1,12 @@
 -- An arrival that is reached, and a delay after it: the sum fits 64 bits, is present, and is compared as delays are.
-use mathlib.Core.Path.{◌≡◌, sym, ap, ap₂, ◌∙◌, subst}
+use mathlib.Core.Path.{◌≡◌, refl, sym, ap, ap₂, ◌∙◌, subst}
+use mathlib.Core.List.{List}
+use Prim.Native.Nat.{ℕ, ◌<◌}
+use lib.ListN.{length, set}
+use lib.Seq.{get_or-set_same, get_or-set_other}
 use mathlib.Core.Logic.{◌≢◌}
 use lib.Dec.{T}
-use lib.IntN.{ℤ, ◌+ℤ◌, ℤ_discrete}
+use lib.IntN.{ℤ, pos, ◌+ℤ◌, ℤ_discrete}
 use lib.Signed.{◌≤ℤ◌, ◌<ℤ◌, lt_z}
 use mir.Syntax.{w64}
 use mir.Val.{SFits}
@@ -13,9 +17,10 @@ use Rattle.graph.specs.Delay.{Delay, at, ◌⋓◌, ◌⊕◌}
 use Rattle.graph.proofs.Span.{InSpan}
 use Rattle.timing.specs.Limits.{delay_limit, absent_cell, absent_wide, fits}
 use Rattle.timing.specs.Table.{read_cell}
+use Rattle.timing.specs.Delays.{arrival_in}
 use Rattle.timing.proofs.Limits.{fits_span}
 use Rattle.timing.proofs.Table.{read_absent, read_at}
-use Rattle.paths.specs.Arrivals.{reached_limit, Reached, Gains}
+use Rattle.paths.specs.Arrivals.{reached_limit, Reached, Gains, Offered}
 
 module _ (a d : ℤ) (r : Reached a) (fd : T (fits delay_limit (read_cell absent_cell d))) where
   module _ (nd : d ≢ absent_cell) where
@@ -49,3 +54,10 @@ module _ (a d : ℤ) (r : Reached a) (fd : T (fits delay_limit (read_cell absent
 
         less : (a +ℤ d) ≤ℤ best → read_cell absent_wide best ≡ read_cell absent_wide best ⋓ (read_cell absent_wide a ⊕ read_cell absent_cell d)
         less l = rw (sum_is, read_at absent_wide best (above best l), max_ge best (a +ℤ d) l)
+
+-- what an offer leaves
+pub offered_set : (f : List ℤ) (x : ℕ) (a cell y : ℤ) → x < length f → read_cell absent_wide y ≡ arrival_in f x ⋓ (read_cell absent_wide a ⊕ read_cell absent_cell cell) → Offered x a cell f (set f x y)
+offered_set f x a cell y l e = record { here = ap (read_cell absent_wide) (get_or-set_same f x y (pos 0) l) ∙ e; others = λ k ne. get_or-set_other f x k y (pos 0) ne }
+
+pub offered_keep : (f : List ℤ) (x : ℕ) (a cell : ℤ) → arrival_in f x ≡ arrival_in f x ⋓ (read_cell absent_wide a ⊕ read_cell absent_cell cell) → Offered x a cell f f
+offered_keep f x a cell e = record { here = e; others = λ k ne. refl }

@@ -22,3 +22,4 @@ pub mod ArrivalLists
 pub mod MarginTimes
 pub mod PathDelays
 pub mod WalkBounds
+pub mod Scanning

@@ -5,7 +5,9 @@ use mathlib.Core.List.{List}
 use Prim.Native.Nat.{ℕ, ◌+◌, ◌*◌, ◌≤◌, ◌<◌}
 use native.Mathlib.Omega.{arith}
 use lib.IntN.{ℤ, pos}
-use lib.ListN.{length, get_or}
+use native.Mathlib.Decide.{ℕ_discrete}
+use lib.ListN.{length, get_or, set, length-set}
+use lib.Seq.{ext_get_or, get_or-set_same, get_or-set_other}
 use Rattle.graph.specs.Delay.{Delay, absent, ◌⋓◌, ◌⊕◌}
 use Rattle.graph.proofs.Delay.{⊕-absent, ⋓-absent}
 use Rattle.timing.specs.Limits.{absent_cell, absent_wide}
@@ -33,6 +35,20 @@ all_offered {row = row} {c} {f₀ = f₀} G h e = record {
   cells = λ v k. G.stored.done v (omega arith) ∙ ap (λ (z : ℤ). arrival_in f₀ v ⋓ (read_cell absent_wide z ⊕ walked_at row c v)) e;
   rest = λ v k. G.stored.left v (omega (arith, G.upto));
 }
+
+-- a turn of the pass, by an offer at v
+pub offering_turn : {n v : ℕ} (row : List ℤ) (c : List ℕ) {a cell : ℤ} {f₀ f f' : List ℤ} → Chain n (walked_at row c) (λ v. get_or c v 0) → v < n → n ≤ length f₀ → read_cell absent_cell cell ≡ walked_at row c v
+    → length f' ≡ length f → Offered v a cell f f' → Offering n row c a f₀ f v → Offering n row c a f₀ f' (get_or c v 0)
+offering_turn {n} {v} row c {a} {f₀ = f₀} {f} {f'} C h room arc size O G =
+    subst (λ (y : List ℤ). Offering n row c a f₀ y (get_or c v 0)) (sym is_set)
+    (along_turn C f₀ (idle (walked_at row c) a f₀ n) G h room (get_or f' v (pos 0)) (O.here ∙ ap₂ (λ (z : ℤ) (d : Delay). read_cell absent_wide z ⋓ (read_cell absent_wide a ⊕ d)) (G.stored.left v (omega arith)) arc))
+  where
+    at_cell : (i : ℕ) → Dec (i ≡ v) → get_or f' i (pos 0) ≡ get_or (set f v (get_or f' v (pos 0))) i (pos 0)
+    at_cell i (yes e) = rw (e, get_or-set_same f v (get_or f' v (pos 0)) (pos 0) (omega (arith, G.stored.size)))
+    at_cell i (no ne) = O.others i ne ∙ sym (get_or-set_other f v i (get_or f' v (pos 0)) (pos 0) ne)
+
+    is_set : f' ≡ set f v (get_or f' v (pos 0))
+    is_set = ext_get_or (pos 0) f' (set f v (get_or f' v (pos 0))) (size ∙ sym (length-set f v (get_or f' v (pos 0)))) (λ i _. at_cell i (ℕ_discrete i v))
 
 -- an offer at v in lane k
 module _ {n x v : ℕ} {a cell : ℤ} {f f' : List ℤ} (k : ℕ) (e : x ≡ n * k + v) (hv : v < n) (size : length f' ≡ length f) (O : Offered x a cell f f') where

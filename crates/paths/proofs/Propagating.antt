@@ -1,5 +1,5 @@
 -- A turn of `propagate`, and its end: lists of 64-bit cells that hold what `pushed` says.
-use mathlib.Core.Path.{◌≡◌, refl, sym, ap, ap₂, ◌∙◌, subst}
+use mathlib.Core.Path.{◌≡◌, refl, sym, ap, ap₂, ◌∙◌, subst, transport}
 use mathlib.Core.Logic.{◌≢◌}
 use mathlib.Core.List.{List, ◌++◌}
 use Prim.Native.Nat.{ℕ, ◌+◌, ◌-◌, ◌*◌, ◌≤◌, ◌<◌}
@@ -25,13 +25,14 @@ use Rattle.timing.proofs.Limits.{fits_span, span_fits}
 use Rattle.timing.proofs.Table.{graph_of_within, read_absent, read_at, written_read}
 use Rattle.timing.proofs.Checks.{sound_fits}
 use Rattle.paths.specs.declared.board.Board.{Board}
+use Rattle.paths.specs.Cells.{row_at}
 use Rattle.paths.specs.Chain.{chain_at, walked_at, Chains}
 use Rattle.paths.specs.Arrivals.{inside_limit, reached_limit, filled, Started, Reached, Pushable, Pushed}
 use Rattle.paths.specs.Checked.{Passable}
-use Rattle.paths.proofs.Rows.{lent, lent_cell, lent_long}
+use Rattle.paths.proofs.Rows.{lent, lent_cell, lent_long, row_at_cell, length-row_at}
 use Rattle.paths.proofs.Sorting.{order_ranked}
 use Rattle.paths.proofs.Walked.{walked_span, settled_with}
-use Rattle.paths.proofs.Chaining.{lent_chain, chain_long, chain_lent, walked_lent, walked_in, walked_in_⊑, walked_in_within, walked_in_order, walked_in_or}
+use Rattle.paths.proofs.Chaining.{lent_chain, chain_long, chain_lent, chain_row, walked_row, walked_lent, walked_in, walked_in_⊑, walked_in_within, walked_in_order, walked_in_or}
 use Rattle.paths.proofs.Pushing.{pushed, pushed_span, pushed_settled}
 
 -- a list is known by its first n cells, read as delays, and by the rest
@@ -65,6 +66,25 @@ pushable {b} {t} P C u l f h = record {
   near = λ v k. subst (λ (d : Delay). T (fits delay_limit d)) (sym (lent_cell b.vertices t u P.checked.lent.room l v k)) (sound_fits P.checked.sound u v);
   chain = chain_lent C u P.checked.lent.room l;
 }
+
+-- the same, of rows of N cells: r and k are the table's and the chains'
+pub pushable_row : {b : Board} {t : List ℤ} {o c : List ℕ} → Passable b t o → Chains b.vertices t c → (u : ℕ) → u < b.vertices → (f : List ℤ) → b.vertices ≤ length f
+    → (r : List ℤ) (k : List ℕ) → r ≡ row_at b.vertices u t → k ≡ row_at b.vertices u c → Pushable (length r) r k f
+pushable_row {b} {t} {o} {c} P C u l f h r k er ek = transport (λ i. Pushable (sym m i) (sym er i) (sym ek i) f) (record {
+  some = omega (arith, P.checked.lent.sized);
+  few = P.checked.lent.sized.few;
+  row_room = omega (arith, long);
+  chain_room = omega (arith, length-row_at b.vertices c u C.room l);
+  room = h;
+  near = λ v j. subst (λ (d : Delay). T (fits delay_limit d)) (sym (row_at_cell b.vertices t u v l j)) (sound_fits P.checked.sound u v);
+  chain = chain_row C u l;
+})
+  where
+    long : length (row_at b.vertices u t) ≡ b.vertices
+    long = length-row_at b.vertices t u P.checked.lent.room l
+
+    m : length r ≡ b.vertices
+    m = ap length er ∙ long
 
 -- the same for another list
 pub pushable_on : {n : ℕ} {row : List ℤ} {c : List ℕ} {f : List ℤ} → Pushable n row c f → (f' : List ℤ) → n ≤ length f' → Pushable n row c f'
@@ -121,6 +141,27 @@ module _ {b : Board} {t : List ℤ} {o c : List ℕ} {f₀ f : List ℤ} {p : �
       cells = λ v m. q.cells v m ∙ ap₂ ◌⋓◌ (G.cells v m) (ap₂ ◌⊕◌ (G.cells x x_in) (sym (walked_lent C x R.passable.checked.lent.room x_in v m)));
       rest = λ v m. q.rest v m ∙ G.rest v m;
     })
+
+    pub onward_row : (f' : List ℤ) → length f' ≡ length f → (u : ℕ) (r : List ℤ) (s : List ℕ) → u ≡ get_or o p 0 → r ≡ row_at b.vertices u t → s ≡ row_at b.vertices u c → Pushed (length r) r s (get_or f u (pos 0)) f f' → Going b.vertices t o c f₀ f' (p + 1)
+    unfolding pushed
+    onward_row f' l u r s eu er es q = rw add-one (record {
+      upto = h;
+      size = l ∙ G.size;
+      cells = λ v m. pushed_here.cells v m ∙ ap₂ ◌⋓◌ (G.cells v m) (ap₂ ◌⊕◌ (G.cells x x_in) (sym (walked_row C x x_in v m)));
+      rest = λ v m. pushed_here.rest v m ∙ G.rest v m;
+    })
+      where
+        er' : r ≡ row_at n x t
+        er' = er ∙ ap (λ (y : ℕ). row_at n y t) eu
+
+        es' : s ≡ row_at n x c
+        es' = es ∙ ap (λ (y : ℕ). row_at n y c) eu
+
+        long : length r ≡ n
+        long = ap length er' ∙ length-row_at n t x R.passable.checked.lent.room x_in
+
+        pushed_here : Pushed n (row_at n x t) (row_at n x c) (get_or f x (pos 0)) f f'
+        pushed_here = transport (λ i. Pushed (long i) (er' i) (es' i) (get_or f (eu i) (pos 0)) f f') q
 
   pub ended : p ≡ b.vertices → f ≡ filled b.vertices (propagated b.vertices (graph_of b.vertices t) (arrival_in f₀)) f₀
   ended e = filled_is n (propagated n (graph_of n t) F) f₀ f R.room G.size

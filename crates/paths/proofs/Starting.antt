@@ -1,16 +1,18 @@
 -- What `propagate` gives where the signals start at one vertex, or at the inputs.
-use mathlib.Core.Path.{◌≡◌, refl, sym, ap, ap₂, ◌∙◌, subst}
+use mathlib.Core.Path.{◌≡◌, refl, sym, ap, ap₂, ◌∙◌, subst, fun_ext}
 use mathlib.Core.Logic.{◌≢◌}
 use mathlib.Core.Bool.{Bool, cond}
-use mathlib.Core.List.{List, ◌++◌}
-use Prim.Native.Nat.{ℕ, ◌≤◌, ◌<◌}
+use mathlib.Core.List.{List, [], ◌∷◌, ◌++◌}
+use Prim.Native.Nat.{ℕ, ◌+◌, ◌-◌, ◌≤◌, ◌<◌}
 use native.Mathlib.Omega.{arith}
 use native.Mathlib.Decide.{ℕ_discrete, dec_lt}
 use borrow.Author.Tests.{lt-ltb, le-ltb}
-use lib.Dec.{T}
+use lib.Dec.{T, eqb}
 use lib.IntN.{ℤ, pos}
-use lib.ListN.{length, get_or, drop, length-append, length-drop, get_or-append}
-use lib.Seq.{drop_at}
+use lib.ListN.{length, get_or, drop, length-append, length-take, length-drop, get_or-append}
+use borrow.Rule.Slice.PartMut.{put_mid, same_len_mid}
+use Rattle.laws.proofs.LentParts.{put_before, put_after, put_in}
+use lib.Seq.{drop_at, ext_get_or, get_or-append-add, get_or-drop}
 use Rattle.laws.specs.Lists.{tabulate}
 use Rattle.laws.proofs.Linear.{zarith}
 use Rattle.laws.proofs.Booleans.{eqb_same, eqb_other}
@@ -27,7 +29,7 @@ use Rattle.timing.proofs.Limits.{fits_absent}
 use Rattle.timing.proofs.Table.{read_absent, read_at}
 use Rattle.timing.proofs.Recursion.{arrival_propagated}
 use Rattle.paths.specs.declared.board.Board.{Board}
-use Rattle.paths.specs.Arrivals.{inside_limit, stored, filled, only_at, from_list, Started, Given}
+use Rattle.paths.specs.Arrivals.{inside_limit, stored, filled, only_at, from_list, times_at, Started, Given}
 use Rattle.paths.specs.Checked.{Passable}
 
 -- ---- stored cells
@@ -40,6 +42,81 @@ stored_cell n c f v h = get_or-append (tabulate n c) (drop n f) (pos 0) v (omega
 
 pub stored-drop : (n : ℕ) (c : ℕ → ℤ) (f : List ℤ) → drop n (stored n c f) ≡ drop n f
 stored-drop n c f = drop_at (tabulate n c) (drop n f) n (length-tabulate c n)
+
+-- a list is known by its first n cells and by the rest
+pub stored_is : (n : ℕ) (c : ℕ → ℤ) (f₀ f : List ℤ) → n ≤ length f₀ → length f ≡ length f₀ → ((v : ℕ) → v < n → get_or f v (pos 0) ≡ c v) → ((v : ℕ) → n ≤ v → get_or f v (pos 0) ≡ get_or f₀ v (pos 0)) → f ≡ stored n c f₀
+stored_is n c f₀ f room size cells rest = ext_get_or (pos 0) f (stored n c f₀) (size ∙ sym (stored-length n c f₀ room)) (λ i l. go i (dec_lt i n))
+  where
+    go : (i : ℕ) → Dec (i < n) → get_or f i (pos 0) ≡ get_or (stored n c f₀) i (pos 0)
+    go i (yes l) = cells i l ∙ sym (stored_cell n c f₀ i l)
+    go i (no l) =
+        let e : n + (i - n) ≡ i = omega arith in
+        rest i (omega arith) ∙ ap (λ (x : ℕ). get_or f₀ x (pos 0)) (sym e) ∙ sym (get_or-drop n f₀ (i - n) (pos 0))
+        ∙ sym (get_or-append-add (tabulate n c) (drop n f₀) (i - n) (pos 0))
+        ∙ ap (λ (x : ℕ). get_or (tabulate n c ++ drop n f₀) (x + (i - n)) (pos 0)) (length-tabulate c n) ∙ ap (λ (x : ℕ). get_or (tabulate n c ++ drop n f₀) x (pos 0)) e
+
+-- absent everywhere, and then times in their place
+pub times_stored : (n first : ℕ) (times f none : List ℤ) → n ≤ length f → first + length times ≤ n → none ≡ stored n (λ _. absent_wide) f → put_mid first (first + length times - first) none times ≡ stored n (times_at first times) f
+times_stored n first times f none room h e = stored_is n (times_at first times) f l room size cells rest
+  where
+    l : List ℤ
+    l = put_mid first (first + length times - first) none times
+
+    long : length none ≡ length f
+    long = ap length e ∙ stored-length n (λ _. absent_wide) f room
+
+    inside : first + length times ≤ length none
+    inside = omega (arith, long)
+
+    sized : length times ≡ first + length times - first
+    sized = omega arith
+
+    size : length (put_mid first (first + length times - first) none times) ≡ length f
+    size = same_len_mid first (first + length times - first) none times (simp (length-take, length-drop) (omega (arith, inside))) ∙ long
+
+    was : (v : ℕ) → v < n → get_or none v (pos 0) ≡ absent_wide
+    was v k = ap (λ (x : List ℤ). get_or x v (pos 0)) e ∙ stored_cell n (λ _. absent_wide) f v k
+
+    cells : (v : ℕ) → v < n → get_or (put_mid first (first + length times - first) none times) v (pos 0) ≡ times_at first times v
+    cells v k = go (dec_lt v first) (dec_lt v (first + length times))
+      where
+        go : Dec (v < first) → Dec (v < first + length times) → get_or (put_mid first (first + length times - first) none times) v (pos 0) ≡ times_at first times v
+        go (yes a) _ = put_before first (first + length times) none times (pos 0) (omega arith) inside sized v a ∙ was v k ∙ sym (ap (λ (b : Bool). cond b absent_wide (from_list times (v - first))) (lt-ltb v first a))
+        go (no a) (yes b) =
+            let q : first + (v - first) ≡ v = omega arith in
+            ap (λ (x : ℕ). get_or (put_mid first (first + length times - first) none times) x (pos 0)) (sym q)
+            ∙ put_in first (first + length times) none times (pos 0) (omega arith) inside sized (v - first) (omega arith)
+            ∙ sym (ap (λ (b : Bool). cond b absent_wide (from_list times (v - first))) (le-ltb v first (omega arith)) ∙ ap (λ (b : Bool). cond b (get_or times (v - first) (pos 0)) absent_wide) (lt-ltb (v - first) (length times) (omega arith)))
+        go (no a) (no b) =
+            put_after first (first + length times) none times (pos 0) (omega arith) inside sized v (omega arith) ∙ was v k
+            ∙ sym (ap (λ (b : Bool). cond b absent_wide (from_list times (v - first))) (le-ltb v first (omega arith)) ∙ ap (λ (b : Bool). cond b (get_or times (v - first) (pos 0)) absent_wide) (le-ltb (v - first) (length times) (omega arith)))
+
+    rest : (v : ℕ) → n ≤ v → get_or (put_mid first (first + length times - first) none times) v (pos 0) ≡ get_or f v (pos 0)
+    rest v k =
+        put_after first (first + length times) none times (pos 0) (omega arith) inside sized v (omega arith)
+        ∙ ap (λ (x : List ℤ). get_or x v (pos 0)) e
+        ∙ (let q : n + (v - n) ≡ v = omega arith in
+        ap (λ (x : ℕ). get_or (stored n (λ _. absent_wide) f) x (pos 0)) (sym q)
+        ∙ ap (λ (x : ℕ). get_or (stored n (λ _. absent_wide) f) (x + (v - n)) (pos 0)) (sym (length-tabulate (λ _. absent_wide) n))
+        ∙ get_or-append-add (tabulate n (λ _. absent_wide)) (drop n f) (v - n) (pos 0) ∙ get_or-drop n f (v - n) (pos 0) ∙ ap (λ (x : ℕ). get_or f x (pos 0)) q)
+
+-- one time, and times from vertex 0 on
+pub one_time : (i : ℕ) → times_at i (pos 0 ∷ []) ≡ only_at i
+one_time i = fun_ext (λ v. go v (dec_lt v i) (ℕ_discrete v i))
+  where
+    go : (v : ℕ) → Dec (v < i) → Dec (v ≡ i) → times_at i (pos 0 ∷ []) v ≡ only_at i v
+    go v (yes l) _ = ap (λ (b : Bool). cond b absent_wide (from_list (pos 0 ∷ []) (v - i))) (lt-ltb v i l) ∙ sym (ap (λ (b : Bool). cond b (pos 0) absent_wide) (eqb_other v i (λ e. omega arith)))
+    go v (no l) (yes e) =
+        ap (λ (b : Bool). cond b absent_wide (from_list (pos 0 ∷ []) (v - i))) (le-ltb v i (omega arith))
+        ∙ ap (from_list (pos 0 ∷ [])) (let z : v - i ≡ 0 = omega arith in z)
+        ∙ sym (ap (λ (x : ℕ). cond (eqb x i) (pos 0) absent_wide) e ∙ ap (λ (b : Bool). cond b (pos 0) absent_wide) (eqb_same i))
+    go v (no l) (no ne) =
+        ap (λ (b : Bool). cond b absent_wide (from_list (pos 0 ∷ []) (v - i))) (le-ltb v i (omega arith))
+        ∙ ap (λ (b : Bool). cond b (get_or (pos 0 ∷ []) (v - i) (pos 0)) absent_wide) (le-ltb (v - i) 1 (omega arith))
+        ∙ sym (ap (λ (b : Bool). cond b (pos 0) absent_wide) (eqb_other v i ne))
+
+pub first_times : (a : List ℤ) → times_at 0 a ≡ from_list a
+first_times a = fun_ext (λ v. let z : v - 0 ≡ v = omega arith in ap (λ (b : Bool). cond b absent_wide (from_list a (v - 0))) (le-ltb v 0 (omega arith)) ∙ ap (from_list a) z)
 
 pub filled-drop : (n : ℕ) (h : ℕ → Delay) (f f' : List ℤ) → f' ≡ filled n h f → drop n f' ≡ drop n f
 filled-drop n h f f' e = ap (drop n) e ∙ stored-drop n (λ v. write_cell absent_wide (h v)) f

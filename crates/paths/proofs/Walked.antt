@@ -12,7 +12,7 @@ use lib.ListN.{get_or}
 use lib.Signed.{lt_z}
 use mir.Syntax.{w32, w64}
 use mir.Val.{SFits}
-use Rattle.laws.proofs.Linear.{zneeds, zarith, sum}
+use Rattle.laws.proofs.Linear.{zneeds, zarith, up, dn, sum}
 use Rattle.laws.proofs.Booleans.{T_true, true_is, is_false, eqb_same, eqb_other, split, cases}
 use Rattle.graph.specs.Delay.{Delay, absent, at, present, ◌⊕◌, ◌⊑◌}
 use Rattle.graph.specs.Graph.{Graph}
@@ -118,39 +118,52 @@ below-not x absent t h = absurd t
 below-not absent (at b) t h = h.le
 below-not (at a) (at b) t h = let k = h.le in omega zarith
 
--- as the code has it: an absent `next` is below every sum
-module _ (d next : ℤ) (fd : T (fits delay_limit (at d))) where
-  pub two_fit : SFits w32 next → SFits w64 (d +ℤ next)
-  two_fit f = omega (zneeds, sum d next, fits_span delay_limit (at d) fd)
+-- as the code has it: absent is so low that a sum with it is below every cell
+pub two_fit : {d next : ℤ} → SFits w32 d → SFits w32 next → SFits w64 (d +ℤ next)
+two_fit {d} {next} f g = omega (zneeds, sum d next)
 
-  pub below-cells : (cell : ℤ) → T (present (read_cell absent_cell cell)) → T (fits delay_limit (read_cell absent_cell cell)) → T (fits delay_limit (read_cell absent_cell next)) → lt_z cell (d +ℤ next) ≡ below (read_cell absent_cell cell) (at d ⊕ read_cell absent_cell next)
-  unfolding below
-  below-cells cell t fc fn = rw here (go (ℤ_discrete next absent_cell))
-    where
-      here : read_cell absent_cell cell ≡ at cell
-      here = arc_cell cell (T_true t)
+-- a cell is at most the limit, present or absent
+most : (z : ℤ) → T (fits delay_limit (read_cell absent_cell z)) → up z ≤ dn z + delay_limit
+most z t = go (ℤ_discrete z absent_cell)
+  where
+    go : Dec (z ≡ absent_cell) → up z ≤ dn z + delay_limit
+    go (yes e) = omega zarith
+    go (no ne) = (fits_span delay_limit (at z) (subst (λ (x : Delay). T (fits delay_limit x)) (read_at absent_cell z ne) t)).0
 
-      span : InSpan delay_limit (at cell)
-      span = fits_span delay_limit (at cell) (subst (λ (x : Delay). T (fits delay_limit x)) here fc)
+pub below-cells : (cell d next : ℤ) → T (present (read_cell absent_cell cell)) → T (fits delay_limit (read_cell absent_cell cell)) → T (fits delay_limit (read_cell absent_cell d)) → T (fits delay_limit (read_cell absent_cell next))
+    → lt_z cell (d +ℤ next) ≡ below (read_cell absent_cell cell) (read_cell absent_cell d ⊕ read_cell absent_cell next)
+unfolding below
+below-cells cell d next t fc fd fn = rw here (go (ℤ_discrete d absent_cell) (ℤ_discrete next absent_cell))
+  where
+    here : read_cell absent_cell cell ≡ at cell
+    here = arc_cell cell (T_true t)
 
-      go : Dec (next ≡ absent_cell) → lt_z cell (d +ℤ next) ≡ below (at cell) (at d ⊕ read_cell absent_cell next)
-      go (yes e) = is_false (lt_z cell (d +ℤ next)) (λ k. omega (zarith, sum d next, fits_span delay_limit (at d) fd, span)) ∙ sym (ap (λ (x : Delay). below (at cell) (at d ⊕ x)) (read_absent absent_cell next e))
-      go (no ne) = sym (ap (λ (x : Delay). below (at cell) (at d ⊕ x)) (read_at absent_cell next ne))
+    span : InSpan delay_limit (at cell)
+    span = fits_span delay_limit (at cell) (subst (λ (x : Delay). T (fits delay_limit x)) here fc)
 
-module _ (row next : ℕ → Delay) (d : ℤ) (v : ℕ) where
-  pub unbeaten_no : below (row v) (at d ⊕ next v) ≡ false → unbeaten row next d v ≡ row v
+    go : Dec (d ≡ absent_cell) → Dec (next ≡ absent_cell) → lt_z cell (d +ℤ next) ≡ below (at cell) (read_cell absent_cell d ⊕ read_cell absent_cell next)
+    go (yes e) _ =
+        is_false (lt_z cell (d +ℤ next)) (λ k. omega (zarith, sum d next, most next fn, span))
+        ∙ sym (ap (λ (x : Delay). below (at cell) (x ⊕ read_cell absent_cell next)) (read_absent absent_cell d e))
+    go (no ne) (yes e) =
+        is_false (lt_z cell (d +ℤ next)) (λ k. omega (zarith, sum d next, most d fd, span))
+        ∙ sym (ap₂ (λ (x y : Delay). below (at cell) (x ⊕ y)) (read_at absent_cell d ne) (read_absent absent_cell next e))
+    go (no nd) (no ne) = sym (ap₂ (λ (x y : Delay). below (at cell) (x ⊕ y)) (read_at absent_cell d nd) (read_at absent_cell next ne))
+
+module _ (row next : ℕ → Delay) (d : Delay) (v : ℕ) where
+  pub unbeaten_no : below (row v) (d ⊕ next v) ≡ false → unbeaten row next d v ≡ row v
   unfolding unbeaten
   unbeaten_no e = ap (λ (b : Bool). cond b absent (row v)) e
 
-  pub unbeaten_yes : below (row v) (at d ⊕ next v) ≡ true → unbeaten row next d v ≡ absent
+  pub unbeaten_yes : below (row v) (d ⊕ next v) ≡ true → unbeaten row next d v ≡ absent
   unfolding unbeaten
   unbeaten_yes e = ap (λ (b : Bool). cond b absent (row v)) e
 
   pub unbeaten_none : row v ≡ absent → unbeaten row next d v ≡ absent
-  unbeaten_none e = cases (below (row v) (at d ⊕ next v)) unbeaten_yes (λ z. unbeaten_no z ∙ e)
+  unbeaten_none e = cases (below (row v) (d ⊕ next v)) unbeaten_yes (λ z. unbeaten_no z ∙ e)
 
-  pub unbeaten-or : (unbeaten row next d v ≡ row v) ⊎ ((unbeaten row next d v ≡ absent) × ¬ (at d ⊕ next v ⊑ row v))
-  unbeaten-or = cases (below (row v) (at d ⊕ next v)) (λ e. inr (unbeaten_yes e, below-not (row v) (at d ⊕ next v) (true_is e))) (λ e. inl (unbeaten_no e))
+  pub unbeaten-or : (unbeaten row next d v ≡ row v) ⊎ ((unbeaten row next d v ≡ absent) × ¬ (d ⊕ next v ⊑ row v))
+  unbeaten-or = cases (below (row v) (d ⊕ next v)) (λ e. inr (unbeaten_yes e, below-not (row v) (d ⊕ next v) (true_is e))) (λ e. inl (unbeaten_no e))
 
 -- ---- an arc that is beaten carries nothing that comes later
 

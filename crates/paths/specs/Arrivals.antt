@@ -1,5 +1,5 @@
 -- Arrivals over a table that has passed its checks.
-use Rattle.std.specs.Prelude.{◌≡◌, ◌≢◌, Bool, true, false, cond, List, ◌++◌, ℕ, ◌+◌, ◌*◌, ◌≤◌, ◌<◌, T, eqb, ltb, ℤ, pos, ◌+ℤ◌, length, get_or, take, drop}
+use Rattle.std.specs.Prelude.{◌≡◌, ◌≢◌, Bool, true, false, cond, List, ◌++◌, ℕ, ◌+◌, ◌-◌, ◌*◌, ◌≤◌, ◌<◌, T, eqb, ltb, ℤ, pos, ◌+ℤ◌, length, get_or, take, drop}
 use Rattle.std.specs.Int.{w64}
 use Rattle.std.proofs.Common.{SFits}
 use Rattle.laws.specs.Lists.{tabulate}
@@ -45,6 +45,10 @@ only_at i v = cond (eqb v i) (pos 0) absent_wide
 -- the inputs' arrivals, and none at any other vertex
 abbrev pub from_list : List ℤ → ℕ → ℤ
 from_list a v = cond (ltb v (length a)) (get_or a v (pos 0)) absent_wide
+
+-- the times in a from vertex `first` on, and none at any other
+abbrev pub times_at : ℕ → List ℤ → ℕ → ℤ
+times_at first a v = cond (ltb v first) absent_wide (from_list a (v - first))
 
 -- the latest arrivals where those in f start; the greatest delays from i; the arrivals from the inputs' in a
 abbrev pub latest_from : Board → List ℤ → List ℤ → ℕ → Delay

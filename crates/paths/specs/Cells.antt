@@ -1,5 +1,5 @@
 -- Cells of a lent list.
-use Rattle.std.specs.Prelude.{◌≡◌, Bool, true, ◌&&◌, List, ℕ, ◌+◌, ◌*◌, ◌≤◌, ◌<◌, ℤ, pos, length, get_or}
+use Rattle.std.specs.Prelude.{◌≡◌, Bool, true, ◌&&◌, List, ℕ, ◌+◌, ◌*◌, ◌≤◌, ◌<◌, ℤ, pos, length, get_or, take, drop}
 use Rattle.std.specs.Int.Signed.{le_z}
 use Rattle.graph.specs.Delay.{Delay, absent, at}
 use Rattle.graph.specs.Graph.{Graph}
@@ -10,6 +10,10 @@ use Rattle.timing.specs.Table.{read_cell}
 -- the delay in cell x
 abbrev pub cell_at : List ℤ → ℕ → Delay
 cell_at t x = read_cell absent_cell (get_or t x (pos 0))
+
+-- row u of a table whose rows have n cells
+abbrev pub row_at : {A : Type 0} → ℕ → ℕ → List A → List A
+row_at n u t = take n (drop (n * u) t)
 
 -- absent, or from low to high
 abbrev pub between : ℤ → ℤ → Delay → Bool

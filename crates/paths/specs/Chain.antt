@@ -46,9 +46,9 @@ below x absent = false
 below absent (at b) = true
 below (at a) (at b) = lt_z a b
 
--- a row without the arcs that are beaten by an arc of delay d and then one of the row `next`
-unfoldable pub unbeaten : (ℕ → Delay) → (ℕ → Delay) → ℤ → ℕ → Delay
-unbeaten row next d v = cond (below (row v) (at d ⊕ next v)) absent (row v)
+-- a row without the arcs that are beaten by an arc of delay d, if there is one, and then one of the row `next`
+unfoldable pub unbeaten : (ℕ → Delay) → (ℕ → Delay) → Delay → ℕ → Delay
+unbeaten row next d v = cond (below (row v) (d ⊕ next v)) absent (row v)
 
 -- n cells of a row, each absent or within the limits
 pub record Near (n : ℕ) (row : List ℤ) : Type 0 where

@@ -45,6 +45,6 @@ Lowerable n row fan = (v : ℕ) → v < n → bit (cell_at row v) ≤ get_or fan
 abbrev pub Lowered : ℕ → List ℤ → List ℕ → List ℕ → Type 0
 Lowered n row before after = (length after ≡ max_vertices) × ((v : ℕ) → v < n → get_or after v 0 + bit (cell_at row v) ≡ get_or before v 0)
 
--- r is the first of n counts, from `from` on, that is 0, or n
-abbrev pub FirstZero : ℕ → List ℕ → ℕ → ℕ → Type 0
-FirstZero n fan from r = (r ≤ n) × (r < n → get_or fan r 0 ≡ 0) × ((v : ℕ) → from ≤ v → v < r → get_or fan v 0 ≢ 0)
+-- none of the first n counts, from `from` on, is 0
+abbrev pub NoZero : ℕ → List ℕ → ℕ → Type 0
+NoZero n fan from = (v : ℕ) → from ≤ v → v < n → get_or fan v 0 ≢ 0

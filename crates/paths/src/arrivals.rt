@@ -5,10 +5,11 @@ ghost use Rattle.timing.specs.Limits.{delay_limit, absent_cell, absent_wide, fit
 ghost use Rattle.timing.specs.Table.{read_cell};
 ghost use Rattle.timing.specs.Delays.{arrival_in};
 ghost use Rattle.paths.specs.Chain.{Chains};
-ghost use Rattle.paths.specs.Arrivals.{reached_limit, stored, filled, only_at, from_list, Started, Given, Reached, Gains, Offered, Pushable, Pushed, lane, EachLane, AllThere, DelayLanes, latest_from, delays_from, arrivals_from};
+ghost use Rattle.paths.specs.Arrivals.{reached_limit, stored, filled, only_at, times_at, Started, Given, Reached, Gains, Offered, Pushable, Pushed, lane, EachLane, AllThere, DelayLanes, latest_from, delays_from, arrivals_from};
 ghost use Rattle.paths.specs.Checked.{Passable};
 
 use crate::board::Board;
+use crate::cells;
 use crate::order::Order;
 
 // Whether what comes over an arc is later than what is there. An absent arrival is below every other.
@@ -18,35 +19,45 @@ pub fn gains(best: i64, a: i64, cell: i32) -> bool
     requires t { T (fits delay_limit (read_cell absent_cell cell)) }
     ensures { Gains best a cell result }
 {
-    best < a + (cell as i64)
+    best < a + i64::from(cell)
 }
 
-// Pushes a on along the arcs that a row's chain walks. A cell is stored only where it changes: a store in each turn costs more.
-fn push(row: &[i32], chain: &[u8], a: i64, f: &mut [i64], n: usize)
+// The later of what is at x and what comes over an arc. A cell is stored only where it changes: a store in each turn costs more.
+fn offer(f: &mut [i64], x: usize, a: i64, cell: i32)
+    requires x_in_bounds { x < length f.old }
     requires reached { Reached a }
-    requires pushable { Pushable n row.now chain.now f.old }
-    ensures { Pushed n row.now chain.now a f.old f.new }
+    requires cell_nonzero { cell ≢ absent_cell }
+    requires t { T (fits delay_limit (read_cell absent_cell cell)) }
+    ensures { Offered x a cell f.old f.new }
 {
-    let mut v = chain[0] as usize;
-    while v < n {
-        let d = row[v];
-        if gains(f[v], a, d) {
-            f[v] = a + (d as i64);
-        }
-        v = chain[v] as usize;
+    if gains(f[x], a, cell) {
+        f[x] = a + i64::from(cell);
+    }
+}
+
+// Pushes a on along the arcs that a row's chain walks.
+fn push(row: &[i32], chain: &[u8], a: i64, f: &mut [i64])
+    requires reached { Reached a }
+    requires pushable { Pushable (length row.now) row.now chain.now f.old }
+    ensures { Pushed (length row.now) row.now chain.now a f.old f.new }
+{
+    let mut v = usize::from(chain[0]);
+    while v < row.len() {
+        offer(f, v, a, row[v]);
+        v = usize::from(chain[v]);
     }
 }
 
 // Pushes on what is at u, where it is reached.
-fn push_from(row: &[i32], chain: &[u8], f: &mut [i64], u: usize, n: usize)
-    requires pushable { Pushable n row.now chain.now f.old }
-    requires u_lt_n { u < n }
+fn push_from(row: &[i32], chain: &[u8], f: &mut [i64], u: usize)
+    requires pushable { Pushable (length row.now) row.now chain.now f.old }
+    requires u_in_bounds { u < length row.now }
     requires t { T (fits reached_limit (arrival_in f.old u)) }
-    ensures { Pushed n row.now chain.now (get_or f.old u (pos 0)) f.old f.new }
+    ensures { Pushed (length row.now) row.now chain.now (get_or f.old u (pos 0)) f.old f.new }
 {
     let a = f[u];
     if a != Board::ABSENT_WIDE {
-        push(row, chain, a, f, n);
+        push(row, chain, a, f);
     }
 }
 
@@ -56,36 +67,25 @@ pub fn propagate(board: Board, table: &[i32], order: &Order, chain: &[u8], f: &m
     requires chains { Chains board.vertices table.now chain.now }
     ensures { f.new ≡ filled board.vertices (latest_from board table.now f.old) f.old }
 {
-    let n = board.vertices;
-    let mut p = 0;
-    while p < n {
-        let u = order[p] as usize;
-        let at = n * u;
-        push_from(&table[at..], &chain[at..], f, u, n);
-        p += 1;
+    for p in 0..board.vertices {
+        let u = usize::from(order[p]);
+        push_from(
+            cells::row(board, table, u),
+            cells::row(board, chain, u),
+            f,
+            u,
+        );
     }
 }
 
-// No signal at the n vertices.
-fn start_none(f: &mut [i64], n: usize)
-    requires { n ≤ length f.old }
-    ensures { f.new ≡ stored n (λ _. absent_wide) f.old }
-{
-    let mut v = 0;
-    while v < n {
-        f[v] = Board::ABSENT_WIDE;
-        v += 1;
-    }
-}
-
-// A signal that starts at i alone.
-fn start_at(f: &mut [i64], n: usize, i: usize)
+// The times that start at the vertices from `at` on, and no signal at any other of the n vertices.
+pub fn start(f: &mut [i64], n: usize, at: usize, times: &[i64])
     requires n_in_bounds { n ≤ length f.old }
-    requires i_lt_n { i < n }
-    ensures { f.new ≡ stored n (only_at i) f.old }
+    requires at_bound { at + length times.now ≤ n }
+    ensures { f.new ≡ stored n (times_at at times.now) f.old }
 {
-    start_none(f, n);
-    f[i] = 0;
+    f[..n].fill(Board::ABSENT_WIDE);
+    f[at..at + times.len()].copy_from_slice(times);
 }
 
 // The greatest delays from vertex i, 0 at i itself.
@@ -103,29 +103,8 @@ pub fn delays_from(
     requires vertices_in_bounds { board.vertices ≤ length f.old }
     ensures { f.new ≡ filled board.vertices (delays_from board table.now i) f.old }
 {
-    start_at(f, board.vertices, i);
+    start(f, board.vertices, i, &[0]);
     propagate(board, table, order, chain, f);
-}
-
-fn from_list(inputs: &[i64], v: usize) -> i64
-    ensures { result ≡ from_list inputs.now v }
-{
-    if v >= inputs.len() {
-        return Board::ABSENT_WIDE;
-    }
-    inputs[v]
-}
-
-// Signals that start at the inputs.
-fn start_inputs(inputs: &[i64], f: &mut [i64], n: usize)
-    requires { n ≤ length f.old }
-    ensures { f.new ≡ stored n (from_list inputs.now) f.old }
-{
-    let mut v = 0;
-    while v < n {
-        f[v] = from_list(inputs, v);
-        v += 1;
-    }
 }
 
 // The arrivals at every vertex, in one pass.
@@ -143,45 +122,33 @@ pub fn arrivals(
     requires vertices_in_bounds { board.vertices ≤ length f.old }
     ensures { f.new ≡ filled board.vertices (arrivals_from board table.now inputs.now) f.old }
 {
-    start_inputs(inputs, f, board.vertices);
+    start(f, board.vertices, 0, inputs);
     propagate(board, table, order, chain, f);
 }
 
-// The later of what is at x and what comes over an arc.
-fn offer(f: &mut [i64], x: usize, a: i64, cell: i32)
-    requires x_in_bounds { x < length f.old }
-    requires reached { Reached a }
-    requires cell_nonzero { cell ≢ absent_cell }
-    requires t { T (fits delay_limit (read_cell absent_cell cell)) }
-    ensures { Offered x a cell f.old f.new }
-{
-    if gains(f[x], a, cell) {
-        f[x] = a + (cell as i64);
-    }
-}
-
 // Pushes on in four lanes, that of a to that of d, so that they share the walk along the chain.
-fn push_four(row: &[i32], chain: &[u8], a: i64, b: i64, c: i64, d: i64, f: &mut [i64], n: usize)
+fn push_four(row: &[i32], chain: &[u8], a: i64, b: i64, c: i64, d: i64, f: &mut [i64])
     requires reached { Reached a }
     requires reached_2 { Reached b }
     requires reached_3 { Reached c }
     requires reached_4 { Reached d }
-    requires pushable { Pushable n row.now chain.now f.old }
-    requires n_in_bounds { n * 4 ≤ length f.old }
-    ensures pushed { Pushed n row.now chain.now a (lane n 0 f.old) (lane n 0 f.new) }
-    ensures pushed_2 { Pushed n row.now chain.now b (lane n 1 f.old) (lane n 1 f.new) }
-    ensures pushed_3 { Pushed n row.now chain.now c (lane n 2 f.old) (lane n 2 f.new) }
-    ensures pushed_4 { Pushed n row.now chain.now d (lane n 3 f.old) (lane n 3 f.new) }
-    ensures past { Past (n * 4) f.old f.new }
+    requires pushable { Pushable (length row.now) row.now chain.now f.old }
+    requires n_in_bounds { length row.now * 4 ≤ length f.old }
+    ensures pushed { Pushed (length row.now) row.now chain.now a (lane (length row.now) 0 f.old) (lane (length row.now) 0 f.new) }
+    ensures pushed_2 { Pushed (length row.now) row.now chain.now b (lane (length row.now) 1 f.old) (lane (length row.now) 1 f.new) }
+    ensures pushed_3 { Pushed (length row.now) row.now chain.now c (lane (length row.now) 2 f.old) (lane (length row.now) 2 f.new) }
+    ensures pushed_4 { Pushed (length row.now) row.now chain.now d (lane (length row.now) 3 f.old) (lane (length row.now) 3 f.new) }
+    ensures past { Past (length row.now * 4) f.old f.new }
 {
-    let mut v = chain[0] as usize;
+    let n = row.len();
+    let mut v = usize::from(chain[0]);
     while v < n {
         let x = row[v];
         offer(f, v, a, x);
         offer(f, n + v, b, x);
         offer(f, 2 * n + v, c, x);
         offer(f, 3 * n + v, d, x);
-        v = chain[v] as usize;
+        v = usize::from(chain[v]);
     }
 }
 
@@ -195,28 +162,26 @@ fn all_there(a: i64, b: i64, c: i64, d: i64) -> bool
 }
 
 // Pushes on what is at u in each of four lanes.
-fn push_each(row: &[i32], chain: &[u8], f: &mut [i64], u: usize, n: usize)
-    requires pushable { Pushable n row.now chain.now f.old }
-    requires u_lt_n { u < n }
-    requires n_in_bounds { n * 4 ≤ length f.old }
-    requires each_lane { EachLane (λ l. T (fits reached_limit (arrival_in (lane n l f.old) u))) }
-    ensures each_lane_2 { EachLane (λ l. Pushed n row.now chain.now (get_or (lane n l f.old) u (pos 0)) (lane n l f.old) (lane n l f.new)) }
-    ensures past { Past (n * 4) f.old f.new }
+fn push_each(row: &[i32], chain: &[u8], f: &mut [i64], u: usize)
+    requires pushable { Pushable (length row.now) row.now chain.now f.old }
+    requires u_in_bounds { u < length row.now }
+    requires n_in_bounds { length row.now * 4 ≤ length f.old }
+    requires each_lane { EachLane (λ l. T (fits reached_limit (arrival_in (lane (length row.now) l f.old) u))) }
+    ensures each_lane_2 { EachLane (λ l. Pushed (length row.now) row.now chain.now (get_or (lane (length row.now) l f.old) u (pos 0)) (lane (length row.now) l f.old) (lane (length row.now) l f.new)) }
+    ensures past { Past (length row.now * 4) f.old f.new }
 {
+    let n = row.len();
     let a = f[u];
     let b = f[n + u];
     let c = f[2 * n + u];
     let d = f[3 * n + u];
     if all_there(a, b, c, d) {
-        push_four(row, chain, a, b, c, d, f, n);
+        push_four(row, chain, a, b, c, d, f);
         return;
     }
-    let mut l = 0;
-    while l < 4 {
+    for l in 0..4 {
         let at = n * l;
-        let end = at + n;
-        push_from(row, chain, &mut f[at..end], u, n);
-        l += 1;
+        push_from(row, chain, &mut f[at..at + n], u);
     }
 }
 
@@ -227,12 +192,9 @@ fn start_four(f: &mut [i64], n: usize, i: usize)
     ensures each_lane { EachLane (λ l. lane n l f.new ≡ stored n (only_at (i + l)) (lane n l f.old)) }
     ensures past { Past (n * 4) f.old f.new }
 {
-    let mut l = 0;
-    while l < 4 {
+    for l in 0..4 {
         let at = n * l;
-        let end = at + n;
-        start_at(&mut f[at..end], n, i + l);
-        l += 1;
+        start(&mut f[at..at + n], n, i + l, &[0]);
     }
 }
 
@@ -252,13 +214,14 @@ pub fn delays_from_four(
     ensures delay_lanes { DelayLanes board table.now i f.old f.new }
     ensures past { Past (board.vertices * 4) f.old f.new }
 {
-    let n = board.vertices;
-    start_four(f, n, i);
-    let mut p = 0;
-    while p < n {
-        let u = order[p] as usize;
-        let at = n * u;
-        push_each(&table[at..], &chain[at..], f, u, n);
-        p += 1;
+    start_four(f, board.vertices, i);
+    for p in 0..board.vertices {
+        let u = usize::from(order[p]);
+        push_each(
+            cells::row(board, table, u),
+            cells::row(board, chain, u),
+            f,
+            u,
+        );
     }
 }

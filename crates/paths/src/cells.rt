@@ -8,8 +8,8 @@ ghost use Rattle.graph.specs.Count.{bit, fan_in, fan_out, arcs};
 ghost use Rattle.timing.specs.Limits.{delay_limit, absent_cell, fits};
 ghost use Rattle.timing.specs.Table.{read_cell};
 ghost use Rattle.timing.specs.Checks.{cells_fit, no_arc_into_input};
-ghost use Rattle.paths.specs.Board.{Lent, graph_in};
-ghost use Rattle.paths.specs.Cells.{cell_at, between, InTable, NextInto};
+ghost use Rattle.paths.specs.Board.{Sized, Lent, graph_in};
+ghost use Rattle.paths.specs.Cells.{cell_at, row_at, between, InTable, NextInto};
 
 use crate::board::Board;
 
@@ -22,7 +22,7 @@ pub const MAX_TICKS: i32 = Board::MAX_DELAY as i32;
 pub fn wide(x: i32) -> i64
     ensures { result ≡ x }
 {
-    x as i64
+    i64::from(x)
 }
 
 // A delay that fits a cell.
@@ -37,69 +37,61 @@ pub fn narrow(x: i64) -> i32
 pub fn is_arc(x: i32) -> bool
     ensures { result ≡ present (read_cell absent_cell x) }
 {
-    if x == Board::ABSENT {
-        return false;
-    }
-    true
+    x != Board::ABSENT
 }
 
 // Whether x is a delay that a cell may hold.
 pub fn in_range(x: i64) -> bool
     ensures { result ≡ fits delay_limit (at x) }
 {
-    if x < Board::MIN_DELAY {
-        return false;
-    }
-    x <= Board::MAX_DELAY
+    Board::MIN_DELAY <= x && x <= Board::MAX_DELAY
 }
 
 // Whether a cell is absent, or from low to high: compared as it is, not widened, so that four go at a time.
 fn within(x: i32, low: i32, high: i32) -> bool
     ensures { result ≡ between low high (read_cell absent_cell x) }
 {
-    if !is_arc(x) {
-        return true;
-    }
-    if x < low {
-        return false;
-    }
-    x <= high
+    !is_arc(x) || low <= x && x <= high
 }
 
 // Whether each cell of a row is. All are looked at, so that the compiler takes four at a time.
-pub fn row_within(row: &[i32], n: usize, low: i32, high: i32) -> bool
-    requires { n ≤ length row.now }
-    ensures { result ≡ every n (λ v. between low high (cell_at row.now v)) }
+pub fn row_within(row: &[i32], low: i32, high: i32) -> bool
+    ensures { result ≡ every (length row.now) (λ v. between low high (cell_at row.now v)) }
 {
     let mut all = true;
-    let mut v = 0;
-    while v < n {
-        all = all & within(row[v], low, high);
-        v += 1;
+    for x in row {
+        all = all & within(*x, low, high);
     }
     all
 }
 
 // Whether no cell of a row is above high: absent is the least number of all.
-pub fn row_upto(row: &[i32], n: usize, high: i32) -> bool
-    requires { n ≤ length row.now }
-    ensures { result ≡ every n (λ v. le_z (get_or row.now v (pos 0)) high) }
+pub fn row_upto(row: &[i32], high: i32) -> bool
+    ensures { result ≡ every (length row.now) (λ v. le_z (get_or row.now v (pos 0)) high) }
 {
     let mut all = true;
-    let mut v = 0;
-    while v < n {
-        all = all & (row[v] <= high);
-        v += 1;
+    for x in row {
+        all = all & (*x <= high);
     }
     all
 }
 
 // Whether each cell of a row is absent or in range.
-fn row_fits(row: &[i32], n: usize) -> bool
-    requires { n ≤ length row.now }
-    ensures { result ≡ every n (λ v. fits delay_limit (cell_at row.now v)) }
+fn row_fits(row: &[i32]) -> bool
+    ensures { result ≡ every (length row.now) (λ v. fits delay_limit (cell_at row.now v)) }
 {
-    row_within(row, n, MIN_TICKS, MAX_TICKS)
+    row_within(row, MIN_TICKS, MAX_TICKS)
+}
+
+// The cells of vertex u, where each vertex has a row of N.
+pub fn row<T>(board: Board, cells: &[T], u: usize) -> &[T]
+    requires sized { Sized board }
+    requires room { board.vertices * board.vertices ≤ length cells.now }
+    requires u_lt_vertices { u < board.vertices }
+    ensures { result.now ≡ row_at board.vertices u cells.now }
+{
+    let at = board.vertices * u;
+    &cells[at..at + board.vertices]
 }
 
 // Check 4: each cell is absent or in range.
@@ -107,14 +99,10 @@ pub fn cells_fit(board: Board, table: &[i32]) -> bool
     requires { Lent board table.now }
     ensures { result ≡ cells_fit board.vertices (graph_in board table.now) }
 {
-    let n = board.vertices;
-    let mut u = 0;
-    while u < n {
-        let at = n * u;
-        if !row_fits(&table[at..], n) {
+    for u in 0..board.vertices {
+        if !row_fits(row(board, table, u)) {
             return false;
         }
-        u += 1;
     }
     true
 }
@@ -126,15 +114,12 @@ fn count(table: &[i32], from: usize, stride: usize, times: usize) -> usize
     ensures { result ≡ sum times (λ i. bit (cell_at table.now (from + stride * i))) }
 {
     let mut total = 0u8;
-    let mut i = 0;
-    while i < times {
-        let at = from + stride * i;
-        if is_arc(table[at]) {
+    for i in 0..times {
+        if is_arc(table[from + stride * i]) {
             total += 1;
         }
-        i += 1;
     }
-    total as usize
+    usize::from(total)
 }
 
 // The arcs out of u: a row.
@@ -166,38 +151,22 @@ pub fn next_before(board: Board, table: &[i32], v: usize, from: usize, to: usize
     ensures { NextInto to (graph_in board table.now) v from result }
 {
     let n = board.vertices;
-    let mut u = from;
-    while u < to {
-        let at = n * u + v;
-        if is_arc(table[at]) {
+    for u in from..to {
+        if is_arc(table[n * u + v]) {
             return u;
         }
-        u += 1;
     }
-    u
+    to
 }
 
-// The same of all vertices, two at a time.
+// The same of all vertices.
 pub fn next_into(board: Board, table: &[i32], v: usize, from: usize) -> usize
     requires lent { Lent board table.now }
     requires v_lt_vertices { v < board.vertices }
     requires from_le_vertices { from ≤ board.vertices }
     ensures { NextInto board.vertices (graph_in board table.now) v from result }
 {
-    let n = board.vertices;
-    let last = n - 1;
-    let mut u = from;
-    while u < last {
-        let at = n * u + v;
-        if is_arc(table[at]) {
-            return u;
-        }
-        if is_arc(table[at + n]) {
-            return u + 1;
-        }
-        u += 2;
-    }
-    next_before(board, table, v, u, n)
+    next_before(board, table, v, from, board.vertices)
 }
 
 // Whether no arc leads into v. The first settles it.
@@ -206,8 +175,7 @@ pub fn none_into(board: Board, table: &[i32], v: usize) -> bool
     requires v_lt_vertices { v < board.vertices }
     ensures { result ≡ eqb (fan_in board.vertices (graph_in board table.now) v) 0 }
 {
-    let n = board.vertices;
-    next_into(board, table, v, 0) == n
+    next_into(board, table, v, 0) == board.vertices
 }
 
 // Whether one arc leads into v. The second settles it.
@@ -218,10 +186,7 @@ pub fn one_into(board: Board, table: &[i32], v: usize) -> bool
 {
     let n = board.vertices;
     let u = next_into(board, table, v, 0);
-    if u == n {
-        return false;
-    }
-    next_into(board, table, v, u + 1) == n
+    u < n && next_into(board, table, v, u + 1) == n
 }
 
 // All arcs: the present cells.
@@ -229,12 +194,9 @@ pub fn arcs(board: Board, table: &[i32]) -> usize
     requires { Lent board table.now }
     ensures { result ≡ arcs board.vertices (graph_in board table.now) }
 {
-    let n = board.vertices;
     let mut total = 0;
-    let mut u = 0;
-    while u < n {
+    for u in 0..board.vertices {
         total += fan_out(board, table, u);
-        u += 1;
     }
     total
 }
@@ -245,13 +207,10 @@ pub fn no_arc_into_input(board: Board, table: &[i32]) -> bool
     ensures { result ≡ no_arc_into_input board.inputs board.vertices (graph_in board table.now) }
 {
     let n = board.vertices;
-    let m = board.inputs;
-    let mut u = 0;
-    while u < n {
-        if count(table, n * u, 1, m) != 0 {
+    for u in 0..n {
+        if count(table, n * u, 1, board.inputs) != 0 {
             return false;
         }
-        u += 1;
     }
     true
 }
@@ -260,9 +219,5 @@ pub fn no_arc_into_input(board: Board, table: &[i32]) -> bool
 pub fn clear(row: &mut [i32])
     ensures { row.new ≡ tabulate (length row.old) (λ _. absent_cell) }
 {
-    let mut v = 0;
-    while v < row.len() {
-        row[v] = Board::ABSENT;
-        v += 1;
-    }
+    row.fill(Board::ABSENT);
 }

@@ -1,6 +1,6 @@
 // Chains of arcs: a pass over a row goes from each arc to the next, whatever lies between. Arcs that are beaten by two others are passed too.
 ghost use Rattle.std.specs.Prelude.{◌≡◌, ◌*◌, ◌<◌, ◌≤◌, T, length, get_or};
-ghost use Rattle.graph.specs.Delay.{at, present, ◌⊕◌};
+ghost use Rattle.graph.specs.Delay.{present, ◌⊕◌};
 ghost use Rattle.timing.specs.Limits.{max_vertices, delay_limit, absent_cell, fits};
 ghost use Rattle.timing.specs.Table.{read_cell};
 ghost use Rattle.paths.specs.Board.{graph_in};
@@ -12,56 +12,35 @@ use crate::board::Board;
 use crate::cells;
 use crate::order::Order;
 
-// Whether an arc is beaten by one of delay d and then `next`. An absent `next` is so low that it beats none.
-fn beaten(cell: i32, next: i32, d: i64) -> bool
-    requires t { T (present (read_cell absent_cell cell)) }
-    requires t_2 { T (fits delay_limit (read_cell absent_cell cell)) }
-    requires t_3 { T (fits delay_limit (read_cell absent_cell next)) }
-    requires t_4 { T (fits delay_limit (at d)) }
-    ensures { result ≡ below (read_cell absent_cell cell) (at d ⊕ read_cell absent_cell next) }
+// Whether an arc is beaten by one of delay `d` and then `next`. Absent is so low that a sum with it beats none.
+fn beaten(cell: i32, next: i32, d: i32) -> bool
+    requires cell_present { T (present (read_cell absent_cell cell)) }
+    requires cell_fits { T (fits delay_limit (read_cell absent_cell cell)) }
+    requires next_fits { T (fits delay_limit (read_cell absent_cell next)) }
+    requires d_fits { T (fits delay_limit (read_cell absent_cell d)) }
+    ensures { result ≡ below (read_cell absent_cell cell) (read_cell absent_cell d ⊕ read_cell absent_cell next) }
 {
-    (cell as i64) < d + (next as i64)
+    i64::from(cell) < i64::from(d) + i64::from(next)
 }
 
 // The chain of a row, from its last cell to its first, without the arcs that are beaten by one of delay d and then one of `next`.
-fn chain_row(row: &[i32], next: &[i32], d: i64, chain: &mut [u8])
+fn chain_row(row: &[i32], next: &[i32], d: i32, chain: &mut [u8])
     requires chain_len_bound { length chain.old ≤ max_vertices }
-    requires near { Near (length chain.old) row.now }
-    requires near_2 { Near (length chain.old) next.now }
-    requires t { T (fits delay_limit (at d)) }
-    ensures { Chain (length chain.old) (unbeaten (cell_at row.now) (cell_at next.now) d) (λ v. get_or chain.new v 0) }
+    requires row_near { Near (length chain.old) row.now }
+    requires next_near { Near (length chain.old) next.now }
+    requires d_fits { T (fits delay_limit (read_cell absent_cell d)) }
+    ensures { Chain (length chain.old) (unbeaten (cell_at row.now) (cell_at next.now) (read_cell absent_cell d)) (λ v. get_or chain.new v 0) }
 {
     let mut after = chain.len();
-    let mut v = chain.len();
-    while v > 0 {
-        v -= 1;
+    for v in (0..chain.len()).rev() {
         chain[v] = after as u8;
-        if cells::is_arc(row[v]) {
-            if !beaten(row[v], next[v], d) {
-                after = v;
-            }
-        }
-    }
-}
-
-// The same with every arc.
-fn plain_row(row: &[i32], chain: &mut [u8])
-    requires chain_len_bound { length chain.old ≤ max_vertices }
-    requires chain_in_bounds { length chain.old ≤ length row.now }
-    ensures { Chain (length chain.old) (cell_at row.now) (λ v. get_or chain.new v 0) }
-{
-    let mut after = chain.len();
-    let mut v = chain.len();
-    while v > 0 {
-        v -= 1;
-        chain[v] = after as u8;
-        if cells::is_arc(row[v]) {
+        if cells::is_arc(row[v]) && !beaten(row[v], next[v], d) {
             after = v;
         }
     }
 }
 
-// The chain of vertex u. Arcs by way of w are looked at where there is an arc to w.
+// The chain of vertex u, without the arcs that are beaten by way of w.
 fn chain_from(board: Board, table: &[i32], u: usize, w: usize, chain: &mut [u8])
     requires checked { Checked board table.now }
     requires u_lt_vertices { u < board.vertices }
@@ -69,15 +48,9 @@ fn chain_from(board: Board, table: &[i32], u: usize, w: usize, chain: &mut [u8])
     requires chain_len { length chain.old ≡ board.vertices }
     ensures { Chained board.vertices (graph_in board table.now) u (λ v. get_or chain.new v 0) }
 {
-    let n = board.vertices;
-    let at = n * u;
-    let d = table[at + w];
-    if cells::is_arc(d) {
-        let from = n * w;
-        chain_row(&table[at..], &table[from..], d as i64, chain);
-    } else {
-        plain_row(&table[at..], chain);
-    }
+    let row = cells::row(board, table, u);
+    let next = cells::row(board, table, w);
+    chain_row(row, next, row[w], chain);
 }
 
 // The chains of all rows, in lent bytes: returned, they would stand twice on the stack. From each vertex w is the next in the order; after the last
@@ -89,13 +62,10 @@ pub fn chains(board: Board, table: &[i32], order: &Order, chain: &mut [u8])
 {
     let n = board.vertices;
     let mut w = 0;
-    let mut p = n;
-    while p > 0 {
-        p -= 1;
-        let u = order[p] as usize;
+    for p in (0..n).rev() {
+        let u = usize::from(order[p]);
         let at = n * u;
-        let end = at + n;
-        chain_from(board, table, u, w, &mut chain[at..end]);
+        chain_from(board, table, u, w, &mut chain[at..at + n]);
         w = u;
     }
 }

@@ -1,10 +1,8 @@
 // Topological order: check 6. Each vertex waits for its arcs in; the smallest that waits for none is placed next. O(N²).
-ghost use Rattle.std.specs.Prelude.{◌≡◌, cond, ℕ, ◌+◌, ◌<◌, ◌≤◌, eqb, length, get_or};
-ghost use Rattle.graph.specs.Count.{bit};
-ghost use Rattle.timing.specs.Limits.{max_vertices, absent_cell};
-ghost use Rattle.timing.specs.Table.{read_cell};
+ghost use Rattle.std.specs.Prelude.{◌≡◌, cond, ◌+◌, ◌<◌, ◌≤◌, eqb, length, get_or, MatchOption};
+ghost use Rattle.timing.specs.Limits.{max_vertices};
 ghost use Rattle.paths.specs.Board.{Lent, graph_in};
-ghost use Rattle.paths.specs.Order.{Ordered, stands_before, FansIn, Raisable, Raised, Lowerable, Lowered, FirstZero};
+ghost use Rattle.paths.specs.Order.{Ordered, stands_before, FansIn, Raisable, Raised, Lowerable, Lowered, NoZero};
 
 use crate::board::Board;
 use crate::cells;
@@ -12,34 +10,27 @@ use crate::cells;
 // The vertices, a byte each, so that every arc rises.
 pub type Order = [u8; Board::MAX_VERTICES];
 
-fn no_fans() -> [u8; Board::MAX_VERTICES]
-    ensures { (length result ≡ max_vertices) × ((v : ℕ) → v < max_vertices → get_or result v 0 ≡ 0) }
-{
-    [0u8; Board::MAX_VERTICES]
-}
-
-fn raised(x: u8, cell: i32) -> u8
-    requires { x < max_vertices }
-    ensures { result ≡ x + bit (read_cell absent_cell cell) }
-{
-    if cells::is_arc(cell) {
-        return x + 1;
-    }
-    x
-}
-
 // Adds a row's arcs to the counts of their targets.
-fn raise(row: &[i32], fan: &mut [u8; Board::MAX_VERTICES], n: usize)
-    requires n_le_max_vertices { n ≤ max_vertices }
-    requires n_in_bounds { n ≤ length row.now }
+fn raise(row: &[i32], fan: &mut [u8; Board::MAX_VERTICES])
+    requires row_few { length row.now ≤ max_vertices }
     requires fan_len { length fan.old ≡ max_vertices }
-    requires raisable { Raisable n fan.old }
-    ensures { Raised n row.now fan.old fan.new }
+    requires raisable { Raisable (length row.now) fan.old }
+    ensures { Raised (length row.now) row.now fan.old fan.new }
 {
-    let mut v = 0;
-    while v < n {
-        fan[v] = raised(fan[v], row[v]);
-        v += 1;
+    for (v, &cell) in row.iter().enumerate() {
+        fan[v] += u8::from(cells::is_arc(cell));
+    }
+}
+
+// Takes a row's arcs off the counts of their targets.
+fn lower(row: &[i32], fan: &mut [u8; Board::MAX_VERTICES])
+    requires row_few { length row.now ≤ max_vertices }
+    requires fan_len { length fan.old ≡ max_vertices }
+    requires lowerable { Lowerable (length row.now) row.now fan.old }
+    ensures { Lowered (length row.now) row.now fan.old fan.new }
+{
+    for (v, &cell) in row.iter().enumerate() {
+        fan[v] -= u8::from(cells::is_arc(cell));
     }
 }
 
@@ -48,56 +39,20 @@ fn fans(board: Board, table: &[i32]) -> [u8; Board::MAX_VERTICES]
     requires { Lent board table.now }
     ensures { FansIn board.vertices (graph_in board table.now) result }
 {
-    let n = board.vertices;
-    let mut fan = no_fans();
-    let mut u = 0;
-    while u < n {
-        let at = n * u;
-        raise(&table[at..], &mut fan, n);
-        u += 1;
+    let mut fan = [0u8; Board::MAX_VERTICES];
+    for u in 0..board.vertices {
+        raise(cells::row(board, table, u), &mut fan);
     }
     fan
 }
 
-fn lowered(x: u8, cell: i32) -> u8
-    requires { bit (read_cell absent_cell cell) ≤ x }
-    ensures { result + bit (read_cell absent_cell cell) ≡ x }
-{
-    if cells::is_arc(cell) {
-        return x - 1;
-    }
-    x
-}
-
-// Takes a row's arcs off the counts of their targets.
-fn lower(row: &[i32], fan: &mut [u8; Board::MAX_VERTICES], n: usize)
-    requires n_le_max_vertices { n ≤ max_vertices }
-    requires n_in_bounds { n ≤ length row.now }
-    requires fan_len { length fan.old ≡ max_vertices }
-    requires lowerable { Lowerable n row.now fan.old }
-    ensures { Lowered n row.now fan.old fan.new }
-{
-    let mut v = 0;
-    while v < n {
-        fan[v] = lowered(fan[v], row[v]);
-        v += 1;
-    }
-}
-
-// The first vertex from `from` on whose count is 0, or n.
-fn ready(fan: &[u8; Board::MAX_VERTICES], from: usize, n: usize) -> usize
+// The first of n vertices, from `from` on, whose count is 0.
+fn ready(fan: &[u8; Board::MAX_VERTICES], from: usize, n: usize) -> Option<usize>
     requires n_le_max_vertices { n ≤ max_vertices }
     requires from_le_n { from ≤ n }
-    ensures { FirstZero n fan.now from result }
+    ensures { MatchOption result (NoZero n fan.now from) (λ u. (u < n) × (get_or fan.now u 0 ≡ 0) × NoZero u fan.now from) }
 {
-    let mut v = from;
-    while v < n {
-        if fan[v] == 0 {
-            return v;
-        }
-        v += 1;
-    }
-    v
+    (from..n).find(|v| fan[*v] == 0)
 }
 
 // Where the next search begins, once u is placed: all before it are.
@@ -121,27 +76,16 @@ pub fn topological_order(board: Board, table: &[i32], order: &mut Order) -> bool
     let n = board.vertices;
     let mut fan = fans(board, table);
     let mut from = 0;
-    let mut p = 0;
-    while p < n {
-        let u = ready(&fan, from, n);
-        if u >= n {
+    for p in 0..n {
+        let Some(u) = ready(&fan, from, n) else {
             return false;
-        }
-        let at = n * u;
-        lower(&table[at..], &mut fan, n);
+        };
+        lower(cells::row(board, table, u), &mut fan);
         fan[u] = 100;
         order[p] = u as u8;
         from = past(from, u);
-        p += 1;
     }
     true
-}
-
-// A byte of an order as a vertex.
-fn vertex(x: u8) -> usize
-    ensures { result ≡ x }
-{
-    x as usize
 }
 
 // Whether a stands before b among the first n bytes of `order`.
@@ -149,16 +93,14 @@ pub fn stands_before(order: &Order, n: usize, a: usize, b: usize) -> bool
     requires { n ≤ max_vertices }
     ensures { result ≡ stands_before n order.now a b }
 {
-    let mut p = 0;
-    while p < n {
-        let v = vertex(order[p]);
+    for x in &order[..n] {
+        let v = usize::from(*x);
         if v == b {
             break;
         }
         if v == a {
             return true;
         }
-        p += 1;
     }
     false
 }

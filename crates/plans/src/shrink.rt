@@ -37,10 +37,10 @@ pub fn row_sums_fit(into: i32, via: &[i32], n: usize) -> bool
 {
     let high = cells::MAX_TICKS - into;
     if 0 <= into {
-        return cells::row_upto(via, n, high);
+        return cells::row_upto(&via[..n], high);
     }
     let low = cells::MIN_TICKS - into;
-    cells::row_within(via, n, low, high)
+    cells::row_within(&via[..n], low, high)
 }
 
 fn sums_fit(board: Board, table: &[i32], k: usize) -> bool

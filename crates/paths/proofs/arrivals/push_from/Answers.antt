@@ -1,0 +1,19 @@
+use Rattle.std.proofs.Common.{◌≡◌, get_or, pos, w64, to_z, of_z, FitsSigned, sym, arith, rules}
+use Rattle.std.proofs.lemmas.Int.{to_z-of_z}
+use mathlib.Core.Path.{subst}
+use mir.Facts.{sfits_lit}
+use Rattle.laws.proofs.Signed.{same_bits, other_bits}
+use Rattle.timing.specs.Limits.{absent_wide}
+use Rattle.paths.specs.Arrivals.{Reached}
+use Rattle.paths.proofs.Propagating.{reached, pushed_none}
+use Rattle.paths.proofs.arrivals.push_from.Goals as goal
+
+pub push-requires-clause-reached : goal.push-requires-clause-reached
+push-requires-clause-reached c =
+    let e : to_z w64 (of_z w64 (get_or c.args.f.now c.args.u (pos 0))) ≡ get_or c.args.f.now c.args.u (pos 0) = grind (arith, to_z-of_z) in
+    subst Reached (sym e) (reached _ (other_bits w64 c.if-a.true) c.requires.t)
+
+pub returns-else-a : goal.returns-else-a
+returns-else-a c =
+    let f : FitsSigned w64 (get_or c.args.f.now c.args.u (pos 0)) = search rules in
+    pushed_none _ _ _ _ _ (same_bits {w = w64} {b = absent_wide} f (sfits_lit tt) c.if-a.false)
