@@ -1,7 +1,5 @@
 // The line about a call's answer.
-ghost use Rattle.replay.specs.Page.{OnPage};
-
-use crate::print;
+use crate::page::Page;
 use files::answer::Read;
 use files::scan::Scanned;
 use files::write::Written;
@@ -10,108 +8,57 @@ use run::answer::Ran;
 use steps::answer::Answer;
 use timing::{Refusal, numbers};
 
-// A word with its number, and the line's end.
-fn line(page: &mut [u8], at: usize, word: &[u8], x: usize) -> usize
-    requires { OnPage page.old at }
-    ensures { OnPage page.new result }
-{
-    let next = print::word(page, at, word);
-    let next = print::number(page, next, x);
-    print::end(page, next)
+fn refused(page: &mut Page, refusal: Refusal) {
+    page.print(format_args!("refused {}\n", numbers::number(refusal)));
 }
 
-fn refused(page: &mut [u8], at: usize, refusal: Refusal) -> usize
-    requires { OnPage page.old at }
-    ensures { OnPage page.new result }
-{
-    line(page, at, b"refused", numbers::number(refusal))
+fn refused_at(page: &mut Page, refusal: Refusal, offset: usize) {
+    page.print(format_args!("refused {} at {offset}\n", numbers::number(refusal)));
 }
 
-// Two words, each with its number.
-fn pair(page: &mut [u8], at: usize, first: &[u8], x: usize, second: &[u8], y: usize) -> usize
-    requires { OnPage page.old at }
-    ensures { OnPage page.new result }
-{
-    let next = print::word(page, at, first);
-    let next = print::number(page, next, x);
-    line(page, next, second, y)
-}
-
-fn refused_at(page: &mut [u8], at: usize, refusal: Refusal, offset: usize) -> usize
-    requires { OnPage page.old at }
-    ensures { OnPage page.new result }
-{
-    pair(
-        page,
-        at,
-        b"refused",
-        numbers::number(refusal),
-        b" at",
-        offset,
-    )
-}
-
-pub fn step(page: &mut [u8], at: usize, answer: Answer) -> usize
-    requires { OnPage page.old at }
-    ensures { OnPage page.new result }
-{
+pub fn step(page: &mut Page, answer: Answer) {
     match answer {
-        Answer::Left(arcs) => line(page, at, b"left", arcs),
-        Answer::Refused(r) => refused(page, at, r),
+        Answer::Left(arcs) => page.print(format_args!("left {arcs}\n")),
+        Answer::Refused(r) => refused(page, r),
     }
 }
 
-pub fn ran(page: &mut [u8], at: usize, answer: Ran) -> usize
-    requires { OnPage page.old at }
-    ensures { OnPage page.new result }
-{
+pub fn ran(page: &mut Page, answer: Ran) {
     match answer {
-        Ran::Accepted(steps, arcs) => pair(page, at, b"accepted", steps, b" arcs", arcs),
-        Ran::Refused(r) => refused(page, at, r),
+        Ran::Accepted(steps, arcs) => page.print(format_args!("accepted {steps} arcs {arcs}\n")),
+        Ran::Refused(r) => refused(page, r),
     }
 }
 
-pub fn query(page: &mut [u8], at: usize, answer: queries::Answer) -> usize
-    requires { OnPage page.old at }
-    ensures { OnPage page.new result }
-{
+pub fn query(page: &mut Page, answer: queries::Answer) {
     match answer {
-        queries::Answer::Done => print::word(page, at, b"ok\n"),
-        queries::Answer::Refused(r) => refused(page, at, r),
+        queries::Answer::Done => page.print("ok\n"),
+        queries::Answer::Refused(r) => refused(page, r),
     }
 }
 
-pub fn written(page: &mut [u8], at: usize, answer: Written) -> usize
-    requires { OnPage page.old at }
-    ensures { OnPage page.new result }
-{
+pub fn written(page: &mut Page, answer: Written) {
     match answer {
-        Written::Bytes(count) => line(page, at, b"bytes", count),
-        Written::Refused(r) => refused(page, at, r),
+        Written::Bytes(count) => page.print(format_args!("bytes {count}\n")),
+        Written::Refused(r) => refused(page, r),
     }
 }
 
-pub fn read(page: &mut [u8], at: usize, answer: Read) -> usize
-    requires { OnPage page.old at }
-    ensures { OnPage page.new result }
-{
+pub fn read(page: &mut Page, answer: Read) {
     match answer {
         Read::Board(board) => {
-            let next = print::word(page, at, b"board");
-            let next = print::number(page, next, board.inputs);
-            let next = print::number(page, next, board.outputs);
-            line(page, next, b"", board.vertices)
+            let inputs = board.inputs;
+            let outputs = board.outputs;
+            let vertices = board.vertices;
+            page.print(format_args!("board {inputs} {outputs} {vertices}\n"));
         }
-        Read::Refused(r, offset) => refused_at(page, at, r, offset),
+        Read::Refused(r, offset) => refused_at(page, r, offset),
     }
 }
 
-pub fn scanned(page: &mut [u8], at: usize, answer: Scanned) -> usize
-    requires { OnPage page.old at }
-    ensures { OnPage page.new result }
-{
+pub fn scanned(page: &mut Page, answer: Scanned) {
     match answer {
-        Scanned::Done => print::word(page, at, b"ok\n"),
-        Scanned::Refused(r, offset) => refused_at(page, at, r, offset),
+        Scanned::Done => page.print("ok\n"),
+        Scanned::Refused(r, offset) => refused_at(page, r, offset),
     }
 }
