@@ -27,10 +27,7 @@ pub enum FoundEntry {
 fn ticks_fit(x: i64) -> bool
     ensures { result ≡ ticks_fit x }
 {
-    if x < 0 {
-        return false;
-    }
-    x <= MAX_TICKS
+    (0..=MAX_TICKS).contains(&x)
 }
 
 fn ticks_at(bytes: &[u8], at: usize) -> FoundEntry
