@@ -70,3 +70,7 @@ puts_same e p = record { same_run = p.same_run; same_len = p.same_len; appends =
 
 pub puts_by : {xs : List ℕ} {a b : Writer} → b.out.ghost_name ≡ a.out.ghost_name → Appends xs a.out.now a.at b.out.now b.at → Puts xs a b
 puts_by e w = record { same_run = e; same_len = appends_length w; appends = w }
+
+-- what a run holds that was lent to a writer
+pub appends_by : {xs s after : List ℕ} {a w : Writer} → Puts xs a w → a.out.now ≡ s → a.at ≡ 0 → after ≡ w.out.now → Appends xs s 0 after w.at
+appends_by {xs} {w = w} p e z q = record { bytes = q ∙ p.appends.bytes ∙ (λ i. sets (e i) (z i) xs); end = omega (arith, p.appends.end, z) }
