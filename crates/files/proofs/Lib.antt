@@ -1,3 +1,4 @@
+pub mod RowCells
 pub mod Leading
 pub mod Turning
 pub mod Scanning

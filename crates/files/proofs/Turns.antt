@@ -1,6 +1,6 @@
 -- Lists of c parts from v on, as a loop over the parts meets them; and what is left to write of them.
-use mathlib.Core.Path.{◌≡◌, sym, ap, ◌∙◌}
-use mathlib.Core.List.{List, [], ◌∷◌, ◌++◌, append_assoc, append-nil}
+use mathlib.Core.Path.{◌≡◌, ap, ◌∙◌}
+use mathlib.Core.List.{List, [], ◌++◌}
 use Prim.Native.Nat.{ℕ, zero, suc, ◌+◌, ◌-◌, ◌≤◌, ◌<◌}
 use native.Mathlib.Omega.{arith}
 use lib.ListN.{length, length-append}
@@ -46,26 +46,6 @@ module _ {A : Type 0} {part : ℕ → List A} {from : ℕ → ℕ → List A} (p
 pub record Joins {A B : Type 0} (write : List A → List B) : Type 0 where
   pub none : write [] ≡ []
   pub more : (xs ys : List A) → write (xs ++ ys) ≡ write xs ++ write ys
-
--- each member by `one`
-pub record Each {A B : Type 0} (one : A → List B) (all : List A → List B) : Type 0 where
-  pub none : all [] ≡ []
-  pub next : (a : A) (xs : List A) → all (a ∷ xs) ≡ one a ++ all xs
-
-module _ {A B : Type 0} {one : A → List B} {all : List A → List B} (e : Each one all) where
-  pub each_one : (a : A) → all (a ∷ []) ≡ one a
-  each_one a = e.next a [] ∙ ap (λ (l : List B). one a ++ l) e.none ∙ append-nil (one a)
-
-  append : (xs ys : List A) → all (xs ++ ys) ≡ all xs ++ all ys
-  append [] ys = sym (ap (λ (l : List B). l ++ all ys) e.none)
-  append (a ∷ xs) ys =
-      e.next a (xs ++ ys)
-      ∙ ap (λ (l : List B). one a ++ l) (append xs ys)
-      ∙ sym (append_assoc (one a) (all xs) (all ys))
-      ∙ ap (λ (l : List B). l ++ all ys) (sym (e.next a xs))
-
-  pub each_joins : Joins all
-  each_joins = record { none = e.none; more = append }
 
 -- what is left at turn v of n
 abbrev pub left : {A B : Type 0} → (List A → List B) → (ℕ → ℕ → List A) → ℕ → ℕ → List B

@@ -1,24 +1,57 @@
 // Writing a board file: BD, an AR for each arc, rising, and EN. The arcs can be written as lines too.
-ghost use Rattle.std.specs.Prelude.{◌≡◌, ◌<◌, T, length};
+ghost use Rattle.std.specs.Prelude.{◌≡◌, List, ℕ, ◌<◌, T, length};
 ghost use Rattle.graph.specs.Count.{arcs};
 ghost use Rattle.timing.specs.Limits.{absent_cell, delay_limit, fits};
 ghost use Rattle.timing.specs.Table.{read_cell};
+ghost use Rattle.format.specs.Arcs.{Arc};
 ghost use Rattle.format.specs.Writing.{arc_record, end_record, write_call};
+ghost use Rattle.format.specs.Text.{arc_line};
 ghost use Rattle.paths.specs.Board.{Sized, graph_in};
 ghost use Rattle.paths.specs.Checked.{Checked};
 ghost use Rattle.records.specs.Appending.{RoomFor, Appends};
+ghost use Rattle.records.specs.Lines.{DelayInRange};
+ghost use Rattle.records.specs.Writing.{HasRoom, Puts};
 ghost use Rattle.files.specs.Forms.{cell_as, row_as, table_as};
 ghost use Rattle.files.specs.Writing.{Writes, board_mark, board_file, file_on};
 
 use paths::{Board, cells, checks, room};
-use records::{lines, put};
+use records::lines;
+use records::put::Writer;
 use timing::Refusal;
 
 // How arcs are written.
-#[derive(Clone, Copy)]
-pub enum Form {
-    Record,
-    Line,
+pub trait Form {
+    ghost text: { Arc → List ℕ };
+
+    fn put(w: &mut Writer, u: usize, v: usize, delay: i32)
+        requires u_bound { u < 256 }
+        requires v_bound { v < 256 }
+        requires delay_in_range { DelayInRange delay }
+        requires room { HasRoom (text (record { from = u; to = v; delay = delay })) w.old }
+        ensures { Puts (text (record { from = u; to = v; delay = delay })) w.old w.new };
+}
+
+pub struct Records;
+
+pub struct Lines;
+
+impl Form for Records {
+    ghost text = { arc_record };
+
+    fn put(w: &mut Writer, u: usize, v: usize, delay: i32) {
+        w.text(b"AR");
+        w.byte(u as u8);
+        w.byte(v as u8);
+        w.signed(4, i64::from(delay));
+    }
+}
+
+impl Form for Lines {
+    ghost text = { arc_line };
+
+    fn put(w: &mut Writer, u: usize, v: usize, delay: i32) {
+        lines::arc_line(w, u, v, delay);
+    }
 }
 
 // The bytes of an AR, and of BD and EN together.
@@ -26,87 +59,62 @@ const ARC_BYTES: usize = 8;
 
 const FRAME_BYTES: usize = 9;
 
-fn put_board(board: Board, out: &mut [u8], at: usize) -> usize
+fn put_board(w: &mut Writer, board: Board)
     requires sized { Sized board }
-    requires room_for { RoomFor (board_mark board) out.old at }
-    ensures { Appends (board_mark board) out.old at out.new result }
+    requires room { HasRoom (board_mark board) w.old }
+    ensures { Puts (board_mark board) w.old w.new }
 {
-    let p = put::put_mark(out, at, b'B', b'D');
-    let p = put::put_small(out, p, board.inputs);
-    let p = put::put_small(out, p, board.outputs);
-    put::put_small(out, p, board.vertices)
-}
-
-fn put_arc(out: &mut [u8], at: usize, u: usize, v: usize, delay: i32) -> usize
-    requires u_bound { u < 256 }
-    requires v_bound { v < 256 }
-    requires room_for { RoomFor (arc_record (record { from = u; to = v; delay = delay })) out.old at }
-    ensures { Appends (arc_record (record { from = u; to = v; delay = delay })) out.old at out.new result }
-{
-    let p = put::put_mark(out, at, b'A', b'R');
-    let p = put::put_small(out, p, u);
-    let p = put::put_small(out, p, v);
-    put::put_signed(out, p, 4, cells::wide(delay))
+    w.text(b"BD");
+    w.byte(board.inputs as u8);
+    w.byte(board.outputs as u8);
+    w.byte(board.vertices as u8);
 }
 
 // The arc of a cell, if it has one.
-fn put_cell(form: Form, out: &mut [u8], at: usize, u: usize, v: usize, cell: i32) -> usize
+fn put_cell<F: Form>(w: &mut Writer, u: usize, v: usize, cell: i32)
     requires u_bound { u < 256 }
     requires v_bound { v < 256 }
     requires t { T (fits delay_limit (read_cell absent_cell cell)) }
-    requires room_for { RoomFor (cell_as form u v cell) out.old at }
-    ensures { Appends (cell_as form u v cell) out.old at out.new result }
+    requires room { HasRoom (cell_as F.text u v cell) w.old }
+    ensures { Puts (cell_as F.text u v cell) w.old w.new }
 {
     if cells::is_arc(cell) {
-        return match form {
-            Form::Record => put_arc(out, at, u, v, cell),
-            Form::Line => lines::arc_line(out, at, u, v, cell),
-        };
+        F::put(w, u, v, cell);
     }
-    at
 }
 
-fn put_end(out: &mut [u8], at: usize, count: usize) -> usize
+fn put_end(w: &mut Writer, count: usize)
     requires count_bound { count < 65536 }
-    requires room_for { RoomFor (end_record count) out.old at }
-    ensures { Appends (end_record count) out.old at out.new result }
+    requires room { HasRoom (end_record count) w.old }
+    ensures { Puts (end_record count) w.old w.new }
 {
-    let p = put::put_mark(out, at, b'E', b'N');
-    put::put_unsigned(out, p, 2, count as u64)
+    w.text(b"EN");
+    w.unsigned(2, count as u64);
 }
 
 // The arcs out of u.
-fn put_row(form: Form, board: Board, table: &[i32], u: usize, out: &mut [u8], at: usize) -> usize
+fn put_row<F: Form>(w: &mut Writer, board: Board, table: &[i32], u: usize)
     requires checked { Checked board table.now }
     requires u_lt_vertices { u < board.vertices }
-    requires room_for { RoomFor (row_as form board table.now u) out.old at }
-    ensures { Appends (row_as form board table.now u) out.old at out.new result }
+    requires room { HasRoom (row_as F.text board table.now u) w.old }
+    ensures { Puts (row_as F.text board table.now u) w.old w.new }
 {
     let n = board.vertices;
-    let mut next = at;
-    let mut v = 0;
-    while v < n {
-        let cell = n * u + v;
-        next = put_cell(form, out, next, u, v, table[cell]);
-        v += 1;
+    for v in 0..n {
+        put_cell::<F>(w, u, v, table[n * u + v]);
     }
-    next
 }
 
 // All arcs.
-pub fn put_arcs(form: Form, board: Board, table: &[i32], out: &mut [u8], at: usize) -> usize
+pub fn put_arcs<F: Form>(w: &mut Writer, board: Board, table: &[i32])
     requires checked { Checked board table.now }
-    requires room_for { RoomFor (table_as form board table.now) out.old at }
-    ensures { Appends (table_as form board table.now) out.old at out.new result }
+    requires room { HasRoom (table_as F.text board table.now) w.old }
+    ensures { Puts (table_as F.text board table.now) w.old w.new }
 {
     let rows = board.vertices;
-    let mut next = at;
-    let mut u = 0;
-    while u < rows {
-        next = put_row(form, board, table, u, out, next);
-        u += 1;
+    for u in 0..rows {
+        put_row::<F>(w, board, table, u);
     }
-    next
 }
 
 // The whole file, of so many arcs.
@@ -116,9 +124,11 @@ fn put_file(board: Board, table: &[i32], count: usize, out: &mut [u8]) -> usize
     requires room_for { RoomFor (board_file board table.now) out.old 0 }
     ensures { Appends (board_file board table.now) out.old 0 out.new result }
 {
-    let first = put_board(board, out, 0);
-    let end = put_arcs(Form::Record, board, table, out, first);
-    put_end(out, end, count)
+    let mut w = Writer::new(out);
+    put_board(&mut w, board);
+    put_arcs::<Records>(&mut w, board, table);
+    put_end(&mut w, count);
+    w.at
 }
 
 // The file of a board that has passed its checks; 21 where it does not fit.

@@ -1,13 +1,18 @@
 -- Appending piece by piece.
 use mathlib.Core.Path.{◌≡◌, refl, sym, ap, ◌∙◌, subst}
-use mathlib.Core.List.{List, [], ◌∷◌, ◌++◌}
+use mathlib.Core.List.{List, [], ◌∷◌, ◌++◌, append_assoc}
 use Prim.Native.Nat.{ℕ, zero, suc, ◌+◌}
 use native.Mathlib.Omega.{arith}
 use lib.ListN.{length, set, length-append}
-use lib.Seq.{sets, length-sets}
+use lib.ListN.{take, drop}
+use lib.Seq.{sets, length-sets, drop-drop}
+use borrow.Rule.Slice.PartMut.{put_mid}
+use Rattle.std.proofs.lemmas.List.Edits.{sets-eq}
 use Rattle.laws.specs.Lists.{tabulate}
 use Rattle.codec.specs.Bytes.{byte_of, with_number}
-use Rattle.records.specs.Appending.{Appends}
+use Rattle.records.specs.declared.put.Writer.{Writer}
+use Rattle.records.specs.Appending.{RoomFor, Appends}
+use Rattle.records.specs.Writing.{Puts}
 
 sets_more : (s : List ℕ) (p : ℕ) (xs ys : List ℕ) → sets s p (xs ++ ys) ≡ sets (sets s p xs) (p + length xs) ys
 sets_more s p [] ys = let e : p ≡ p + 0 = omega arith in ap (λ (i : ℕ). sets s i ys) e
@@ -38,3 +43,34 @@ number_more s p (suc w) x = appends_more (number_more s p w x) (record { bytes =
 -- a number that `codec` wrote
 pub appends_number : (s : List ℕ) (p w x : ℕ) (after : List ℕ) → after ≡ with_number w s p x → Appends (tabulate w (byte_of x)) s p after (p + w)
 appends_number s p w x after e = let n = number_more s p w x in record { bytes = e ∙ n.bytes; end = n.end }
+
+-- a part of the run that was overwritten
+pub appends_part : (xs s : List ℕ) (p k : ℕ) → RoomFor xs s p → k ≡ length xs → Appends xs s p (put_mid p k s xs) (p + length xs)
+appends_part xs s p k room e = record {
+  bytes =
+      let d : drop k (drop p s) ≡ drop (p + length xs) s = drop-drop k p s ∙ ap (λ (i : ℕ). drop i s) (omega (arith, e)) in
+      ap (λ (l : List ℕ). take p s ++ (xs ++ l)) d ∙ sym (append_assoc (take p s) xs (drop (p + length xs) s)) ∙ sym (sets-eq xs s p room);
+  end = refl;
+}
+
+-- ---- writers
+
+pub puts_none : {a : Writer} → Puts [] a a
+puts_none = record { same_run = refl; same_len = refl; appends = appends_none }
+
+pub puts_more : {xs ys : List ℕ} {a b c : Writer} → Puts xs a b → Puts ys b c → Puts (xs ++ ys) a c
+puts_more p q = record {
+  same_run = q.same_run ∙ p.same_run;
+  same_len = q.same_len ∙ p.same_len;
+  appends = appends_more p.appends q.appends;
+}
+
+pub puts_same : {xs ys : List ℕ} {a b : Writer} → xs ≡ ys → Puts xs a b → Puts ys a b
+puts_same e p = record { same_run = p.same_run; same_len = p.same_len; appends = appends_same e p.appends }
+
+pub puts_by : {xs : List ℕ} {a b : Writer} → b.out.ghost_name ≡ a.out.ghost_name → Appends xs a.out.now a.at b.out.now b.at → Puts xs a b
+puts_by e w = record { same_run = e; same_len = appends_length w; appends = w }
+
+-- what a run holds that was lent to a writer
+pub appends_by : {xs s after : List ℕ} {a w : Writer} → Puts xs a w → a.out.now ≡ s → a.at ≡ 0 → after ≡ w.out.now → Appends xs s 0 after w.at
+appends_by {xs} {w = w} p e z q = record { bytes = q ∙ p.appends.bytes ∙ (λ i. sets (e i) (z i) xs); end = omega (arith, p.appends.end, z) }

@@ -3,5 +3,3 @@ pub mod Ends
 pub mod Appending
 pub mod Remaining
 pub mod Decimal
-pub mod Signs
-pub mod Wording

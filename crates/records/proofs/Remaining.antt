@@ -1,34 +1,32 @@
--- A loop that appends: what remains is left to append of the whole that was begun at place p₀ of s₀.
-use mathlib.Core.Path.{◌≡◌, sym, ap, ◌∙◌}
+-- A loop that appends: what remains is left to append of the whole that was begun at a.
+use mathlib.Core.Path.{◌≡◌, refl, sym, ap, ◌∙◌}
 use mathlib.Core.List.{List, [], ◌++◌, append_assoc, append-nil}
 use Prim.Native.Nat.{ℕ}
 use native.Mathlib.Omega.{arith}
 use lib.ListN.{length, length-append}
-use Rattle.records.specs.Appending.{RoomFor, Appends}
-use Rattle.records.proofs.Appending.{appends_none, appends_more, appends_length, appends_same}
+use Rattle.records.specs.declared.put.Writer.{Writer}
+use Rattle.records.specs.Writing.{HasRoom, Puts}
+use Rattle.records.proofs.Appending.{puts_none, puts_more, puts_same}
 
-pub record Remains (whole s₀ : List ℕ) (p₀ : ℕ) (rest s : List ℕ) (p : ℕ) : Type 0 where
+pub record Remains (whole : List ℕ) (a : Writer) (rest : List ℕ) (w : Writer) : Type 0 where
   pub done : List ℕ
-  pub appended : Appends done s₀ p₀ s p
+  pub puts : Puts done a w
   pub parts : done ++ rest ≡ whole
 
-pub remains_all : {whole rest s : List ℕ} {p : ℕ} → rest ≡ whole → Remains whole s p rest s p
-remains_all e = record { done = []; appended = appends_none; parts = e }
+pub remains_all : {whole rest : List ℕ} {a : Writer} → rest ≡ whole → Remains whole a rest a
+remains_all e = record { done = []; puts = puts_none; parts = e }
 
-module _ {whole s₀ rest s : List ℕ} {p₀ p : ℕ} (r : Remains whole s₀ p₀ rest s p) where
-  pub remains_length : length s ≡ length s₀
-  remains_length = appends_length r.appended
-
+module _ {whole rest : List ℕ} {a w : Writer} (r : Remains whole a rest w) where
   -- there is room for the next part
-  pub remains_fits : RoomFor whole s₀ p₀ → (xs rest' : List ℕ) → rest ≡ xs ++ rest' → RoomFor xs s p
-  remains_fits room xs rest' e = omega (arith, room, remains_length, r.appended.end, ap length r.parts, length-append r.done rest, ap length e, length-append xs rest')
+  pub remains_fits : HasRoom whole a → (xs rest' : List ℕ) → rest ≡ xs ++ rest' → HasRoom xs w
+  remains_fits room xs rest' e = omega (arith, room, r.puts.same_len, r.puts.appends.end, ap length r.parts, length-append r.done rest, ap length e, length-append xs rest')
 
-  pub remains_next : {xs rest' s' : List ℕ} {p' : ℕ} → rest ≡ xs ++ rest' → Appends xs s p s' p' → Remains whole s₀ p₀ rest' s' p'
-  remains_next {xs} {rest'} e a = record {
+  pub remains_next : {xs rest' : List ℕ} {w' : Writer} → rest ≡ xs ++ rest' → Puts xs w w' → Remains whole a rest' w'
+  remains_next {xs} {rest'} e p = record {
     done = r.done ++ xs;
-    appended = appends_more r.appended a;
+    puts = puts_more r.puts p;
     parts = append_assoc r.done xs rest' ∙ ap (λ (l : List ℕ). r.done ++ l) (sym e) ∙ r.parts;
   }
 
-  pub remains_none : rest ≡ [] → Appends whole s₀ p₀ s p
-  remains_none e = appends_same (sym (append-nil r.done) ∙ ap (λ (l : List ℕ). r.done ++ l) (sym e) ∙ r.parts) r.appended
+  pub remains_none : rest ≡ [] → Puts whole a w
+  remains_none e = puts_same (sym (append-nil r.done) ∙ ap (λ (l : List ℕ). r.done ++ l) (sym e) ∙ r.parts) r.puts

@@ -21,10 +21,7 @@ pub const MAX_TICKS: i64 = 1_000_000;
 fn ticks_fit(x: i64) -> bool
     ensures { result ≡ ticks_fit x }
 {
-    if x < 0 {
-        return false;
-    }
-    x <= MAX_TICKS
+    (0..=MAX_TICKS).contains(&x)
 }
 
 fn ticks_at(bytes: &[u8], at: usize) -> Result<Entry, Refusal>

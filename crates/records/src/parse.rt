@@ -12,50 +12,26 @@ use format::{Mark, Record};
 use paths::cells;
 use timing::Refusal;
 
-fn wide(x: u8) -> usize
-    ensures { (result ≡ x) × (result < 256) }
-{
-    x as usize
-}
-
 pub fn byte(bytes: &[u8], at: usize) -> usize
     requires { at < length bytes.now }
     ensures { (result ≡ byte_at bytes.now at) × (result < 256) }
 {
-    wide(bytes[at])
+    usize::from(bytes[at])
 }
 
-// Whether the letters x and y stand at `at`.
-pub fn letters(bytes: &[u8], at: usize, x: u8, y: u8) -> bool
-    requires { at + 2 ≤ length bytes.now }
-    ensures { result ≡ letters x y bytes.now at }
-{
-    if bytes[at] != x {
-        return false;
-    }
-    bytes[at + 1] == y
-}
-
+#[tactic(auto, unfolding(format::specs::Records::mark_at))]
 pub fn mark_at(bytes: &[u8], at: usize) -> Mark
     requires { at + 2 ≤ length bytes.now }
     ensures { result ≡ mark_at bytes.now at }
 {
-    if letters(bytes, at, b'B', b'D') {
-        return Mark::Board;
+    match (bytes[at], bytes[at + 1]) {
+        (b'B', b'D') => Mark::Board,
+        (b'A', b'R') => Mark::Arc,
+        (b'C', b'E') => Mark::Cell,
+        (b'E', b'N') => Mark::End,
+        (b'C', b'L') => Mark::Library,
+        _ => Mark::Other,
     }
-    if letters(bytes, at, b'A', b'R') {
-        return Mark::Arc;
-    }
-    if letters(bytes, at, b'C', b'E') {
-        return Mark::Cell;
-    }
-    if letters(bytes, at, b'E', b'N') {
-        return Mark::End;
-    }
-    if letters(bytes, at, b'C', b'L') {
-        return Mark::Library;
-    }
-    Mark::Other
 }
 
 // The built-in ticks.
@@ -82,10 +58,7 @@ pub fn cell_ticks(code: u8) -> Result<i32, Refusal>
 fn vertices(n: usize, u: usize, v: usize) -> bool
     ensures { result ≡ (ltb u n && ltb v n) }
 {
-    if u < n {
-        return v < n;
-    }
-    false
+    u < n && v < n
 }
 
 // Both ends of a record of `size` bytes, its mark included; 15 where they are not all there, 17 where an end is no vertex.

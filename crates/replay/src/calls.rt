@@ -1,8 +1,4 @@
-// What a call starts from, what becomes of it, and what it prints of lent memory.
-ghost use Rattle.replay.specs.Page.{OnPage};
-
-use crate::lines;
-
+// What a call is made with.
 // Document 01's m, n and N, of any size.
 #[derive(Clone, Copy)]
 pub struct Sizes {
@@ -11,28 +7,51 @@ pub struct Sizes {
     pub vertices: usize,
 }
 
-#[derive(Clone, Copy)]
-pub struct Call {
-    pub kind: usize,
+#[derive(Drop)]
+pub struct Lent<'t, 's> {
     pub sizes: Sizes,
-    // The place for its text.
-    pub at: usize,
+    pub table: &'t mut [i32],
+    pub scratch: &'s mut [i64],
 }
 
 #[derive(Clone, Copy)]
-pub enum Played {
-    // The place after the call's text.
-    Printed(usize),
-    // The length of the library that was put.
-    Put(usize),
-    // The input ends inside the call, or a list is longer than the program's memory.
-    Ended,
+pub enum Kind {
+    Shrink,
+    ShareInputs,
+    ShareOutputs,
+    Prune,
+    MergeBack,
+    Star,
+    Run,
+    DelayMatrix,
+    OutputArrivals,
+    Write,
+    Read,
+    Margins,
+    ReadLibrary,
+    PutLibrary,
 }
 
-pub fn left(page: &mut [u8], at: usize, table: &[i32], scratch: &[i64]) -> usize
-    requires { OnPage page.old at }
-    ensures { OnPage page.new result }
-{
-    let next = lines::table(page, at, table);
-    lines::scratch(page, next, scratch)
+impl TryFrom<u8> for Kind {
+    type Error = ();
+
+    fn try_from(code: u8) -> Result<Kind, ()> {
+        match code {
+            1 => Ok(Kind::Shrink),
+            2 => Ok(Kind::ShareInputs),
+            3 => Ok(Kind::ShareOutputs),
+            4 => Ok(Kind::Prune),
+            5 => Ok(Kind::MergeBack),
+            6 => Ok(Kind::Star),
+            7 => Ok(Kind::Run),
+            8 => Ok(Kind::DelayMatrix),
+            9 => Ok(Kind::OutputArrivals),
+            10 => Ok(Kind::Write),
+            11 => Ok(Kind::Read),
+            12 => Ok(Kind::Margins),
+            13 => Ok(Kind::ReadLibrary),
+            14 => Ok(Kind::PutLibrary),
+            _ => Err(()),
+        }
+    }
 }

@@ -1,63 +1,70 @@
-// Writing and reading board files.
-ghost use Rattle.replay.specs.Page.{OnPage, EndsOn};
+// Writing and reading board files, and reading and putting libraries.
+ghost use Rattle.std.specs.Prelude.{◌≤◌};
 
-use crate::calls::{Call, Played};
-use crate::input::Got;
-use crate::{answers, calls, input, lines, memory};
-use files::{read, write};
+use crate::calls::{Lent, Sizes};
+use crate::page::Page;
+use crate::{answers, input, lines, memory};
+use files::{library, read, read_library, write};
+use records::library::CODES;
 
-fn write_into(
-    call: Call,
-    table: &[i32],
-    scratch: &[i64],
-    bytes: &mut [u8],
-    page: &mut [u8],
-) -> Played
-    requires { OnPage page.old call.at }
-    ensures { EndsOn page.new result }
-{
-    let m = call.sizes.inputs;
-    let n = call.sizes.outputs;
-    let answer = write::write(m, n, call.sizes.vertices, table, scratch, bytes);
-    let next = answers::written(page, call.at, answer);
-    let next = lines::table(page, next, table);
-    let next = lines::bytes(page, next, bytes);
-    Played::Printed(lines::scratch(page, next, scratch))
+// The library in force, at the front of its memory.
+#[derive(Drop)]
+pub struct Library {
+    cells: [i32; memory::LIBRARY],
+    held: usize,
+    ghost within: { held ≤ 64 },
 }
 
-pub fn write(call: Call, table: &[i32], scratch: &[i64], page: &mut [u8]) -> Played
-    requires { OnPage page.old call.at }
-    ensures { EndsOn page.new result }
-{
-    let Got::Number(length) = input::count() else {
-        return Played::Ended;
-    };
-    if length > memory::BYTES {
-        return Played::Ended;
+impl Library {
+    pub fn built_in() -> Library {
+        let mut cells = [0; memory::LIBRARY];
+        library::built_in(&mut cells[0..CODES]);
+        Library { cells, held: CODES }
     }
-    let mut bytes = memory::bytes();
-    write_into(call, table, scratch, &mut bytes[0..length], page)
 }
 
-pub fn read(
-    call: Call,
-    table: &mut [i32],
-    scratch: &[i64],
-    library: &[i32],
-    page: &mut [u8],
-) -> Played
-    requires { OnPage page.old call.at }
-    ensures { EndsOn page.new result }
-{
-    let Got::Number(count) = input::count() else {
-        return Played::Ended;
-    };
-    let mut file = memory::page();
-    let came = input::bytes(&mut file, count);
-    if came != count {
-        return Played::Ended;
-    }
-    let answer = read::read(&file[0..count], table, scratch, library);
-    let next = answers::read(page, call.at, answer);
-    Played::Printed(calls::left(page, next, table, scratch))
+pub fn write(lent: &Lent, page: &mut Page) -> Option<()> {
+    let Sizes {
+        inputs,
+        outputs,
+        vertices,
+    } = lent.sizes;
+    let mut bytes = [memory::DESTINATION_BYTE; memory::BYTES];
+    let bytes = input::part(&mut bytes)?;
+    let answer = write::write(inputs, outputs, vertices, lent.table, lent.scratch, bytes);
+    answers::written(page, answer);
+    lines::table(page, lent.table);
+    lines::bytes(page, bytes);
+    lines::scratch(page, lent.scratch);
+    Some(())
+}
+
+pub fn read(lent: &mut Lent, library: &Library, page: &mut Page) -> Option<()> {
+    let mut file = [0; memory::FILE];
+    let file = input::file(&mut file)?;
+    let table = &mut *lent.table;
+    let scratch = &mut *lent.scratch;
+    let answer = read::read(file, table, scratch, &library.cells[..library.held]);
+    answers::read(page, answer);
+    lines::left(page, table, scratch);
+    Some(())
+}
+
+pub fn read_library(lent: &Lent, library: &mut Library, page: &mut Page) -> Option<()> {
+    let mut file = [0; memory::FILE];
+    let file = input::file(&mut file)?;
+    let mut cells = library.cells;
+    let answer = read_library::read_library(file, &mut cells[..library.held]);
+    library.cells = cells;
+    answers::scanned(page, answer);
+    lines::library(page, &cells[..library.held]);
+    lines::left(page, lent.table, lent.scratch);
+    Some(())
+}
+
+// Any cells, in the library's place.
+pub fn put_library(library: &mut Library) -> Option<()> {
+    let held = input::list(&mut library.cells)?.len();
+    library.held = held;
+    Some(())
 }

@@ -1,98 +1,61 @@
 // The lines about lent memory.
-ghost use Rattle.replay.specs.Page.{OnPage};
-
-use crate::{memory, print};
+use crate::memory;
+use crate::page::Page;
 use paths::cells;
+use std::fmt;
 
-fn arc(page: &mut [u8], at: usize, x: i32) -> usize
-    requires { OnPage page.old at }
-    ensures { OnPage page.new result }
-{
-    if cells::is_arc(x) {
-        return print::signed(page, at, cells::wide(x));
+// What a table's cell holds.
+#[derive(Clone, Copy)]
+struct Cell(i32);
+
+impl fmt::Display for Cell {
+    fn fmt<W: fmt::Write>(&self, f: &mut fmt::Formatter<W>) -> fmt::Result {
+        if cells::is_arc(self.0) {
+            write!(f, "{}", self.0)
+        } else {
+            write!(f, "-")
+        }
     }
-    print::word(page, at, b" -")
 }
 
-fn byte(page: &mut [u8], at: usize, x: u8) -> usize
-    requires { OnPage page.old at }
-    ensures { OnPage page.new result }
+// A list's name and its elements, each after a space.
+fn list<T: Copy, D: fmt::Display + Drop, S: Fn(T) -> D>(
+    page: &mut Page,
+    name: &str,
+    list: &[T],
+    shown: S,
+)
+    requires { S.IsAlwaysCallable shown }
 {
-    print::number(page, at, x as usize)
-}
-
-// What stands at `i` in the one list that is not empty.
-fn cell(page: &mut [u8], at: usize, i: usize, table: &[i32], delays: &[i64], bytes: &[u8]) -> usize
-    requires { OnPage page.old at }
-    ensures { OnPage page.new result }
-{
-    if i < table.len() {
-        return arc(page, at, table[i]);
+    page.print(name);
+    for x in list {
+        page.print(format_args!(" {}", shown(*x)));
     }
-    if i < delays.len() {
-        return print::signed(page, at, delays[i]);
-    }
-    if i < bytes.len() {
-        return byte(page, at, bytes[i]);
-    }
-    at
+    page.print("\n");
 }
 
-// The list's name, and its `count` cells.
-fn line(
-    page: &mut [u8],
-    at: usize,
-    name: &[u8],
-    count: usize,
-    table: &[i32],
-    delays: &[i64],
-    bytes: &[u8],
-) -> usize
-    requires { OnPage page.old at }
-    ensures { OnPage page.new result }
-{
-    let mut next = print::word(page, at, name);
-    let mut i = 0;
-    while i < count {
-        next = cell(page, next, i, table, delays, bytes);
-        i += 1;
-    }
-    print::end(page, next)
+pub fn table(page: &mut Page, table: &[i32]) {
+    list(page, "table", table, Cell);
 }
 
-pub fn table(page: &mut [u8], at: usize, table: &[i32]) -> usize
-    requires { OnPage page.old at }
-    ensures { OnPage page.new result }
-{
-    line(page, at, b"table", table.len(), table, &[], &[])
+pub fn library(page: &mut Page, library: &[i32]) {
+    list(page, "library", library, Cell);
 }
 
-pub fn library(page: &mut [u8], at: usize, library: &[i32]) -> usize
-    requires { OnPage page.old at }
-    ensures { OnPage page.new result }
-{
-    line(page, at, b"library", library.len(), library, &[], &[])
+pub fn delays(page: &mut Page, delays: &[i64]) {
+    list(page, "destination", delays, |x| x);
 }
 
-pub fn delays(page: &mut [u8], at: usize, delays: &[i64]) -> usize
-    requires { OnPage page.old at }
-    ensures { OnPage page.new result }
-{
-    line(page, at, b"destination", delays.len(), &[], delays, &[])
+pub fn bytes(page: &mut Page, bytes: &[u8]) {
+    list(page, "destination", bytes, |x| x);
 }
 
-pub fn bytes(page: &mut [u8], at: usize, bytes: &[u8]) -> usize
-    requires { OnPage page.old at }
-    ensures { OnPage page.new result }
-{
-    line(page, at, b"destination", bytes.len(), &[], &[], bytes)
+pub fn scratch(page: &mut Page, scratch: &[i64]) {
+    page.print(format_args!("scratch {}\n", memory::touched(scratch)));
 }
 
-pub fn scratch(page: &mut [u8], at: usize, scratch: &[i64]) -> usize
-    requires { OnPage page.old at }
-    ensures { OnPage page.new result }
-{
-    let next = print::word(page, at, b"scratch");
-    let next = print::number(page, next, memory::touched(scratch));
-    print::end(page, next)
+// The table and the scratch, as a call left them.
+pub fn left(page: &mut Page, table: &[i32], scratch: &[i64]) {
+    self::table(page, table);
+    self::scratch(page, scratch);
 }

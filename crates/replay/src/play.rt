@@ -1,41 +1,29 @@
 // The whole replay: sizes, lent memory, and calls to the end.
-ghost use Rattle.std.specs.Prelude.{◌≡◌, ◌≤◌, length};
-ghost use Rattle.replay.specs.Page.{OnPage, EndsOn};
+use crate::calls::{Kind, Lent, Sizes};
+use crate::file_calls::Library;
+use crate::input::{self, Number};
+use crate::page::Page;
+use crate::{file_calls, memory, query_calls, step_calls};
 
-use crate::calls::{Call, Played, Sizes};
-use crate::input::Got;
-use crate::{
-    file_calls, input, library_calls, margin_calls, memory, print, query_calls, step_calls,
-};
-use files::library;
-use records::library::CODES;
-
-// The library is the first `held` cells of its memory.
-fn played(
-    call: Call,
-    table: &mut [i32],
-    scratch: &mut [i64],
-    library: &mut [i32],
-    held: usize,
-    page: &mut [u8],
-) -> Played
-    requires on_page { OnPage page.old call.at }
-    requires library_len { length library.old ≡ 64 }
-    requires held_bound { held ≤ 64 }
-    ensures { EndsOn page.new result }
-{
-    let kind = call.kind;
+// `None` where the input ends inside the call, or a list is longer than the program's memory.
+fn call(kind: Kind, lent: &mut Lent, library: &mut Library, page: &mut Page) -> Option<()> {
     match kind {
-        1..=5 => step_calls::step(call, table, scratch, page),
-        6 => step_calls::star(call, table, scratch, page),
-        7 => step_calls::run(call, table, scratch, page),
-        8 | 9 => query_calls::query(call, table, scratch, page),
-        10 => file_calls::write(call, table, scratch, page),
-        11 => file_calls::read(call, table, scratch, &library[0..held], page),
-        12 => margin_calls::margins(call, table, scratch, page),
-        13 | 14 => library_calls::library(call, table, scratch, library, held, page),
-        _ => Played::Ended,
+        Kind::Shrink => step_calls::shrink(lent, page)?,
+        Kind::ShareInputs => step_calls::share_inputs(lent, page)?,
+        Kind::ShareOutputs => step_calls::share_outputs(lent, page)?,
+        Kind::Prune => step_calls::prune(lent, page),
+        Kind::MergeBack => step_calls::merge_back(lent, page)?,
+        Kind::Star => step_calls::star(lent, page)?,
+        Kind::Run => step_calls::run(lent, page),
+        Kind::DelayMatrix => query_calls::delay_matrix(lent, page)?,
+        Kind::OutputArrivals => query_calls::output_arrivals(lent, page)?,
+        Kind::Write => file_calls::write(lent, page)?,
+        Kind::Read => file_calls::read(lent, library, page)?,
+        Kind::Margins => query_calls::margins(lent, page)?,
+        Kind::ReadLibrary => file_calls::read_library(lent, library, page)?,
+        Kind::PutLibrary => file_calls::put_library(library)?,
     }
+    Some(())
 }
 
 // The next call, with a scratch of `room` cells.
@@ -43,103 +31,35 @@ fn turn(
     sizes: Sizes,
     table: &mut [i32],
     room: usize,
-    library: &mut [i32],
-    held: usize,
-    page: &mut [u8],
-    at: usize,
-) -> Played
-    requires on_page { OnPage page.old at }
-    requires library_len { length library.old ≡ 64 }
-    requires held_bound { held ≤ 64 }
-    ensures { EndsOn page.new result }
-{
-    if room > memory::CELLS {
-        return Played::Ended;
-    }
-    let Got::Number(kind) = input::byte() else {
-        return Played::Ended;
+    library: &mut Library,
+    page: &mut Page,
+) -> Option<()> {
+    let mut scratch = [memory::SCRATCH; memory::CELLS];
+    let scratch = scratch.get_mut(..room)?;
+    let kind = Kind::try_from(u8::next()?).ok()?;
+    let mut lent = Lent {
+        sizes,
+        table,
+        scratch,
     };
-    let call = Call {
-        kind: kind,
-        sizes: sizes,
-        at: at,
-    };
-    let mut scratch = memory::scratch();
-    played(call, table, &mut scratch[0..room], library, held, page)
+    call(kind, &mut lent, library, page)
 }
 
-// The calls, and the place after their text. Nothing says that the input ends, so the turns are counted down, from a number that no replay uses up.
-fn turns(
-    sizes: Sizes,
-    table: &mut [i32],
-    room: usize,
-    library: &mut [i32],
-    page: &mut [u8],
-) -> usize
-    requires on_page { OnPage page.old 0 }
-    requires library_len { length library.old ≡ 64 }
-    ensures { OnPage page.new result }
-{
-    let mut at = 0;
-    let mut held = CODES;
-    let mut left = u64::MAX;
-    while left > 0 {
-        let played = turn(sizes, table, room, library, held, page, at);
-        match played {
-            Played::Printed(next) => {
-                at = next;
-            }
-            Played::Put(count) => {
-                held = count;
-            }
-            Played::Ended => {
-                return at;
-            }
-        }
-        left -= 1;
-    }
-    at
-}
-
-fn begin(sizes: Sizes, table: &mut [i32], room: usize, library: &mut [i32], page: &mut [u8])
-    requires on_page { OnPage page.old 0 }
-    requires library_len { length library.old ≡ 64 }
-{
-    let came = input::cells(table);
-    if came != table.len() {
-        return;
-    }
-    library::built_in(&mut library[0..CODES]);
-    let at = turns(sizes, table, room, library, page);
-    print::flush(page, at);
-}
-
-pub fn play(table: &mut [i32], library: &mut [i32], page: &mut [u8])
-    requires on_page { OnPage page.old 0 }
-    requires library_len { length library.old ≡ 64 }
-{
-    let Got::Number(inputs) = input::word() else {
-        return;
-    };
-    let Got::Number(outputs) = input::word() else {
-        return;
-    };
-    let Got::Number(vertices) = input::word() else {
-        return;
-    };
-    let Got::Number(cells) = input::count() else {
-        return;
-    };
-    let Got::Number(room) = input::count() else {
-        return;
-    };
-    if cells > table.len() {
-        return;
-    }
+// The calls. Nothing says that the input ends, so the turns are counted, up to a number that no replay reaches.
+pub fn play(page: &mut Page) -> Option<()> {
     let sizes = Sizes {
-        inputs: inputs,
-        outputs: outputs,
-        vertices: vertices,
+        inputs: usize::next()?,
+        outputs: usize::next()?,
+        vertices: usize::next()?,
     };
-    begin(sizes, &mut table[0..cells], room, library, page);
+    let cells = u16::next()?;
+    let room = u16::next()?;
+    let mut table = [0; memory::CELLS];
+    let table = table.get_mut(..usize::from(cells))?;
+    input::fill(table)?;
+    let mut library = Library::built_in();
+    for _ in 0..u64::MAX {
+        turn(sizes, table, usize::from(room), &mut library, page)?;
+    }
+    Some(())
 }

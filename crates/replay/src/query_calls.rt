@@ -1,80 +1,87 @@
-// The two calls that answer path delays: the matrix, and the output arrivals.
-ghost use Rattle.replay.specs.Page.{OnPage, EndsOn};
-
-use crate::calls::{Call, Played};
-use crate::input::Got;
+// The three calls that answer path delays: the matrix, the output arrivals and the margins.
+use crate::calls::{Lent, Sizes};
+use crate::page::Page;
 use crate::{answers, input, lines, memory};
-use paths::queries;
-use timing::Refusal;
+use paths::{margins, queries};
 
-// How many arrivals a call is given.
-fn given(kind: usize) -> Got {
-    match kind {
-        8 => Got::Number(0),
-        _ => input::count(),
-    }
-}
-
-fn answer(
-    call: Call,
+fn queried(
+    page: &mut Page,
+    answer: Result<(), Refusal>,
+    delays: &[i64],
     table: &[i32],
-    scratch: &mut [i64],
-    given: &[i64],
-    delays: &mut [i64],
-) -> Result<(), Refusal> {
-    let kind = call.kind;
-    let m = call.sizes.inputs;
-    let n = call.sizes.outputs;
-    let vertices = call.sizes.vertices;
-    match kind {
-        8 => queries::delay_matrix(m, n, vertices, table, scratch, delays),
-        _ => queries::output_arrivals(m, n, vertices, table, scratch, given, delays),
-    }
+    scratch: &[i64],
+) {
+    answers::query(page, answer);
+    lines::table(page, table);
+    lines::delays(page, delays);
+    lines::scratch(page, scratch);
 }
 
-fn query_into(
-    call: Call,
-    table: &[i32],
-    scratch: &mut [i64],
-    given: &[i64],
-    delays: &mut [i64],
-    page: &mut [u8],
-) -> Played
-    requires { OnPage page.old call.at }
-    ensures { EndsOn page.new result }
-{
-    let answer = answer(call, table, scratch, given, delays);
-    let next = answers::query(page, call.at, answer);
-    let next = lines::table(page, next, table);
-    let next = lines::delays(page, next, delays);
-    Played::Printed(lines::scratch(page, next, scratch))
+pub fn delay_matrix(lent: &mut Lent, page: &mut Page) -> Option<()> {
+    let table = &mut *lent.table;
+    let scratch = &mut *lent.scratch;
+    let Sizes {
+        inputs,
+        outputs,
+        vertices,
+    } = lent.sizes;
+    let mut delays = [memory::DESTINATION; memory::CELLS];
+    let delays = input::part(&mut delays)?;
+    let answer = queries::delay_matrix(inputs, outputs, vertices, table, scratch, delays);
+    queried(page, answer, delays, table, scratch);
+    Some(())
 }
 
-pub fn query(call: Call, table: &[i32], scratch: &mut [i64], page: &mut [u8]) -> Played
-    requires { OnPage page.old call.at }
-    ensures { EndsOn page.new result }
-{
-    let Got::Number(count) = given(call.kind) else {
-        return Played::Ended;
-    };
-    let mut arrivals = memory::arrivals();
-    let came = input::arrivals(&mut arrivals, count);
-    if came != count {
-        return Played::Ended;
-    }
-    let Got::Number(length) = input::count() else {
-        return Played::Ended;
-    };
-    if length > memory::CELLS {
-        return Played::Ended;
-    }
-    let mut delays = memory::delays();
-    query_into(
-        call,
-        table,
-        scratch,
-        &arrivals[0..count],
-        &mut delays[0..length],
-        page,
-    )
+pub fn output_arrivals(lent: &mut Lent, page: &mut Page) -> Option<()> {
+    let table = &mut *lent.table;
+    let scratch = &mut *lent.scratch;
+    let Sizes {
+        inputs,
+        outputs,
+        vertices,
+    } = lent.sizes;
+    let mut given = [0; memory::ARRIVALS];
+    let given = input::list(&mut given)?;
+    let mut delays = [memory::DESTINATION; memory::CELLS];
+    let delays = input::part(&mut delays)?;
+    let answer = queries::output_arrivals(inputs, outputs, vertices, table, scratch, given, delays);
+    queried(page, answer, delays, table, scratch);
+    Some(())
+}
+
+pub fn margins(lent: &Lent, page: &mut Page) -> Option<()> {
+    let Sizes {
+        inputs,
+        outputs,
+        vertices,
+    } = lent.sizes;
+    let mut given = [0; memory::ARRIVALS];
+    let given = input::list(&mut given)?;
+    let mut due = [0; memory::ARRIVALS];
+    let due = input::list(&mut due)?;
+    let mut arrival = [memory::DESTINATION; memory::CELLS];
+    let arrival = input::part(&mut arrival)?;
+    let mut required = [memory::DESTINATION; memory::CELLS];
+    let required = input::part(&mut required)?;
+    let mut margin = [memory::DESTINATION; memory::CELLS];
+    let margin = input::part(&mut margin)?;
+    let answer = margins::margins(
+        inputs,
+        outputs,
+        vertices,
+        lent.table,
+        lent.scratch,
+        given,
+        due,
+        arrival,
+        required,
+        margin,
+    );
+    answers::query(page, answer);
+    lines::table(page, lent.table);
+    lines::delays(page, arrival);
+    lines::delays(page, required);
+    lines::delays(page, margin);
+    lines::scratch(page, lent.scratch);
+    Some(())
 }

@@ -8,9 +8,8 @@ use lib.IntN.{ℤ}
 use mir.Syntax.{w64}
 use mir.Val.{to_z, of_z}
 use Rattle.timing.specs.Limits.{max_vertices}
-use Rattle.timing.specs.Refusal.{accepted}
+use Rattle.timing.specs.Refusal.{accepted, verdict}
 use Rattle.paths.specs.Board.{Lent}
-use Rattle.plans.specs.Verdict.{difference_meaning}
 use Rattle.paths.specs.Checked.{Checked, Passable}
 use Rattle.timing.proofs.Verdict.{said}
 use Rattle.run.specs.Sides.{OnSide}
@@ -30,7 +29,7 @@ e_is c = search rules
 
 share-shared-requires : tie.Need-share-shared-requires
 share-shared-requires c κs =
-    (c.requires.0.checked, (c.requires.1.0, (c.requires.1.1.1.0, (c.requires.1.1.1.1.0, said difference_meaning c.requires.1.1.1.1.1 c.in-Ok.is ∙ ap accepted (sym (e_is c.before.before))))))
+    (c.requires.0.checked, (c.requires.1.0, (c.requires.1.1.1.0, (c.requires.1.1.1.1.0, said verdict c.requires.1.1.1.1.1 c.in-Ok.is ∙ ap accepted (sym (e_is c.before.before))))))
 
 -- the share has been tried
 module _ (f : tie.After-share-shared) where
@@ -108,7 +107,7 @@ returns-in-Ok c =
 
 returns : tie.Need-returns
 returns c =
-    let low = share_apart c.args.board c.args.table.now c.args.side c.args.a c.args.b c.args.tally.fresh _ (said difference_meaning c.requires.1.1.1.1.1 c.in_default.is) in
+    let low = share_apart c.args.board c.args.table.now c.args.side c.args.a c.args.b c.args.tally.fresh _ (said verdict c.requires.1.1.1.1.1 c.in_default.is) in
     let left = share_left c.args.board c.args.table.now c.args.side c.args.a c.args.b c.args.tally.fresh low in
     let stays = share_stays c.args.board c.args.table.now c.args.order.now c.args.side c.args.a c.args.b c.args.tally.fresh c.args.tally.steps c.requires.0 c.requires.1.0 c.args.table.now left in
     (stays.0, ((stays.1, c.requires.1.1.0), c.requires.1.1.1.0))
