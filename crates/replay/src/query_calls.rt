@@ -3,6 +3,7 @@ use crate::calls::{Lent, Sizes};
 use crate::page::Page;
 use crate::{answers, input, lines, memory};
 use paths::{margins, queries};
+use timing::Refusal;
 
 fn queried(
     page: &mut Page,
