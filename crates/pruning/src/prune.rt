@@ -27,7 +27,7 @@ fn is_tight(a: i64, cell: i32, w: i64) -> bool
     requires t { T (fits delay_limit (read_cell absent_cell cell)) }
     ensures { result ≡ tight (read_cell absent_wide a) (read_cell absent_cell cell) (read_cell absent_wide w) }
 {
-    w == a + (cell as i64)
+    w == a + i64::from(cell)
 }
 
 // Marks the arcs that a row's chain walks that are tight. Answers whether there is one.
@@ -53,15 +53,8 @@ fn is_alive(board: Board, v: usize, found: bool) -> bool
     requires { Sized board }
     ensures { result ≡ (is_output board.inputs board.outputs v || found) }
 {
-    let m = board.inputs;
-    let o = board.outputs;
-    if v < m {
-        return found;
-    }
-    if v < m + o {
-        return true;
-    }
-    found
+    let outputs = board.inputs..board.inputs + board.outputs;
+    found || outputs.contains(&v)
 }
 
 // Marks the arcs that decide a delay from the input whose greatest delays are in f: the vertices from the last to the first.
@@ -82,9 +75,7 @@ fn sweep(
     ensures past { Past board.vertices f.old f.new }
 {
     let n = board.vertices;
-    let mut p = n;
-    while p > 0 {
-        p -= 1;
+    for p in (0..n).rev() {
         let u = order[p] as usize;
         let a = f[u];
         if a != Board::ABSENT_WIDE {
@@ -140,12 +131,10 @@ fn mark_four(
 {
     arrivals::delays_from_four(board, table, order, chain, i, f);
     let n = board.vertices;
-    let mut l = 0;
-    while l < 4 {
+    for l in 0..4 {
         let at = n * l;
         let end = at + n;
         sweep(board, table, order, chain, &mut f[at..end], marks);
-        l += 1;
     }
 }
 
@@ -166,14 +155,11 @@ pub fn prune_marks(
     let mut chain = room::cell_bytes();
     chain::chains(board, table, order, &mut chain);
     let m = board.inputs;
-    let mut i = 0;
-    while i + 4 <= m {
-        mark_four(board, table, order, &chain, i, scratch, marks);
-        i += 4;
+    for four in 0..m / 4 {
+        mark_four(board, table, order, &chain, 4 * four, scratch, marks);
     }
-    while i < m {
+    for i in 4 * (m / 4)..m {
         mark_from(board, table, order, &chain, i, scratch, marks);
-        i += 1;
     }
 }
 
@@ -190,10 +176,8 @@ fn row_unmarked(row: &[i32], marks: &[bool], n: usize) -> bool
     ensures { result ≡ some n (λ v. present (cell_at row.now v) && not (get_or marks.now v false)) }
 {
     let mut some = false;
-    let mut v = 0;
-    while v < n {
-        some = some | goes(row[v], marks[v]);
-        v += 1;
+    for v in 0..n {
+        some |= goes(row[v], marks[v]);
     }
     some
 }
@@ -204,13 +188,11 @@ fn some_unmarked(board: Board, table: &[i32], marks: &[bool]) -> bool
     ensures { result ≡ some_unmarked board.vertices (graph_in board table.now) marks.now }
 {
     let n = board.vertices;
-    let mut u = 0;
-    while u < n {
+    for u in 0..n {
         let at = n * u;
         if row_unmarked(&table[at..], &marks[at..], n) {
             return true;
         }
-        u += 1;
     }
     false
 }
@@ -229,10 +211,8 @@ fn thin_row(row: &mut [i32], marks: &[bool])
     requires { length row.old ≤ length marks.now }
     ensures { row.new ≡ remade (λ v. cond (get_or marks.now v false) (get_or row.old v (pos 0)) absent_cell) row.old }
 {
-    let mut v = 0;
-    while v < row.len() {
-        row[v] = kept(row[v], marks[v]);
-        v += 1;
+    for (v, cell) in row.iter_mut().enumerate() {
+        *cell = kept(*cell, marks[v]);
     }
 }
 
@@ -242,12 +222,10 @@ fn thin(board: Board, table: &mut [i32], marks: &[bool])
     ensures { table.new ≡ changed board (marked_arcs board.vertices marks.now) table.old }
 {
     let n = board.vertices;
-    let mut u = 0;
-    while u < n {
+    for u in 0..n {
         let at = n * u;
         let end = at + n;
         thin_row(&mut table[at..end], &marks[at..end]);
-        u += 1;
     }
 }
 
