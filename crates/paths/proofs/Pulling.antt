@@ -1,6 +1,6 @@
 -- A turn of `pull` and of `propagate_back`, and their ends. When the vertices from place p of the order on have pulled, each of them holds the latest of what
 -- starts there and what its arcs bring; at the end that is `propagated` in the reversed graph.
-use mathlib.Core.Path.{◌≡◌, refl, sym, ap, ap₂, ◌∙◌, subst}
+use mathlib.Core.Path.{◌≡◌, refl, sym, ap, ap₂, ◌∙◌, subst, transport}
 use mathlib.Core.Logic.{◌≢◌, ◌⊎◌, inl, inr}
 use mathlib.Core.List.{List}
 use Prim.Native.Nat.{ℕ, ◌+◌, ◌-◌, ◌*◌, ◌≤◌, ◌<◌}
@@ -29,9 +29,10 @@ use Rattle.paths.specs.declared.board.Board.{Board}
 use Rattle.paths.specs.Chain.{Chain, Beaten, chain_at, Chains}
 use Rattle.paths.specs.Arrivals.{inside_limit, reached_limit, filled, Started}
 use Rattle.paths.specs.Margins.{InReach, Pulled}
-use Rattle.paths.proofs.Rows.{lent}
+use Rattle.paths.specs.Cells.{row_at}
+use Rattle.paths.proofs.Rows.{lent, length-row_at}
 use Rattle.paths.proofs.Walked.{walked_span, settled_with}
-use Rattle.paths.proofs.Chaining.{lent_chain, walked_lent, walked_in, walked_in_⊑, walked_in_within, walked_in_or}
+use Rattle.paths.proofs.Chaining.{lent_chain, walked_lent, walked_row, walked_in, walked_in_⊑, walked_in_within, walked_in_or}
 use Rattle.paths.proofs.Propagating.{filled_is}
 
 -- ---- along one row: what the arcs before v bring is in, and v is an arc or the end
@@ -199,3 +200,35 @@ module _ {b : Board} {t : List ℤ} {o c : List ℕ} {f₀ : List ℤ} (R : Star
     where
       each : (v : ℕ) → v < n → arrival_in f v ≡ F v ⋓ greatest n (λ u. arrival_in f u ⊕ k v u)
       each v h = subst (λ (z : ℕ). arrival_in f z ≡ F z ⋓ greatest n (λ u. arrival_in f u ⊕ k z u)) (R.passable.order.place v h).1 (G.done (rank v) (omega arith) (low v h))
+
+-- a turn of the loop over the order backwards, by rows of N cells: r and s are the table's and the chains'
+module _ {b : Board} {t : List ℤ} {o c : List ℕ} {f₀ f : List ℤ} {p : ℕ} (R : Started b t o f₀) (C : Chains b.vertices t c) (G : Pulling b.vertices t o c f₀ f p) (some : 0 < p) where
+  going : Pulling b.vertices t o c f₀ f (p - 1 + 1)
+  going = let e : p ≡ p - 1 + 1 = omega arith in subst (λ (k : ℕ). Pulling b.vertices t o c f₀ f k) e G
+
+  pub pull_reach : InReach b.vertices f
+  pull_reach = in_reach R C (p - 1) going
+
+  pub pull_vertex : get_or o (p - 1) 0 < b.vertices
+  pull_vertex = x_in R C (p - 1) going
+
+  pub pull_back : (u : ℕ) (r : List ℤ) (s : List ℕ) (z : ℤ) → u ≡ get_or o (p - 1) 0 → r ≡ row_at b.vertices u t → s ≡ row_at b.vertices u c → Pulled (length r) r s (get_or f u (pos 0)) f z → Pulling b.vertices t o c f₀ (set f u z) (p - 1)
+  pull_back u r s z eu er es q = subst (λ (y : ℕ). Pulling b.vertices t o c f₀ (set f y z) (p - 1)) (sym eu) (pulling_turn R C (p - 1) going z lent_pulled)
+    where
+      x : ℕ
+      x = get_or o (p - 1) 0
+
+      er' : r ≡ row_at b.vertices x t
+      er' = er ∙ ap (λ (y : ℕ). row_at b.vertices y t) eu
+
+      es' : s ≡ row_at b.vertices x c
+      es' = es ∙ ap (λ (y : ℕ). row_at b.vertices y c) eu
+
+      long : length r ≡ b.vertices
+      long = ap length er' ∙ length-row_at b.vertices t x R.passable.checked.lent.room pull_vertex
+
+      row_pulled : Pulled b.vertices (row_at b.vertices x t) (row_at b.vertices x c) (get_or f x (pos 0)) f z
+      row_pulled = transport (λ i. Pulled (long i) (er' i) (es' i) (get_or f (eu i) (pos 0)) f z) q
+
+      lent_pulled : Pulled b.vertices (lent b.vertices t x R.passable.checked.lent.room pull_vertex) (lent_chain C x R.passable.checked.lent.room pull_vertex) (get_or f x (pos 0)) f z
+      lent_pulled = row_pulled ∙ ap (λ (d : Delay). read_cell absent_wide (get_or f x (pos 0)) ⋓ d) (greatest_ext b.vertices _ _ (λ v l. ap (λ (d : Delay). arrival_in f v ⊕ d) (sym (walked_row C x pull_vertex v l) ∙ walked_lent C x R.passable.checked.lent.room pull_vertex v l)))
