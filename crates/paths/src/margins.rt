@@ -28,10 +28,7 @@ fn later(best: i64, a: i64, cell: i32) -> i64
     if missing {
         return best;
     }
-    if arrivals::gains(best, a, cell) {
-        return a + i64::from(cell);
-    }
-    best
+    best.max(a + i64::from(cell))
 }
 
 // The latest of what is there and what comes back over the arcs that a row's chain walks.
