@@ -43,18 +43,6 @@ pub record Linked (n : ℕ) (row : ℕ → Delay) (c : List ℕ) (after v : ℕ)
   pub arcs : (j : ℕ) → v ≤ j → j < n → get_or c j 0 < n → T (present (row (get_or c j 0)))
   pub between : (j : ℕ) → v ≤ j → j < n → (w : ℕ) → j < w → w < get_or c j 0 → row w ≡ absent
 
-pub linked_start : (row : ℕ → Delay) (c : List ℕ) → Linked (length c) row c (length c) (length c)
-linked_start row c = record {
-  size = λ _. length c;
-  low = omega arith;
-  high = omega arith;
-  arc = λ l. absurd (omega arith);
-  gap = λ w h l. absurd (omega arith);
-  on = λ j h l. absurd (omega arith);
-  arcs = λ j h l. absurd (omega arith);
-  between = λ j h l. absurd (omega arith);
-}
-
 module _ {n : ℕ} {row : ℕ → Delay} {c : List ℕ} {after q : ℕ} (G : Linked n row c after (q + 1)) where
   cell : (P : ℕ → ℕ → Type 0) → P q after → ((j : ℕ) → q + 1 ≤ j → j < n → P j (get_or c j 0)) → (j : ℕ) → q ≤ j → j < n → P j (get_or (set c q after) j 0)
   cell P p r j h k = go (ℕ_discrete j q)
@@ -98,9 +86,6 @@ module _ {n : ℕ} (row next : ℕ → Delay) (d : Delay) {c : List ℕ} {after 
 
   pub link_absent : present (row (v - 1)) ≡ false → Linked n (unbeaten row next d) (set c (v - 1) after) after (v - 1)
   link_absent p = link_none back (unbeaten_none row next d (v - 1) (absent_unless _ (true_is (ap not p))))
-
-pub linked_all : {n : ℕ} {row : ℕ → Delay} {c : List ℕ} {after : ℕ} → Linked n row c after 0 → Chain n row (λ v. get_or c v 0)
-linked_all G = record { on = λ v l. G.on v (omega arith) l; arc = λ v l. G.arcs v (omega arith) l; between = λ v w l. G.between v (omega arith) l w }
 
 -- the chain of vertex u, without the arcs that are beaten by way of w, by what is made from their rows
 pub chained_by : {b : Board} {t : List ℤ} → Checked b t → (u w : ℕ) → u < b.vertices → w < b.vertices → {c : ℕ → ℕ}

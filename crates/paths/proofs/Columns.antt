@@ -29,14 +29,6 @@ module _ (g : Graph) (v from u : ℕ) (h : Passed g v from u) where
       go (yes q) = ap (λ (x : ℕ). bit (g x v)) q ∙ e
       go (no ne) = h k a (omega arith)
 
-  -- a search that goes on from u
-  pub passed_on : (N r : ℕ) → from ≤ u → NextInto N g v u r → NextInto N g v from r
-  passed_on N r l s = record { past = omega (arith, s.past); upto = s.upto; none = λ k a b. go k a b (dec_lt k u); arc = s.arc }
-    where
-      go : (k : ℕ) → from ≤ k → k < r → Dec (k < u) → bit (g k v) ≡ 0
-      go k a b (yes c) = h k a c
-      go k a b (no c) = s.none k (omega arith) b
-
 module _ (N : ℕ) (g : Graph) (v : ℕ) where
   abbrev into : ℕ → ℕ
   into u = bit (g u v)

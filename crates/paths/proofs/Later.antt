@@ -5,6 +5,10 @@ use Prim.Native.Nat.{ℕ, ◌<◌}
 use lib.ListN.{length, set}
 use lib.Seq.{get_or-set_same, get_or-set_other}
 use mathlib.Core.Logic.{◌≢◌}
+use Rattle.std.proofs.Common.{arith}
+use Rattle.std.specs.Int.{int_max}
+use Rattle.std.proofs.lemmas.Int.{ints, clamps}
+use Rattle.laws.proofs.Booleans.{cases}
 use lib.Dec.{T}
 use lib.IntN.{ℤ, pos, ◌+ℤ◌, ℤ_discrete}
 use lib.Signed.{◌≤ℤ◌, ◌<ℤ◌, lt_z}
@@ -54,6 +58,13 @@ module _ (a d : ℤ) (r : Reached a) (fd : T (fits delay_limit (read_cell absent
 
         less : (a +ℤ d) ≤ℤ best → read_cell absent_wide best ≡ read_cell absent_wide best ⋓ (read_cell absent_wide a ⊕ read_cell absent_cell d)
         less l = rw (sum_is, read_at absent_wide best (above best l), max_ge best (a +ℤ d) l)
+
+-- the later of a time and the sum, as numbers: absent is the least
+pub later_is : (a d best : ℤ) → Reached a → T (fits delay_limit (read_cell absent_cell d)) → d ≢ absent_cell → read_cell absent_wide (int_max best (a +ℤ d)) ≡ read_cell absent_wide best ⋓ (read_cell absent_wide a ⊕ read_cell absent_cell d)
+later_is a d best r fd nd =
+    cases (lt_z best (a +ℤ d))
+    (λ e. let l = less_yes best (a +ℤ d) e in let m : int_max best (a +ℤ d) ≡ a +ℤ d = omega (arith, ints, clamps) in ap (read_cell absent_wide) m ∙ ((compared a d r fd nd best).later e).1)
+    (λ e. let l = less_no best (a +ℤ d) e in let m : int_max best (a +ℤ d) ≡ best = omega (arith, ints, clamps) in ap (read_cell absent_wide) m ∙ (compared a d r fd nd best).not_later e)
 
 -- what an offer leaves
 pub offered_set : (f : List ℤ) (x : ℕ) (a cell y : ℤ) → x < length f → read_cell absent_wide y ≡ arrival_in f x ⋓ (read_cell absent_wide a ⊕ read_cell absent_cell cell) → Offered x a cell f (set f x y)

@@ -1,13 +1,15 @@
 -- Required times and margins as the code has them: lists that are started, passed over, mirrored and subtracted.
 use Rattle.std.specs.Prelude.{Err, Ok}
-use mathlib.Core.Path.{◌≡◌, sym, ap, ap₂, ◌∙◌, subst}
-use mathlib.Core.Bool.{true, false, ◌&&◌}
+use mathlib.Core.Path.{◌≡◌, refl, sym, ap, ap₂, ◌∙◌, subst}
+use mathlib.Core.Bool.{Bool, true, false, cond, ◌&&◌}
+use native.Mathlib.Decide.{dec_lt}
+use borrow.Author.Tests.{lt-ltb, le-ltb, le-leb, lt-leb}
 use mathlib.Core.List.{List}
 use Prim.Native.Nat.{ℕ, ◌+◌, ◌-◌, ◌*◌, ◌≤◌, ◌<◌}
 use native.Mathlib.Omega.{arith}
 use lib.Dec.{T, leb, ltb, eqb, leb→le, ltb→lt, eqb→eq}
 use lib.IntN.{ℤ, pos}
-use lib.ListN.{length}
+use lib.ListN.{length, get_or}
 use Rattle.laws.specs.Lists.{tabulate}
 use Rattle.laws.proofs.Booleans.{T_true, true_is, and_e, cond_elim}
 use Rattle.laws.proofs.Filling.{fill_all}
@@ -23,13 +25,13 @@ use Rattle.timing.specs.Table.{read_cell, write_cell, graph_of}
 use Rattle.timing.specs.Delays.{arrival_in, arrivals_fit}
 use Rattle.timing.specs.Margins.{own_time, required_at, margin_at, cells, Times, times, times_fit, margins_into}
 use Rattle.timing.proofs.Limits.{fits_span, span_fits}
-use Rattle.timing.proofs.Table.{read_held}
+use Rattle.timing.proofs.Table.{read_held, read_absent}
 use Rattle.timing.proofs.Recursion.{required_propagated}
 use Rattle.timing.proofs.Margins.{arrival_span, mirrored_span, required_span}
 use Rattle.paths.specs.declared.board.Board.{Board}
 use Rattle.paths.specs.Board.{graph_in}
 use Rattle.paths.specs.Checked.{Checked, Passable}
-use Rattle.paths.specs.Arrivals.{inside_limit, reached_limit, stored, filled, arrivals_from, Started, Given}
+use Rattle.paths.specs.Arrivals.{inside_limit, reached_limit, stored, filled, from_list, times_at, arrivals_from, Started, Given}
 use Rattle.paths.specs.Queries.{Fills}
 use Rattle.paths.specs.Margins.{InReach, own_from, required_from, lists, lists_fit, margins_on}
 use Rattle.paths.proofs.Starting.{stored-length, stored_cell}
@@ -94,6 +96,42 @@ module _ {b : Board} {t : List ℤ} (k : Checked b t) where
 
     pub outputs_started : {o : List ℕ} → Passable b t o → Started b t o f₁
     outputs_started p = record { passable = p; room = omega (arith, stored-length N (own_from b r) f room); near = λ v h. subst (λ (d : Delay). T (fits inside_limit d)) (sym (own_read v h)) (span_fits inside_limit (mirror (own_time m n R v)) (own_span v)) }
+
+    -- as the code makes it: the times in their place, and then their mirror images
+    abbrev placed : List ℤ
+    placed = stored b.vertices (times_at b.inputs r) f
+
+    placed_read : (v : ℕ) → v < N → arrival_in placed v ≡ own_time m n R v
+    placed_read v h = ap (read_cell absent_wide) (stored_cell N (times_at m r) f v h) ∙ go (dec_lt v m) (dec_lt v (m + n))
+      where
+        go : Dec (v < m) → Dec (v < m + n) → read_cell absent_wide (times_at m r v) ≡ own_time m n R v
+        go (yes a) _ =
+            ap (λ (x : Bool). read_cell absent_wide (cond x absent_wide (from_list r (v - m)))) (lt-ltb v m a) ∙ read_absent absent_wide absent_wide refl
+            ∙ sym (ap (λ (x : Bool). cond (x && ltb v (m + n)) (R (v - m)) absent) (lt-leb m v a))
+        go (no a) (yes h) =
+            ap (λ (x : Bool). read_cell absent_wide (cond x absent_wide (from_list r (v - m)))) (le-ltb v m (omega arith))
+            ∙ ap (λ (x : Bool). read_cell absent_wide (cond x (get_or r (v - m) (pos 0)) absent_wide)) (lt-ltb (v - m) (length r) (omega (arith, given.long)))
+            ∙ sym (ap₂ (λ (x y : Bool). cond (x && y) (R (v - m)) absent) (le-leb m v (omega arith)) (lt-ltb v (m + n) h))
+        go (no a) (no h) =
+            ap (λ (x : Bool). read_cell absent_wide (cond x absent_wide (from_list r (v - m)))) (le-ltb v m (omega arith))
+            ∙ ap (λ (x : Bool). read_cell absent_wide (cond x (get_or r (v - m) (pos 0)) absent_wide)) (le-ltb (v - m) (length r) (omega (arith, given.long)))
+            ∙ read_absent absent_wide absent_wide refl
+            ∙ sym (ap₂ (λ (x y : Bool). cond (x && y) (R (v - m)) absent) (le-leb m v (omega arith)) (le-ltb v (m + n) (omega arith)))
+
+    own_near : (v : ℕ) → InSpan inside_limit (own_time m n R v)
+    own_near v = cond_elim (InSpan inside_limit) (leb m v && ltb v (m + n)) (R (v - m)) absent
+        (λ e. let p = and_e (leb m v) (ltb v (m + n)) e in given_near given (v - m) (omega (arith, leb→le m v p.0, ltb→lt v (m + n) p.1))) (λ _. tt)
+
+    pub placed_reach : InReach b.vertices placed
+    placed_reach = record {
+      room = omega (arith, stored-length N (times_at m r) f room);
+      near = λ v h. subst (λ (d : Delay). T (fits reached_limit d)) (sym (placed_read v h)) (span_fits reached_limit (own_time m n R v) (span_le inside_limit reached_limit (own_time m n R v) (omega arith) (own_near v)));
+    }
+
+    pub placed_mirrored : length f ≡ b.vertices → cells b.vertices (λ v. mirror (arrival_in placed v)) ≡ stored b.vertices (own_from b r) f
+    placed_mirrored e =
+        cells_same N _ (λ v. mirror (own_time m n R v)) (λ v h. ap mirror (placed_read v h))
+        ∙ sym (fill_all (own_from b r) f N (sym e) ∙ ap (λ (k : ℕ). tabulate k (own_from b r)) e)
 
     -- what has come back to each
     abbrev back : ℕ → Delay

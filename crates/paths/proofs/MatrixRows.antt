@@ -11,7 +11,8 @@ use lib.ListN.{length, get_or, take, drop, length-take, length-drop}
 use borrow.Rule.Slice.PartMut.{put_mid}
 use Rattle.laws.specs.Lists.{tabulate}
 use Rattle.laws.proofs.Filling.{row_back}
-use Rattle.laws.proofs.Lists.{tabulate_same}
+use Rattle.laws.proofs.Grid.{row_cell}
+use Rattle.laws.proofs.Lists.{tabulate_same, is_tabulate}
 use Rattle.graph.specs.Graph.{Graph, longest}
 use Rattle.graph.proofs.Closure.{walk_other}
 use Rattle.timing.specs.Limits.{absent_wide}
@@ -28,6 +29,10 @@ use Rattle.paths.proofs.Starting.{stored_cell}
 
 pub row_length : (n i : ℕ) (d : List ℤ) → n * i + n ≤ length d → length (take (n * i + n - n * i) (drop (n * i) d)) ≡ n
 row_length n i d h = simp (length-take, length-drop) (omega arith)
+
+-- the k cells from m on, as a copy has them
+pub copied : (f : List ℤ) (m k : ℕ) → m + k ≤ length f → take (m + k - m) (drop m f) ≡ tabulate k (λ j. get_or f (m + j) (pos 0))
+copied f m k h = is_tabulate (pos 0) (take (m + k - m) (drop m f)) k (λ j. get_or f (m + j) (pos 0)) (simp (length-take, length-drop) (omega arith)) (λ i l. row_cell f m (m + k - m) i (pos 0) (omega arith))
 
 -- a row of the matrix comes back: d is the destination as it is now, s the scratch before the pass from i, s' after it
 module _ {b : Board} {t : List ℤ} {o : List ℕ} (p : Passable b t o) (i : ℕ) (h : i < b.inputs) (d s s' ys : List ℤ) (room : b.outputs * i + b.outputs ≤ length d) (f : s' ≡ filled b.vertices (delays_from b t i) s)

@@ -32,7 +32,7 @@ use Rattle.paths.specs.Checked.{Passable}
 use Rattle.paths.proofs.Rows.{lent, lent_cell, lent_long, row_at_cell, length-row_at}
 use Rattle.paths.proofs.Sorting.{order_ranked}
 use Rattle.paths.proofs.Walked.{walked_span, settled_with}
-use Rattle.paths.proofs.Chaining.{lent_chain, chain_long, chain_lent, chain_row, walked_row, walked_lent, walked_in, walked_in_⊑, walked_in_within, walked_in_order, walked_in_or}
+use Rattle.paths.proofs.Chaining.{lent_chain, chain_long, chain_lent, chain_row, walked_row, walked_in, walked_in_⊑, walked_in_within, walked_in_order, walked_in_or}
 use Rattle.paths.proofs.Pushing.{pushed, pushed_span, pushed_settled}
 
 -- a list is known by its first n cells, read as delays, and by the rest
@@ -86,10 +86,6 @@ pushable_row {b} {t} {o} {c} P C u l f h r k er ek = transport (λ i. Pushable (
     m : length r ≡ b.vertices
     m = ap length er ∙ long
 
--- the same for another list
-pub pushable_on : {n : ℕ} {row : List ℤ} {c : List ℕ} {f : List ℤ} → Pushable n row c f → (f' : List ℤ) → n ≤ length f' → Pushable n row c f'
-pushable_on P f' h = record { some = P.some; few = P.few; row_room = P.row_room; chain_room = P.chain_room; room = h; near = P.near; chain = P.chain }
-
 pub reached : (a : ℤ) → a ≢ absent_wide → T (fits reached_limit (read_cell absent_wide a)) → Reached a
 reached a ne h = record { there = ne; near = subst (λ (d : Delay). T (fits reached_limit d)) (read_at absent_wide a ne) h }
 
@@ -132,15 +128,6 @@ module _ {b : Board} {t : List ℤ} {o c : List ℕ} {f₀ f : List ℤ} {p : �
       where
         arcs : (u v : ℕ) → InSpan delay_limit (k u v)
         arcs u v = walked_span delay_limit (chain_at n c u) (graph_of n t u) v (fits_span delay_limit (graph_of n t u v) (sound_fits R.passable.checked.sound u v))
-
-    pub onward : (f' : List ℤ) → length f' ≡ length f → Pushed n (lent n t x R.passable.checked.lent.room x_in) (lent_chain C x R.passable.checked.lent.room x_in) (get_or f x (pos 0)) f f' → Going n t o c f₀ f' (p + 1)
-    unfolding pushed
-    onward f' l q = rw add-one (record {
-      upto = h;
-      size = l ∙ G.size;
-      cells = λ v m. q.cells v m ∙ ap₂ ◌⋓◌ (G.cells v m) (ap₂ ◌⊕◌ (G.cells x x_in) (sym (walked_lent C x R.passable.checked.lent.room x_in v m)));
-      rest = λ v m. q.rest v m ∙ G.rest v m;
-    })
 
     pub onward_row : (f' : List ℤ) → length f' ≡ length f → (u : ℕ) (r : List ℤ) (s : List ℕ) → u ≡ get_or o p 0 → r ≡ row_at b.vertices u t → s ≡ row_at b.vertices u c → Pushed (length r) r s (get_or f u (pos 0)) f f' → Going b.vertices t o c f₀ f' (p + 1)
     unfolding pushed

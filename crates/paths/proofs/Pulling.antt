@@ -1,6 +1,6 @@
 -- A turn of `pull` and of `propagate_back`, and their ends. When the vertices from place p of the order on have pulled, each of them holds the latest of what
 -- starts there and what its arcs bring; at the end that is `propagated` in the reversed graph.
-use mathlib.Core.Path.{◌≡◌, refl, sym, ap, ap₂, ◌∙◌, subst}
+use mathlib.Core.Path.{◌≡◌, sym, ap, ap₂, ◌∙◌, subst, transport}
 use mathlib.Core.Logic.{◌≢◌, ◌⊎◌, inl, inr}
 use mathlib.Core.List.{List}
 use Prim.Native.Nat.{ℕ, ◌+◌, ◌-◌, ◌*◌, ◌≤◌, ◌<◌}
@@ -29,9 +29,10 @@ use Rattle.paths.specs.declared.board.Board.{Board}
 use Rattle.paths.specs.Chain.{Chain, Beaten, chain_at, Chains}
 use Rattle.paths.specs.Arrivals.{inside_limit, reached_limit, filled, Started}
 use Rattle.paths.specs.Margins.{InReach, Pulled}
-use Rattle.paths.proofs.Rows.{lent}
+use Rattle.paths.specs.Cells.{row_at}
+use Rattle.paths.proofs.Rows.{length-row_at}
 use Rattle.paths.proofs.Walked.{walked_span, settled_with}
-use Rattle.paths.proofs.Chaining.{lent_chain, walked_lent, walked_in, walked_in_⊑, walked_in_within, walked_in_or}
+use Rattle.paths.proofs.Chaining.{walked_row, walked_in, walked_in_⊑, walked_in_within, walked_in_or}
 use Rattle.paths.proofs.Propagating.{filled_is}
 
 -- ---- along one row: what the arcs before v bring is in, and v is an arc or the end
@@ -53,9 +54,6 @@ module _ {n : ℕ} {row : ℕ → Delay} {c : ℕ → ℕ} (C : Chain n row c) (
 
   pub gathered_turn : {best : Delay} {v : ℕ} → Gathered n row start f best v → v < n → (next : Delay) → next ≡ best ⋓ (f v ⊕ row v) → Gathered n row start f next (c v)
   gathered_turn {best} {v} G h next e = jump v h next (e ∙ ap (λ (d : Delay). d ⋓ (f v ⊕ row v)) G.best_is ∙ ⋓-assoc start (greatest v (λ x. f x ⊕ row x)) (f v ⊕ row v) ∙ ap (λ (d : Delay). start ⋓ d) (sym (greatest_more v (λ x. f x ⊕ row x))))
-
-  pub gathered_all : {best : Delay} {v : ℕ} → Gathered n row start f best v → n ≤ v → best ≡ start ⋓ greatest n (λ x. f x ⊕ row x)
-  gathered_all {best} {v} G h = let e : v ≡ n = omega (arith, G.upto) in G.best_is ∙ ap (λ (k : ℕ). start ⋓ greatest k (λ x. f x ⊕ row x)) e
 
 -- ---- over the vertices, from the last to the first: those from place p of the order on have pulled
 pub record Pulling (n : ℕ) (t : List ℤ) (o c : List ℕ) (f₀ f : List ℤ) (p : ℕ) : Type 0 where
@@ -104,16 +102,6 @@ module _ {b : Board} {t : List ℤ} {o c : List ℕ} {f₀ : List ℤ} (R : Star
   walked_all = settled_is (within_reversed (graph_of_within n t)) ranked_back
       (settled_with ranked_back (λ u v. walked_in_⊑ n t c v u) (λ u v. beaten_back u v (walked_in_or C v u)) (propagated-settled (within_reversed (walked_in_within n t c)) (ranked_acyclic ranked_walked) F))
 
-  pub pulling_start : Pulling b.vertices t o c f₀ f₀ b.vertices
-  pulling_start = record {
-    upto = omega arith;
-    size = refl;
-    done = λ q h l. absurd (omega arith);
-    left = λ q l. refl;
-    rest = λ v h. refl;
-    span = λ v h. span_le inside_limit (inside_limit + (n - n) * delay_limit) (F v) (omega arith) (fits_span inside_limit (F v) (R.near v h));
-  }
-
   module _ {f : List ℤ} (p : ℕ) (G : Pulling b.vertices t o c f₀ f (p + 1)) where
     abbrev x : ℕ
     x = get_or o p 0
@@ -130,7 +118,7 @@ module _ {b : Board} {t : List ℤ} {o c : List ℕ} {f₀ : List ℤ} (R : Star
       near = λ v h. span_fits reached_limit (arrival_in f v) (span_le (inside_limit + (n - (p + 1)) * delay_limit) reached_limit (arrival_in f v) (omega (arith, R.passable.checked.lent.sized.few)) (G.span v h));
     }
 
-    module _ (r : ℤ) (q : Pulled b.vertices (lent b.vertices t (get_or o p 0) R.passable.checked.lent.room x_in) (lent_chain C (get_or o p 0) R.passable.checked.lent.room x_in) (get_or f (get_or o p 0) (pos 0)) f r) where
+    module _ (r : ℤ) (q : Pulled b.vertices (row_at b.vertices (get_or o p 0) t) (row_at b.vertices (get_or o p 0) c) (get_or f (get_or o p 0) (pos 0)) f r) where
       abbrev f' : List ℤ
       f' = set f x r
 
@@ -155,7 +143,7 @@ module _ {b : Board} {t : List ℤ} {o c : List ℕ} {f₀ : List ℤ} (R : Star
           go (inr t) = ap (λ (d : Delay). d ⊕ k (get_or o q 0) u) (other u (λ e. omega (arith, rise_walked (get_or o q 0) u t, at_place q l, at_place p p_in, ap rank e)))
 
       new : read_cell absent_wide r ≡ F x ⋓ greatest n (λ u. arrival_in f u ⊕ k x u)
-      new = q ∙ ap₂ ◌⋓◌ (ap (read_cell absent_wide) (G.left p (omega arith))) (greatest_ext n _ (λ u. arrival_in f u ⊕ k x u) (λ u l. ap (λ (d : Delay). arrival_in f u ⊕ d) (sym (walked_lent C x R.passable.checked.lent.room x_in u l))))
+      new = q ∙ ap₂ ◌⋓◌ (ap (read_cell absent_wide) (G.left p (omega arith))) (greatest_ext n _ (λ u. arrival_in f u ⊕ k x u) (λ u l. ap (λ (d : Delay). arrival_in f u ⊕ d) (sym (walked_row C x x_in u l))))
 
       new_span : InSpan (inside_limit + (n - p) * delay_limit) (read_cell absent_wide r)
       new_span = subst (InSpan (inside_limit + (n - p) * delay_limit)) (sym new) (⋓-elim (InSpan (inside_limit + (n - p) * delay_limit)) (F x) (greatest n (λ u. arrival_in f u ⊕ k x u))
@@ -199,3 +187,32 @@ module _ {b : Board} {t : List ℤ} {o c : List ℕ} {f₀ : List ℤ} (R : Star
     where
       each : (v : ℕ) → v < n → arrival_in f v ≡ F v ⋓ greatest n (λ u. arrival_in f u ⊕ k v u)
       each v h = subst (λ (z : ℕ). arrival_in f z ≡ F z ⋓ greatest n (λ u. arrival_in f u ⊕ k z u)) (R.passable.order.place v h).1 (G.done (rank v) (omega arith) (low v h))
+
+-- a turn of the loop over the order backwards, by rows of N cells: r and s are the table's and the chains'
+module _ {b : Board} {t : List ℤ} {o c : List ℕ} {f₀ f : List ℤ} {p : ℕ} (R : Started b t o f₀) (C : Chains b.vertices t c) (G : Pulling b.vertices t o c f₀ f p) (some : 0 < p) where
+  going : Pulling b.vertices t o c f₀ f (p - 1 + 1)
+  going = let e : p ≡ p - 1 + 1 = omega arith in subst (λ (k : ℕ). Pulling b.vertices t o c f₀ f k) e G
+
+  pub pull_reach : InReach b.vertices f
+  pull_reach = in_reach R C (p - 1) going
+
+  pub pull_vertex : get_or o (p - 1) 0 < b.vertices
+  pull_vertex = x_in R C (p - 1) going
+
+  pub pull_back : (u : ℕ) (r : List ℤ) (s : List ℕ) (z : ℤ) → u ≡ get_or o (p - 1) 0 → r ≡ row_at b.vertices u t → s ≡ row_at b.vertices u c → Pulled (length r) r s (get_or f u (pos 0)) f z → Pulling b.vertices t o c f₀ (set f u z) (p - 1)
+  pull_back u r s z eu er es q = subst (λ (y : ℕ). Pulling b.vertices t o c f₀ (set f y z) (p - 1)) (sym eu) (pulling_turn R C (p - 1) going z row_pulled)
+    where
+      x : ℕ
+      x = get_or o (p - 1) 0
+
+      er' : r ≡ row_at b.vertices x t
+      er' = er ∙ ap (λ (y : ℕ). row_at b.vertices y t) eu
+
+      es' : s ≡ row_at b.vertices x c
+      es' = es ∙ ap (λ (y : ℕ). row_at b.vertices y c) eu
+
+      long : length r ≡ b.vertices
+      long = ap length er' ∙ length-row_at b.vertices t x R.passable.checked.lent.room pull_vertex
+
+      row_pulled : Pulled b.vertices (row_at b.vertices x t) (row_at b.vertices x c) (get_or f x (pos 0)) f z
+      row_pulled = transport (λ i. Pulled (long i) (er' i) (es' i) (get_or f (eu i) (pos 0)) f z) q

@@ -3,9 +3,8 @@ use mathlib.Core.Path.{◌≡◌}
 use mathlib.Core.Logic.{◌≢◌}
 use mathlib.Core.Bool.{Bool, true, false}
 use mathlib.Core.List.{List}
-use Prim.Native.Nat.{ℕ, suc, ◌+◌, ◌≤◌, ◌<◌}
+use Prim.Native.Nat.{ℕ, suc, ◌≤◌, ◌<◌}
 use native.Mathlib.Omega.{arith}
-use borrow.Author.Count.{below_more}
 use borrow.Author.Tests.{lt-ltb, le-ltb}
 use lib.Dec.{eqb}
 use lib.ListN.{get_or}
@@ -45,6 +44,3 @@ module _ {n : ℕ} {o : List ℕ} {a b p : ℕ} (s : Scanned n o a b p) where
   meets_none h =
       le-ltb (first n (is o a)) (first n (is o b))
       (omega (arith, first_none n (is o a) (λ j l. other o a p s.not_a j (omega arith)), first_none n (is o b) (λ j l. other o b p s.not_b j (omega arith))))
-
-  pub meets_other : p < n → get_or o p 0 ≢ a → get_or o p 0 ≢ b → Scanned n o a b (p + 1)
-  meets_other l na nb = record { upto = omega arith; not_a = below_more _ _ s.not_a na; not_b = below_more _ _ s.not_b nb }

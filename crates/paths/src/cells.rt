@@ -142,7 +142,8 @@ pub fn fan_in(board: Board, table: &[i32], v: usize) -> usize
     count(table, v, n, n)
 }
 
-// The first vertex from `from` on and before `to` with an arc to v, or `to`.
+// The first vertex from `from` on and before `to` with an arc to v, or `to`: the end of the range stands for none, since callers search on from the answer
+// and compare it with the end, which an Option would have them unwrap at each turn.
 pub fn next_before(board: Board, table: &[i32], v: usize, from: usize, to: usize) -> usize
     requires lent { Lent board table.now }
     requires v_lt_vertices { v < board.vertices }

@@ -7,13 +7,13 @@ ghost use Rattle.timing.specs.Table.{read_cell, write_cell};
 ghost use Rattle.timing.specs.Delays.{arrival_in};
 ghost use Rattle.timing.specs.Margins.{cells};
 ghost use Rattle.paths.specs.Chain.{Chains};
-ghost use Rattle.paths.specs.Arrivals.{reached_limit, stored, filled, Started, Given, Pushable};
+ghost use Rattle.paths.specs.Arrivals.{reached_limit, filled, Started, Given, Pushable};
 ghost use Rattle.paths.specs.Checked.{Passable};
-ghost use Rattle.paths.specs.Margins.{InReach, Pulled, latest_back, own_from, required_from, lists, lists_fit, margins_on, margins, Timed};
+ghost use Rattle.paths.specs.Margins.{InReach, Pulled, latest_back, required_from, lists, lists_fit, margins_on, margins, Timed};
 
 use crate::board::Board;
 use crate::order::Order;
-use crate::{arrivals, chain, checks, queries, room};
+use crate::{arrivals, cells, chain, checks, queries, room};
 use timing::Refusal;
 
 // The later of what is there and, where a is present, what comes over an arc.
@@ -27,23 +27,20 @@ fn later(best: i64, a: i64, cell: i32) -> i64
     if missing {
         return best;
     }
-    if arrivals::gains(best, a, cell) {
-        return a + (cell as i64);
-    }
-    best
+    best.max(a + i64::from(cell))
 }
 
 // The latest of what is there and what comes back over the arcs that a row's chain walks.
-fn pull(row: &[i32], chain: &[u8], start: i64, f: &[i64], n: usize) -> i64
-    requires pushable { Pushable n row.now chain.now f.now }
-    requires in_reach { InReach n f.now }
-    ensures { Pulled n row.now chain.now start f.now result }
+fn pull(row: &[i32], chain: &[u8], start: i64, f: &[i64]) -> i64
+    requires pushable { Pushable (length row.now) row.now chain.now f.now }
+    requires in_reach { InReach (length row.now) f.now }
+    ensures { Pulled (length row.now) row.now chain.now start f.now result }
 {
     let mut best = start;
-    let mut v = chain[0] as usize;
-    while v < n {
+    let mut v = usize::from(chain[0]);
+    while v < row.len() {
         best = later(best, f[v], row[v]);
-        v = chain[v] as usize;
+        v = usize::from(chain[v]);
     }
     best
 }
@@ -54,13 +51,14 @@ fn propagate_back(board: Board, table: &[i32], order: &Order, chain: &[u8], f: &
     requires chains { Chains board.vertices table.now chain.now }
     ensures { f.new ≡ filled board.vertices (latest_back board table.now f.old) f.old }
 {
-    let n = board.vertices;
-    let mut p = n;
-    while p > 0 {
-        p -= 1;
-        let u = order[p] as usize;
-        let at = n * u;
-        f[u] = pull(&table[at..], &chain[at..], f[u], f, n);
+    for p in (0..board.vertices).rev() {
+        let u = usize::from(order[p]);
+        f[u] = pull(
+            cells::row(board, table, u),
+            cells::row(board, chain, u),
+            f[u],
+            f,
+        );
     }
 }
 
@@ -75,44 +73,13 @@ fn mirrored(x: i64) -> i64
     -x
 }
 
-// The mirrored required time of a vertex itself.
-fn own_time(board: Board, due: &[i64], v: usize) -> i64
-    requires { Given board.outputs due.now }
-    ensures { result ≡ own_from board due.now v }
-{
-    let m = board.inputs;
-    if v < m {
-        return Board::ABSENT_WIDE;
-    }
-    if v - m >= due.len() {
-        return Board::ABSENT_WIDE;
-    }
-    mirrored(due[v - m])
-}
-
-// Required times, mirrored, that start at the outputs.
-fn start_outputs(board: Board, due: &[i64], f: &mut [i64])
-    requires given { Given board.outputs due.now }
-    requires vertices_in_bounds { board.vertices ≤ length f.old }
-    ensures { f.new ≡ stored board.vertices (own_from board due.now) f.old }
-{
-    let n = board.vertices;
-    let mut v = 0;
-    while v < n {
-        f[v] = own_time(board, due, v);
-        v += 1;
-    }
-}
-
 // Each cell mirrored.
 fn mirror_all(f: &mut [i64])
     requires { InReach (length f.old) f.old }
     ensures { f.new ≡ cells (length f.old) (λ v. mirror (arrival_in f.old v)) }
 {
-    let mut v = 0;
-    while v < f.len() {
-        f[v] = mirrored(f[v]);
-        v += 1;
+    for x in f.iter_mut() {
+        *x = mirrored(*x);
     }
 }
 
@@ -131,7 +98,8 @@ fn required_times(
     requires required_len { length required.old ≡ board.vertices }
     ensures { required.new ≡ cells board.vertices (required_from board table.now due.now) }
 {
-    start_outputs(board, due, required);
+    arrivals::start(required, board.vertices, board.inputs, due);
+    mirror_all(required);
     propagate_back(board, table, order, chain, required);
     mirror_all(required);
 }
@@ -142,10 +110,7 @@ fn margin_of(required: i64, arrival: i64) -> i64
     requires t_2 { T (fits reached_limit (read_cell absent_wide arrival)) }
     ensures { result ≡ write_cell absent_wide (read_cell absent_wide required ⊖ read_cell absent_wide arrival) }
 {
-    if required == Board::ABSENT_WIDE {
-        return Board::ABSENT_WIDE;
-    }
-    if arrival == Board::ABSENT_WIDE {
+    if required == Board::ABSENT_WIDE || arrival == Board::ABSENT_WIDE {
         return Board::ABSENT_WIDE;
     }
     required - arrival
@@ -157,10 +122,8 @@ fn fill_margins(required: &[i64], arrival: &[i64], margin: &mut [i64])
     requires in_reach_2 { InReach (length margin.old) arrival.now }
     ensures { margin.new ≡ cells (length margin.old) (λ v. arrival_in required.now v ⊖ arrival_in arrival.now v) }
 {
-    let mut v = 0;
-    while v < margin.len() {
-        margin[v] = margin_of(required[v], arrival[v]);
-        v += 1;
+    for (v, x) in margin.iter_mut().enumerate() {
+        *x = margin_of(required[v], arrival[v]);
     }
 }
 
@@ -176,19 +139,11 @@ fn lists_fit(
     ensures { result ≡ lists_fit board given.now due.now (lists arrival.now required.now margin.now) }
 {
     let n = board.vertices;
-    if !queries::times_fit(given, board.inputs) {
-        return false;
-    }
-    if !queries::times_fit(due, board.outputs) {
-        return false;
-    }
-    if arrival.len() != n {
-        return false;
-    }
-    if required.len() != n {
-        return false;
-    }
-    margin.len() == n
+    queries::times_fit(given, board.inputs)
+        && queries::times_fit(due, board.outputs)
+        && arrival.len() == n
+        && required.len() == n
+        && margin.len() == n
 }
 
 // The times of a board that has passed its checks; 22 where a list does not fit.

@@ -21,11 +21,7 @@ fn copy_out(row: &mut [i64], f: &[i64], m: usize)
     requires { m + length row.old ≤ length f.now }
     ensures { row.new ≡ tabulate (length row.old) (λ j. get_or f.now (m + j) (pos 0)) }
 {
-    let mut j = 0;
-    while j < row.len() {
-        row[j] = f[m + j];
-        j += 1;
-    }
+    row.copy_from_slice(&f[m..m + row.len()]);
 }
 
 // The rows of inputs i to i + 3.
@@ -49,14 +45,14 @@ fn fill_four(
     arrivals::delays_from_four(board, table, order, chain, i, scratch);
     let n = board.outputs;
     let v = board.vertices;
-    let mut l = 0;
-    while l < 4 {
+    for l in 0..4 {
         let from = v * l;
-        let to = from + v;
         let at = n * (i + l);
-        let end = at + n;
-        copy_out(&mut destination[at..end], &scratch[from..to], board.inputs);
-        l += 1;
+        copy_out(
+            &mut destination[at..at + n],
+            &scratch[from..from + v],
+            board.inputs,
+        );
     }
 }
 
@@ -78,17 +74,13 @@ pub fn fill_matrix(
     chain::chains(board, table, order, &mut chain);
     let m = board.inputs;
     let n = board.outputs;
-    let mut i = 0;
-    while i + 4 <= m {
-        fill_four(board, table, order, &chain, i, scratch, destination);
-        i += 4;
+    for four in 0..m / 4 {
+        fill_four(board, table, order, &chain, 4 * four, scratch, destination);
     }
-    while i < m {
+    for i in m / 4 * 4..m {
         arrivals::delays_from(board, table, order, &chain, i, scratch);
         let at = n * i;
-        let end = at + n;
-        copy_out(&mut destination[at..end], scratch, m);
-        i += 1;
+        copy_out(&mut destination[at..at + n], scratch, m);
     }
 }
 
@@ -133,13 +125,7 @@ pub fn delay_matrix(
 fn arrival_fits(x: i64) -> bool
     ensures { result ≡ fits arrival_limit (read_cell absent_wide x) }
 {
-    if x == Board::ABSENT_WIDE {
-        return true;
-    }
-    if x < Board::MIN_ARRIVAL {
-        return false;
-    }
-    x <= Board::MAX_ARRIVAL
+    x == Board::ABSENT_WIDE || Board::MIN_ARRIVAL <= x && x <= Board::MAX_ARRIVAL
 }
 
 // Whether there are so many times, each absent or within the limits.
@@ -149,12 +135,10 @@ pub fn times_fit(given: &[i64], count: usize) -> bool
     if given.len() != count {
         return false;
     }
-    let mut i = 0;
-    while i < count {
-        if !arrival_fits(given[i]) {
+    for x in given {
+        if !arrival_fits(*x) {
             return false;
         }
-        i += 1;
     }
     true
 }

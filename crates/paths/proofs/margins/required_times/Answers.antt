@@ -1,0 +1,48 @@
+use Rattle.std.proofs.Common.{◌≡◌, ◌≤◌, ℕ, List, ℤ, length, sym, ap, ap₂, ◌∙◌, arith}
+use mathlib.Core.Path.{subst}
+use Rattle.graph.specs.Delay.{mirror}
+use Rattle.timing.specs.Delays.{arrival_in}
+use Rattle.timing.specs.Margins.{cells}
+use Rattle.paths.specs.declared.board.Board.{Board}
+use Rattle.paths.specs.Arrivals.{stored, filled, times_at, Started, Given}
+use Rattle.paths.specs.Checked.{Passable}
+use Rattle.paths.specs.Margins.{InReach, own_from, latest_back}
+use Rattle.paths.proofs.MarginTimes.{outputs_started, back_reach, mirrored_back, placed_reach, placed_mirrored}
+use Rattle.paths.proofs.margins.required_times.Goals as goal
+
+-- the times, mirrored
+module _ {b : Board} {t : List ℤ} {o : List ℕ} (P : Passable b t o) (due f f₁ f₂ : List ℤ) (given : Given b.outputs due) (long : length f ≡ b.vertices) (room : b.vertices ≤ length f)
+    (e₁ : f₁ ≡ stored b.vertices (times_at b.inputs due) f) (l₁ : length f₁ ≡ length f) (e₂ : f₂ ≡ cells (length f₁) (λ v. mirror (arrival_in f₁ v))) where
+  own : f₂ ≡ stored b.vertices (own_from b due) f
+  own = e₂ ∙ ap₂ (λ (k : ℕ) (x : List ℤ). cells k (λ v. mirror (arrival_in x v))) (l₁ ∙ long) e₁ ∙ placed_mirrored P.checked due given f room long
+
+pub mirror_all-requires : goal.mirror_all-requires
+mirror_all-requires c =
+    let r = c.requires in
+    let room : c.args.board.vertices ≤ length c.args.required.now = omega (arith, r.required_len) in
+    rw (c.start.auto.f, r.required_len, c.start.ensures) (placed_reach r.passable.checked c.args.due.now r.given c.args.required.now room)
+
+pub propagate_back-requires-clause-started : goal.propagate_back-requires-clause-started
+propagate_back-requires-clause-started c =
+    let r = c.requires in
+    let room : c.args.board.vertices ≤ length c.args.required.now = omega (arith, r.required_len) in
+    let e = own r.passable c.args.due.now c.args.required.now c.start.new.f c.mirror_all.new.f r.given r.required_len room c.start.ensures c.start.auto.f c.mirror_all.ensures in
+    subst (Started c.args.board c.args.table.now c.args.order.now) (sym e) (outputs_started r.passable.checked c.args.due.now r.given c.args.required.now room r.passable)
+
+pub mirror_all-requires-2 : goal.mirror_all-requires-2
+mirror_all-requires-2 c =
+    let r = c.requires in
+    let room : c.args.board.vertices ≤ length c.args.required.now = omega (arith, r.required_len) in
+    let e = own r.passable c.args.due.now c.args.required.now c.start.new.f c.mirror_all.new.f r.given r.required_len room c.start.ensures c.start.auto.f c.mirror_all.ensures in
+    let are = c.propagate_back.ensures ∙ ap (λ (x : List ℤ). filled c.args.board.vertices (latest_back c.args.board c.args.table.now x) x) e in
+    let long : length c.propagate_back.new.f ≡ c.args.board.vertices = c.propagate_back.auto.f ∙ c.mirror_all.auto.f ∙ c.start.auto.f ∙ r.required_len in
+    subst (λ (k : ℕ). InReach k c.propagate_back.new.f) (sym long) (subst (InReach c.args.board.vertices) (sym are) (back_reach r.passable.checked c.args.due.now r.given c.args.required.now room))
+
+pub returns : goal.returns
+returns c =
+    let r = c.requires in
+    let room : c.args.board.vertices ≤ length c.args.required.now = omega (arith, r.required_len) in
+    let e = own r.passable c.args.due.now c.args.required.now c.start.new.f c.mirror_all.new.f r.given r.required_len room c.start.ensures c.start.auto.f c.mirror_all.ensures in
+    let are = c.propagate_back.ensures ∙ ap (λ (x : List ℤ). filled c.args.board.vertices (latest_back c.args.board c.args.table.now x) x) e in
+    let long : length c.propagate_back.new.f ≡ c.args.board.vertices = c.propagate_back.auto.f ∙ c.mirror_all.auto.f ∙ c.start.auto.f ∙ r.required_len in
+    c.mirror_all-2.ensures ∙ ap₂ (λ (k : ℕ) (x : List ℤ). cells k (λ u. mirror (arrival_in x u))) long are ∙ mirrored_back r.passable.checked c.args.due.now r.given c.args.required.now room
