@@ -1,5 +1,6 @@
 -- How many bytes the lines of a text have at the most.
-use mathlib.Core.Path.{◌≡◌, refl, ap}
+use mathlib.Core.Path.{◌≡◌, refl, sym, ap, ◌∙◌}
+use Rattle.std.proofs.lemmas.Grind.{flat_map-append}
 use mathlib.Core.Bool.{Bool, cond}
 use mathlib.Core.List.{List, [], ◌∷◌, ◌++◌}
 use Prim.Native.Nat.{ℕ, zero, suc, ◌+◌, ◌*◌, ◌^◌, ◌≤◌, ◌<◌}
@@ -16,11 +17,15 @@ use Rattle.laws.proofs.Bounded.{first_below}
 use Rattle.graph.specs.Delay.{Delay, absent, at}
 use Rattle.graph.specs.Graph.{Graph}
 use Rattle.graph.specs.Count.{arcs}
+use Rattle.timing.proofs.Most.{arcs-most}
+use Rattle.paths.specs.declared.board.Board.{Board}
+use Rattle.paths.specs.Board.{graph_in}
+use Rattle.paths.specs.Checked.{Checked}
 use Rattle.format.specs.Arcs.{Arc, arc_in, row_arcs, arcs_between, arcs_of}
 use Rattle.format.specs.Reading.{BoardSizes}
-use Rattle.format.specs.Text.{digits, digits_of, decimal, signed_decimal, words, board_line, arc_line, counts_line, refused_line, arc_lines}
-use Rattle.files.specs.declared.write.Form.TheVariants as F
-use Rattle.files.proofs.ArcForms.{arcs_join}
+use Rattle.format.specs.Text.{digits, digits_of, decimal, signed_decimal, words, board_line, arc_line, counts_line, refused_line, arc_lines, reduced_text}
+use Rattle.files.specs.Read.{sizes_of}
+use Rattle.files.proofs.ArcForms.{lines_are}
 use Rattle.files.proofs.ArcParts.{arcs_count}
 
 first-most : (n : ℕ) (f : ℕ → Bool) → first n f ≤ n
@@ -93,6 +98,9 @@ refused_most r p = omega (arith, three_length (decimal r) (97 ∷ 116 ∷ []) (d
 
 -- ---- the arcs' lines
 
+lines_more : (xs ys : List Arc) → arc_lines (xs ++ ys) ≡ arc_lines xs ++ arc_lines ys
+lines_more xs ys = sym (lines_are (xs ++ ys)) ∙ flat_map-append arc_line xs ys ∙ (λ i. lines_are xs i ++ lines_are ys i)
+
 record Short (xs : List Arc) : Type 0 where
   most : length (arc_lines xs) ≤ 22 * length xs
 
@@ -101,7 +109,7 @@ unfolding arc_lines
 short_none = record { most = omega arith }
 
 short_more : (xs ys : List Arc) → Short xs → Short ys → Short (xs ++ ys)
-short_more xs ys a b = record { most = omega (arith, a.most, b.most, ap length ((arcs_join F.Line).more xs ys), length-append (arc_lines xs) (arc_lines ys), length-append xs ys) }
+short_more xs ys a b = record { most = omega (arith, a.most, b.most, ap length (lines_more xs ys), length-append (arc_lines xs) (arc_lines ys), length-append xs ys) }
 
 short_cell : (u v : ℕ) (d : Delay) → u < 100 → v < 100 → Short (arc_in u v d)
 unfolding arc_lines
@@ -123,3 +131,20 @@ module _ (N : ℕ) (g : Graph) (few : N ≤ 100) where
 
   pub lines_most : length (arc_lines (arcs_of N g)) ≤ 22 * arcs N g
   lines_most = omega (arith, (short_rows 0 N (omega arith)).most, arcs_count N g)
+
+pub parts_length : (xs ys zs : List ℕ) → length (xs ++ ys ++ zs) ≡ length xs + length ys + length zs
+parts_length xs ys zs = omega (arith, length-append (xs ++ ys) zs, length-append xs ys)
+
+pub reduced_most : {b : Board} {t : List ℤ} → Checked b t → (steps left : ℕ) → steps < 10 ^ 4 → left < 10 ^ 4 → length (reduced_text (sizes_of b) (record { table = t; steps = steps; arcs_left = left })) ≤ 88149
+reduced_most {b} {t} k steps left s l =
+    let z = k.lent.sized in
+    let g = graph_in b t in
+    let xs = arc_lines (arcs_of b.vertices g) in
+    omega (
+      arith,
+      parts_length (board_line (sizes_of b)) xs (counts_line steps left),
+      board-most (sizes_of b) (omega (arith, z.roles, z.few)) (omega (arith, z.roles, z.few)) (omega (arith, z.few)),
+      lines_most b.vertices g (omega (arith, z.few)),
+      arcs-most b.vertices k.sound.acyclic z.few,
+      counts_most steps left s l,
+    )

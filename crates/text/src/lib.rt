@@ -8,13 +8,15 @@ ghost use Rattle.format.specs.Reading.{got};
 ghost use Rattle.format.specs.Text.{refused_line, reduced_text, most_cells, text_of, thin_text};
 ghost use Rattle.paths.specs.Checked.{Checked};
 ghost use Rattle.records.specs.Appending.{Appends};
+ghost use Rattle.records.specs.Writing.{HasRoom, Puts};
 ghost use Rattle.files.specs.Read.{sizes_of};
 ghost use Rattle.text.specs.Text.{text_bytes};
 
-use files::write::Form;
+use files::write::Lines;
 use files::{library, place, read, write};
 use paths::{Board, room};
 use records::lines;
+use records::put::Writer;
 use run::calls;
 use timing::{Refusal, numbers};
 
@@ -33,8 +35,21 @@ fn refused_text(refusal: Refusal, offset: usize, out: &mut [u8]) -> usize
     ensures appends { Appends (refused_line (number refusal) offset) out.old 0 out.new result }
     ensures upper_bound { result ≤ text_bytes }
 {
-    let number = numbers::number(refusal);
-    lines::refused_line(out, 0, number, offset)
+    let mut w = Writer::new(out);
+    lines::refused_line(&mut w, numbers::number(refusal), offset);
+    w.at
+}
+
+fn put_reduced(w: &mut Writer, board: Board, table: &[i32], steps: usize, arcs: usize)
+    requires checked { Checked board table.now }
+    requires steps_bound { steps < 10 ^ 4 }
+    requires arcs_bound { arcs < 10 ^ 4 }
+    requires room { HasRoom (reduced_text (sizes_of board) (record { table = table.now; steps = steps; arcs_left = arcs })) w.old }
+    ensures { Puts (reduced_text (sizes_of board) (record { table = table.now; steps = steps; arcs_left = arcs })) w.old w.new }
+{
+    lines::board_line(w, board.inputs, board.outputs, board.vertices);
+    write::put_arcs::<Lines>(w, board, table);
+    lines::counts_line(w, steps, arcs);
 }
 
 fn reduced_text(board: Board, table: &[i32], steps: usize, arcs: usize, out: &mut [u8]) -> usize
@@ -45,9 +60,9 @@ fn reduced_text(board: Board, table: &[i32], steps: usize, arcs: usize, out: &mu
     ensures appends { Appends (reduced_text (sizes_of board) (record { table = table.now; steps = steps; arcs_left = arcs })) out.old 0 out.new result }
     ensures upper_bound { result ≤ text_bytes }
 {
-    let first = lines::board_line(out, 0, board.inputs, board.outputs, board.vertices);
-    let last = write::put_arcs(Form::Line, board, table, out, first);
-    lines::counts_line(out, last, steps, arcs)
+    let mut w = Writer::new(out);
+    put_reduced(&mut w, board, table, steps, arcs);
+    w.at
 }
 
 // The text of a board that was read.
