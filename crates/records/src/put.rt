@@ -6,7 +6,7 @@ ghost use Rattle.codec.specs.Bytes.{Room, byte_of, pattern, in_width};
 use codec::{signed, unsigned};
 use itoa::{Buffer, Integer};
 
-// A lent run of bytes, and the place up to which it is written.
+// A lent run of bytes, and the place up to which it is written. Not a `fmt::Write`: `write!` promises its bytes only where it answers `Ok`, and nothing says when; here the room is known.
 #[derive(Drop)]
 pub struct Writer<'a> {
     pub out: &'a mut [u8],

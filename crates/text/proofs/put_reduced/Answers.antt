@@ -1,8 +1,7 @@
-use Rattle.std.proofs.Common.{◌≡◌, List, ℕ, ◌++◌, ap, sym, arith, length}
-use Rattle.std.specs.List.{flat_map}
+use Rattle.std.proofs.Common.{List, ℕ, ◌++◌, ap, arith, length}
 use Rattle.paths.specs.Board.{graph_in}
-use Rattle.format.specs.Arcs.{Arc, arcs_of}
-use Rattle.format.specs.Text.{board_line, arc_line, arc_lines, counts_line}
+use Rattle.format.specs.Arcs.{arcs_of}
+use Rattle.format.specs.Text.{board_line, arc_lines, counts_line}
 use Rattle.files.specs.Read.{sizes_of}
 use Rattle.files.proofs.ArcForms.{lines_are}
 use Rattle.records.proofs.Appending.{puts_more, puts_same}

@@ -1,4 +1,4 @@
-use Rattle.std.proofs.Common.{◌≡◌, refl, ap, arith, length, List, ℕ, ◌++◌, ◌∙◌, sym, rules}
+use Rattle.std.proofs.Common.{◌≡◌, ap, arith, length, List, ℕ, ◌++◌, ◌∙◌, rules}
 use Rattle.laws.proofs.Lists.{length-tabulate}
 use Rattle.codec.specs.Bytes.{byte_of}
 use Rattle.graph.proofs.Presence.{arcs_few}
@@ -41,10 +41,10 @@ returns c =
     let g = graph_in b c.args.table.now in
     let p : Puts (board_mark b ++ flat_map arc_record (arcs_of b.vertices g) ++ end_record c.args.count) c.new-w.result c.put_end.new.w = puts_more (puts_more c.put_board.ensures c.put_arcs.ensures) c.put_end.ensures in
     let e : board_mark b ++ flat_map arc_record (arcs_of b.vertices g) ++ end_record c.args.count ≡ board_file b c.args.table.now =
-        ap (λ (l : List ℕ). board_mark b ++ l ++ end_record c.args.count) (records_are (arcs_of b.vertices g))
-        ∙ ap (λ (k : ℕ). board_mark b ++ arc_records (arcs_of b.vertices g) ++ end_record k) c.requires.count_value
-        ∙ file_parts b.vertices g b.inputs b.outputs in
+    ap (λ (l : List ℕ). board_mark b ++ l ++ end_record c.args.count) (records_are (arcs_of b.vertices g))
+    ∙ ap (λ (k : ℕ). board_mark b ++ arc_records (arcs_of b.vertices g) ++ end_record k) c.requires.count_value
+    ∙ file_parts b.vertices g b.inputs b.outputs in
     let run = p.same_run ∙ c.new-w.ensures.same_run in
     let left : (after : List ℕ) → after ≡ c.put_end.new.w.out.now → Appends (board_file b c.args.table.now) c.args.out.now 0 after c.put_end.new.w.at =
-        λ after q. appends_by (puts_same e p) c.new-w.ensures.bytes c.new-w.ensures.at q in
+    λ after q. appends_by (puts_same e p) c.new-w.ensures.bytes c.new-w.ensures.at q in
     search (rules, left)
