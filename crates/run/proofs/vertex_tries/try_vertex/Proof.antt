@@ -4,6 +4,7 @@ use mathlib.Core.Bool.{Bool}
 use mathlib.Core.List.{List}
 use Prim.Native.Nat.{ℕ}
 use lib.IntN.{ℤ}
+use Rattle.timing.specs.Table.{graph_of}
 use Rattle.paths.specs.declared.board.Board.{Board}
 use Rattle.plans.specs.declared.verdict.Fit.{Fit}
 use Rattle.plans.specs.OnBoards.{table_by, Applies}
