@@ -30,7 +30,7 @@ fn is_tight(a: i64, cell: i32, w: i64) -> bool
     w == a + i64::from(cell)
 }
 
-// Marks the arcs that a row's chain walks that are tight. Answers whether there is one.
+// Marks the arcs that a row's chain walks that are tight. Answers whether there is one. The walk goes from link to link, along no slice.
 fn mark_row(row: &[i32], chain: &[u8], a: i64, f: &[i64], marks: &mut [bool]) -> bool
     requires reached { Reached a }
     requires pushable { Pushable (length marks.old) row.now chain.now f.now }
@@ -111,7 +111,7 @@ fn mark_from(
     sweep(board, table, order, chain, f, marks);
 }
 
-// The same for inputs i to i + 3, with one pass forwards.
+// The same for inputs i to i + 3, with one pass forwards, which is another function of `arrivals`.
 fn mark_four(
     board: Board,
     table: &[i32],

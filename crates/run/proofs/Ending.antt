@@ -13,7 +13,8 @@ use Rattle.laws.proofs.Booleans.{cases, true_is, eqb_same, eqb_other, neqb→ne}
 use Rattle.graph.specs.Count.{arcs}
 use Rattle.timing.specs.Table.{graph_of}
 use Rattle.timing.specs.declared.Refusal.{Refusal}
-use Rattle.timing.specs.Refusal.{accepted}
+use Rattle.timing.specs.Refusal.{Verdict, accepted}
+use Rattle.reduction.specs.Outcome.{Reduced}
 use Rattle.reduction.specs.Run.{Progress, round, rounds, tries, reduce, whole_run, run_call}
 use Rattle.reduction.proofs.Rounds.{round_less, fuel_enough}
 use Rattle.reduction.proofs.Run.{tries_gain}

@@ -4,6 +4,7 @@ use mathlib.Core.Bool.{Bool}
 use mathlib.Core.List.{List, [], ◌∷◌}
 use Prim.Native.Nat.{ℕ, ◌+◌}
 use lib.IntN.{ℤ}
+use Rattle.timing.specs.Table.{graph_of}
 use Rattle.reduction.specs.Steps.{Step}
 use Rattle.reduction.specs.Run.{round, try_step}
 use Rattle.reduction.proofs.Run.{step_gains}

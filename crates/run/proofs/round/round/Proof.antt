@@ -1,6 +1,10 @@
 use borrow.Author.Rules.{rules}
-use mathlib.Core.Path.{◌≡◌, sym, ◌∙◌, subst}
+use mathlib.Core.Path.{◌≡◌, refl, sym, ap, ◌∙◌, subst}
+use mathlib.Core.Bool.{true, false}
+use mathlib.Core.List.{List}
+use Prim.Native.Nat.{ℕ}
 use native.Mathlib.Omega.{arith}
+use lib.IntN.{ℤ}
 use Rattle.reduction.specs.Run.{Progress}
 use Rattle.paths.specs.declared.board.Board.{Board}
 use Rattle.run.specs.declared.side.Side.TheVariants.{Inputs, Outputs}

@@ -1,6 +1,7 @@
 use borrow.Author.Rules.{rules}
 use borrow.Author.Tests.{not-false}
 use mathlib.Core.Path.{sym, subst}
+use Prim.Native.Nat.{ℕ}
 use lib.Dec.{T}
 use Rattle.timing.specs.Table.{graph_of}
 use Rattle.timing.proofs.Checks.{acyclic_no_cycle}
