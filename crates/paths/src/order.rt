@@ -52,7 +52,12 @@ fn ready(fan: &[u8; Board::MAX_VERTICES], from: usize, n: usize) -> Option<usize
     requires from_le_n { from ≤ n }
     ensures { MatchOption result (NoZero n fan.now from) (λ u. (u < n) × (get_or fan.now u 0 ≡ 0) × NoZero u fan.now from) }
 {
-    (from..n).find(|v| fan[*v] == 0)
+    for v in from..n {
+        if fan[v] == 0 {
+            return Some(v);
+        }
+    }
+    None
 }
 
 // Where the next search begins, once u is placed: all before it are.
