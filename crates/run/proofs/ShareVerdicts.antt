@@ -21,7 +21,6 @@ use Rattle.reduction.specs.Run.{fresh_number}
 use Rattle.reduction.proofs.Accepted.{share_inputs_accepted, inputs_asked, share_outputs_accepted, outputs_asked}
 use Rattle.paths.specs.declared.board.Board.{Board}
 use Rattle.paths.specs.Board.{Sized}
-use Rattle.plans.specs.declared.verdict.Difference.TheVariants as D
 use Rattle.plans.specs.Sharing.{TwoOutputs}
 use Rattle.run.specs.declared.side.Side.{Side}
 use Rattle.run.specs.declared.side.Side.TheVariants.{Inputs, Outputs}
