@@ -59,9 +59,7 @@ fn built_in_cell(code: usize) -> i32
 pub fn built_in(library: &mut [i32])
     ensures { library.new ≡ built_in_cells (length library.old) }
 {
-    let mut code = 0;
-    while code < library.len() {
-        library[code] = built_in_cell(code);
-        code += 1;
+    for (code, cell) in library.iter_mut().enumerate() {
+        *cell = built_in_cell(code);
     }
 }

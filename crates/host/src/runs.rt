@@ -56,10 +56,8 @@ pub fn take_table(bytes: &[u8], cells: &mut [i32])
     requires { 4 * length cells.old ≤ length bytes.now }
     ensures { cells.new ≡ tabulate (length cells.old) (run_cell 4 bytes.now) }
 {
-    let mut x = 0;
-    while x < cells.len() {
-        cells[x] = cell_at(bytes, x);
-        x += 1;
+    for (x, cell) in cells.iter_mut().enumerate() {
+        *cell = cell_at(bytes, x);
     }
 }
 
@@ -68,10 +66,8 @@ pub fn put_table(bytes: &mut [u8], cells: &[i32])
     requires { 4 * length cells.now ≤ length bytes.old }
     ensures { bytes.new ≡ with_cells 4 cells.now bytes.old }
 {
-    let mut x = 0;
-    while x < cells.len() {
-        signed::encode(bytes, 4 * x, 4, cells::wide(cells[x]));
-        x += 1;
+    for (x, &cell) in cells.iter().enumerate() {
+        signed::encode(bytes, 4 * x, 4, cells::wide(cell));
     }
 }
 
@@ -80,9 +76,7 @@ pub fn put_matrix(bytes: &mut [u8], cells: &[i64])
     requires { 8 * length cells.now ≤ length bytes.old }
     ensures { bytes.new ≡ with_cells 8 cells.now bytes.old }
 {
-    let mut x = 0;
-    while x < cells.len() {
-        signed::encode(bytes, 8 * x, 8, cells[x]);
-        x += 1;
+    for (x, &cell) in cells.iter().enumerate() {
+        signed::encode(bytes, 8 * x, 8, cell);
     }
 }

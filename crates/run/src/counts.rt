@@ -25,12 +25,11 @@ pub fn rich_ones(board: Board, table: &[i32], side: Side) -> [bool; Board::MAX_V
     requires { Lent board table.now }
     ensures { Counted side board table.now result }
 {
+    let first = side::first(board, side);
     let end = side::end(board, side);
     let mut rich = room::vertex_flags();
-    let mut v = side::first(board, side);
-    while v < end {
+    for v in first..end {
         rich[v] = is_rich(board, table, side, v);
-        v += 1;
     }
     rich
 }

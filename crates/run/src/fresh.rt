@@ -17,12 +17,11 @@ pub fn fresh_number(board: Board, table: &[i32]) -> usize
     ensures { result ≡ fresh_on board table.now }
 {
     let n = board.vertices;
-    let mut k = board.inputs + board.outputs;
-    while k < n {
+    let inner = board.inputs + board.outputs;
+    for k in inner..n {
         if rows::is_free(board, table, k) {
             return k;
         }
-        k += 1;
     }
     n
 }

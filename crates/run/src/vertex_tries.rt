@@ -66,14 +66,13 @@ pub fn vertex_tries(board: Board, table: &mut [i32], kind: VertexStep, steps: us
     requires lean_on { LeanOn board table.old }
     ensures { Leads board (kind_tries board kind) table.old steps table.new result }
 {
+    let first = first(board, kind);
     let end = end(board, kind);
     let mut done = steps;
-    let mut v = first(board, kind);
-    while v < end {
+    for v in first..end {
         if try_vertex(board, table, kind, v) {
             done += 1;
         }
-        v += 1;
     }
     done
 }
