@@ -70,9 +70,7 @@ pub fn vertex_tries(board: Board, table: &mut [i32], kind: VertexStep, steps: us
     let end = end(board, kind);
     let mut done = steps;
     for v in first..end {
-        if try_vertex(board, table, kind, v) {
-            done += 1;
-        }
+        done += usize::from(try_vertex(board, table, kind, v));
     }
     done
 }

@@ -1,11 +1,12 @@
-use Rattle.std.proofs.Common.{◌≡◌, ℕ, ◌+◌, ◌≤◌, ◌<◌, arith}
+use Rattle.std.proofs.Common.{◌≡◌, refl, ap, ◌∙◌, Bool, true, false, ℕ, ◌+◌, ◌≤◌, ◌<◌, arith}
+use mir.Val.{bool_byte}
 use Rattle.reduction.specs.Run.{Try, try_step}
 use Rattle.paths.specs.declared.board.Board.{Board}
 use Rattle.run.specs.declared.vertex_tries.VertexStep.{VertexStep}
 use Rattle.run.specs.Running.{progress}
 use Rattle.run.specs.VertexSteps.{vertex_step, first_vertex, vertex_count}
 use Rattle.run.proofs.Moving.{gained}
-use Rattle.run.proofs.Trying.{counts, try_reaches, try_runs}
+use Rattle.run.proofs.Trying.{try_reaches, try_runs}
 use Rattle.run.proofs.LeanRounds.{lean_tried}
 use Rattle.run.proofs.Sweeping.{swept_next, swept_all}
 use Rattle.run.proofs.vertex_tries.vertex_tries.Goals as goal
@@ -20,7 +21,10 @@ from b kind = first_vertex kind b.inputs b.outputs
 abbrev times : Board → VertexStep → ℕ
 times b kind = vertex_count kind b.inputs b.outputs b.vertices
 
--- no name of the test: a wrong count is then refused at the number itself
+gained_is : (r : Bool) → bool_byte r ≡ gained r
+gained_is true = refl
+gained_is false = refl
+
 pub loop-v-preserved : goal.loop-v-preserved
 loop-v-preserved c =
     let b = c.args.board in
@@ -28,8 +32,8 @@ loop-v-preserved c =
     let q = vertex_step k c.loop-v.v in
     let after = c.try_vertex.new.table in
     let i = c.loop-v.invariant in
-    let done = c.if-try_vertex.done in
-    let e : done ≡ c.loop-v.done + gained c.try_vertex.result = grind (arith, counts) in
+    let done = c.loop-v.done + c.from-done.result in
+    let e : done ≡ c.loop-v.done + gained c.try_vertex.result = ap (λ (x : ℕ). c.loop-v.done + x) (c.from-done.ensures ∙ gained_is c.try_vertex.result) in
     let reached = try_reaches i.running q after c.try_vertex.result c.try_vertex.ensures done e in
     record {
       running = try_runs i.running q after c.try_vertex.result c.try_vertex.ensures done e;
