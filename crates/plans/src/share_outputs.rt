@@ -33,7 +33,7 @@ fn two_outputs(board: Board, a: usize, b: usize) -> bool
     rows::is_output(board, a) && rows::is_output(board, b) && a != b
 }
 
-// Column b less column a. The first input at which the difference is another settles it, before the delays from the others are looked for.
+// Column b less column a. The first input at which the difference is another settles it, before the delays from the others are looked for. The labelled loop is document 01's form.
 fn columns_difference(
     board: Board,
     table: &[i32],
