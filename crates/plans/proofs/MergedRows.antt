@@ -37,9 +37,6 @@ redirected_after row into v o d x lv lo e =
     go t (no q) (no r) = get_or-set_other (set row o x) v t absent_cell (pos 0) q ∙ get_or-set_other row o t x (pos 0) r ∙ sym (simp (eqb_other t v q, eqb_other t o r))
 
 module _ (row via : List ℤ) (v o : ℕ) (d : ℤ) (u : ℕ) where
-  pub driver_row : u ≡ v → tabulate (length row) (λ _. absent_cell) ≡ tabulate (length row) (merged_cell row via v o d u)
-  driver_row e = tabulate_same (length row) _ _ (λ t _. rw e (simp (eqb_same v)))
-
   -- the cell at another column than v and o
   abbrev kept : ℕ → ℤ
   kept t = write_cell absent_cell (cond (eqb u o) (cell_at row t ⋓ (cell_at via t ⊕ at (neg_ℤ d))) (cell_at row t))

@@ -2,11 +2,11 @@
 use Rattle.std.specs.Prelude.{Err, Ok, Result}
 use mathlib.Core.Path.{◌≡◌, sym, ap, ◌∙◌}
 use mathlib.Core.Bool.{Bool, true, false, not, ◌&&◌}
-use Prim.Native.Nat.{ℕ, ◌+◌, ◌≤◌, ◌<◌}
+use Prim.Native.Nat.{ℕ, ◌+◌}
 use native.Mathlib.Omega.{arith}
-use lib.Dec.{eqb, leb, ltb, leb→le, ltb→lt}
+use lib.Dec.{eqb, ltb}
 use lib.IntN.{ℤ}
-use Rattle.laws.proofs.Booleans.{and_e, true_is, eqb_other, neqb→ne}
+use Rattle.laws.proofs.Booleans.{eqb_other}
 use Rattle.graph.specs.Graph.{Graph}
 use Rattle.graph.specs.Count.{fan_in, fan_out}
 use Rattle.timing.specs.declared.Refusal.{Refusal}
@@ -17,32 +17,6 @@ use Rattle.reduction.specs.Outcome.{is_input, is_output, is_inner, unused}
 use Rattle.reduction.specs.Common.{common_difference}
 use Rattle.reduction.specs.ShareInputs.{inputs_saved, share_inputs_verdict}
 use Rattle.reduction.specs.ShareOutputs.{outputs_saved, share_outputs_verdict}
-use Rattle.paths.specs.declared.board.Board.{Board}
-use Rattle.paths.specs.Board.{Sized}
-use Rattle.plans.specs.Sharing.{TwoOutputs}
-
-pub two_outputs_lem : (board : Board) → Sized board → (a b : ℕ) → (is_output board.inputs board.outputs a && is_output board.inputs board.outputs b && not (eqb a b)) ≡ true → TwoOutputs board a b
-two_outputs_lem board s a b e =
-    let m = board.inputs in
-    let n = board.outputs in
-    let p = and_e (is_output m n a && is_output m n b) (not (eqb a b)) (true_is e) in
-    let q = and_e (is_output m n a) (is_output m n b) p.0 in
-    let x = and_e (leb m a) (ltb a (m + n)) q.0 in
-    let y = and_e (leb m b) (ltb b (m + n)) q.1 in
-    record {
-      no_input_a = leb→le m a x.0;
-      no_input_b = leb→le m b y.0;
-      below_a = omega (arith, ltb→lt a (m + n) x.1, s.roles);
-      below_b = omega (arith, ltb→lt b (m + n) y.1, s.roles);
-      two = neqb→ne a b p.1;
-    }
-
-pub two_inputs_lem : (m N a b k : ℕ) → (is_input m a && is_input m b && not (eqb a b) && ltb k N) ≡ true → (a < m) × (b < m) × (k < N)
-two_inputs_lem m N a b k e =
-    let p = and_e (is_input m a && is_input m b && not (eqb a b)) (ltb k N) (true_is e) in
-    let q = and_e (is_input m a && is_input m b) (not (eqb a b)) p.0 in
-    let r = and_e (is_input m a) (is_input m b) q.0 in
-    (ltb→lt a m r.0, ltb→lt b m r.1, ltb→lt k N p.1)
 
 module _ (N : ℕ) (g : Graph) (k : ℕ) where
   pub used : (fan_out N g k ≡ 0 → ⊥) → unused N g k ≡ false

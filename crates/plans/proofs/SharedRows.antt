@@ -6,7 +6,6 @@ use mathlib.Core.List.{List}
 use Prim.Native.Nat.{ℕ, ◌*◌, ◌<◌}
 use native.Mathlib.Decide.{ℕ_discrete}
 use native.Mathlib.Omega.{arith}
-use borrow.Author.Tests.{eq-eqb}
 use lib.Dec.{eqb}
 use lib.IntN.{ℤ, pos}
 use lib.ListN.{length, get_or, set, take, drop, length-set}
@@ -21,7 +20,7 @@ use Rattle.timing.proofs.Table.{written_read}
 use Rattle.reduction.specs.ShareInputs.{inputs_shared}
 use Rattle.reduction.specs.ShareOutputs.{outputs_shared}
 use Rattle.paths.specs.Cells.{cell_at}
-use Rattle.plans.specs.SharedRow.{only_arc, inputs_cell, outputs_cell}
+use Rattle.plans.specs.SharedRow.{inputs_cell, outputs_cell}
 use Rattle.plans.proofs.CopiedRow.{new_cell, Copied, row_size, row_at}
 
 -- a row known cell by cell, with one cell stored
@@ -43,17 +42,8 @@ module _ (row via : List ℤ) (a b k : ℕ) (e : ℤ) (u : ℕ) where
   abbrev cell : ℕ → ℤ
   cell = inputs_cell row via a b k e u
 
-  pub row_a : u ≡ a → tabulate (length row) (only_arc k (pos 0)) ≡ tabulate (length row) (inputs_cell row via a b k e u)
-  row_a q = tabulate_same n (only_arc k (pos 0)) cell (λ t _. sym (simp (eq-eqb u a q)))
-
   module _ (na : u ≢ a) where
-    pub row_b : u ≡ b → tabulate (length row) (only_arc k e) ≡ tabulate (length row) (inputs_cell row via a b k e u)
-    row_b q = tabulate_same n (only_arc k e) cell (λ t _. sym (simp (eqb_other u a na, eq-eqb u b q)))
-
     module _ (nb : u ≢ b) where
-      pub row_k : u ≡ k → tabulate (length row) (λ t. get_or via t (pos 0)) ≡ tabulate (length row) (inputs_cell row via a b k e u)
-      row_k q = tabulate_same n (λ t. get_or via t (pos 0)) cell (λ t _. sym (simp (eqb_other u a na, eqb_other u b nb, eq-eqb u k q)))
-
       pub row_other : u ≢ k → row ≡ tabulate (length row) (inputs_cell row via a b k e u)
       row_other nk = is_tabulate (pos 0) row n cell refl (λ t _. sym (simp (eqb_other u a na, eqb_other u b nb, eqb_other u k nk)))
 

@@ -44,8 +44,5 @@ module _ (row via : List ℤ) (k : ℕ) where
           ∙ sym (simp (eqb_other t k q))
 
   module _ (u : ℕ) where
-    pub own_row : u ≡ k → tabulate (length row) (λ _. absent_cell) ≡ tabulate (length row) (shrunk_cell row via k u)
-    own_row e = tabulate_same (length row) _ _ (λ t _. rw e (simp (eqb_same k)))
-
     pub other_row : (u ≡ k → ⊥) → tabulate (length row) (bypassed_cell row via k) ≡ tabulate (length row) (shrunk_cell row via k u)
     other_row ne = tabulate_same (length row) _ _ (λ t _. simp (eqb_other u k ne))

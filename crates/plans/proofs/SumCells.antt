@@ -6,8 +6,7 @@ use lib.Dec.{T}
 use lib.IntN.{ℤ, pos, neg_ℤ, ◌+ℤ◌, ◌-ℤ◌}
 use lib.Signed.{le_z, lt_z, ◌≤ℤ◌}
 use mir.Syntax.{w32, w64}
-use mir.Val.{SFits, to_z, of_z}
-use mir.Facts.{to_z-of_z}
+use mir.Val.{SFits}
 use Rattle.laws.specs.Integers.{max_z}
 use Rattle.laws.proofs.Booleans.{cases, is_true, is_false, true_is}
 use Rattle.laws.proofs.Linear.{zarith, zneeds, sum, dif}
@@ -20,10 +19,6 @@ use Rattle.timing.proofs.Limits.{fits_bounds}
 use Rattle.timing.proofs.Table.{read_absent, read_at, written_read}
 use Rattle.paths.specs.Cells.{between}
 use Rattle.paths.proofs.ReadCells.{absent_cell_lem, arc_cell}
-
--- what `is_arc` says of a cell that was handed to it
-pub arc_said : {z : ℤ} {r : Bool} → SFits w32 z → r ≡ present (read_cell absent_cell (to_z w32 (of_z w32 z))) → present (read_cell absent_cell z) ≡ r
-arc_said f e = sym (e ∙ ap (λ (y : ℤ). present (read_cell absent_cell y)) (to_z-of_z f))
 
 -- an absent cell holds the mark
 pub mark_of : (z : ℤ) → present (read_cell absent_cell z) ≡ false → z ≡ absent_cell

@@ -50,7 +50,7 @@ pub fn settle(seen: Seen) -> Result<i64, Refusal>
     }
 }
 
-// ys less xs where both are joined, if that is one number.
+// ys less xs where both are joined, if that is one number. The labelled loop that breaks with the answer is document 01's form.
 pub fn common_difference(xs: &[i64], ys: &[i64]) -> Result<i64, Refusal>
     requires { Comparable xs.now ys.now }
     ensures { verdict result ≡ common_difference (length xs.now) (arrival_in xs.now) (arrival_in ys.now) }

@@ -20,7 +20,7 @@ fn negated(d: i32) -> i32
     requires { T (fits delay_limit (at d)) }
     ensures { result ≡ neg_ℤ d }
 {
-    0 - d
+    -d
 }
 
 // Whether the sums of the arcs into v and d fit.
@@ -31,13 +31,10 @@ fn column_sums_fit(board: Board, table: &[i32], v: usize, d: i32) -> bool
     ensures { result ≡ every board.vertices (λ u. fits delay_limit (graph_in board table.now u v ⊕ at d)) }
 {
     let n = board.vertices;
-    let mut u = 0;
-    while u < n {
-        let at = n * u + v;
-        if !sums::sum_fits(table[at], d) {
+    for u in 0..n {
+        if !sums::sum_fits(table[n * u + v], d) {
             return false;
         }
-        u += 1;
     }
     true
 }
@@ -49,12 +46,9 @@ fn merge_fits(board: Board, table: &[i32], v: usize, o: usize, d: i32) -> bool
     requires drives { Drives board.vertices table.now v o d }
     ensures { result ≡ merge_fits board.vertices (graph_in board table.now) v o d }
 {
-    if !column_sums_fit(board, table, v, d) {
-        return false;
-    }
     let n = board.vertices;
     let from = n * v;
-    shrink::row_sums_fit(negated(d), &table[from..], n)
+    column_sums_fit(board, table, v, d) && shrink::row_sums_fit(negated(d), &table[from..], n)
 }
 
 // The step's conditions, in document 01's order: the driver and its delay. A driver that will not do and a second arc get one refusal, so that the first found settles it.

@@ -60,7 +60,7 @@ fn next_changed(board: Board, table: &[i32], how: Rewriting, from: usize) -> usi
     from
 }
 
-// The one row is copied first, for two rows of one table cannot be lent together.
+// The one row is copied first, for two rows of one table cannot be lent together. A `while`, for the next row is searched for and not counted.
 pub fn rewrite(board: Board, table: &mut [i32], how: Rewriting)
     requires lent { Lent board table.old }
     requires rewritable { Rewritable how board.vertices table.old }

@@ -14,24 +14,16 @@ pub fn is_inner(board: Board, k: usize) -> bool
     requires { Sized board }
     ensures { result ≡ is_inner board.inputs board.outputs board.vertices k }
 {
-    let m = board.inputs;
-    let o = board.outputs;
-    if k < m + o {
-        return false;
-    }
-    k < board.vertices
+    let inner = board.inputs + board.outputs..board.vertices;
+    inner.contains(&k)
 }
 
 pub fn is_output(board: Board, k: usize) -> bool
     requires { Sized board }
     ensures { result ≡ is_output board.inputs board.outputs k }
 {
-    let m = board.inputs;
-    let o = board.outputs;
-    if k < m {
-        return false;
-    }
-    k < m + o
+    let outputs = board.inputs..board.inputs + board.outputs;
+    outputs.contains(&k)
 }
 
 // Whether k is an inner vertex that no arc touches.
@@ -40,13 +32,7 @@ pub fn is_free(board: Board, table: &[i32], k: usize) -> bool
     requires k_lt_vertices { k < board.vertices }
     ensures { result ≡ is_free board table.now k }
 {
-    if !is_inner(board, k) {
-        return false;
-    }
-    if cells::fan_out(board, table, k) != 0 {
-        return false;
-    }
-    cells::none_into(board, table, k)
+    is_inner(board, k) && cells::fan_out(board, table, k) == 0 && cells::none_into(board, table, k)
 }
 
 // The n cells of a row that starts at cell `at`, in an array.
@@ -56,10 +42,6 @@ pub fn row_copy(table: &[i32], at: usize, n: usize) -> Row
     ensures { (v : ℕ) → v < n → get_or result v (pos 0) ≡ get_or table.now (at + v) (pos 0) }
 {
     let mut copy = [0i32; Board::MAX_VERTICES];
-    let mut v = 0;
-    while v < n {
-        copy[v] = table[at + v];
-        v += 1;
-    }
+    copy[..n].copy_from_slice(&table[at..at + n]);
     copy
 }

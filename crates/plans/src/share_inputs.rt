@@ -30,11 +30,8 @@ fn take_over(row: &mut [i32], via: &Row)
     requires { length row.old ≤ max_vertices }
     ensures { row.new ≡ remade (λ t. get_or via.now t (pos 0)) row.old }
 {
-    let mut t = 0;
-    while t < row.len() {
-        row[t] = via[t];
-        t += 1;
-    }
+    let n = row.len();
+    row.copy_from_slice(&via[..n]);
 }
 
 // The row of u: k takes over a's arcs, in `via`, and a and b keep one to k.
@@ -45,13 +42,9 @@ pub fn share_inputs_row(row: &mut [i32], via: &Row, a: usize, b: usize, k: usize
 {
     if u == a {
         only_arc(row, k, 0);
-        return;
-    }
-    if u == b {
+    } else if u == b {
         only_arc(row, k, e);
-        return;
-    }
-    if u == k {
+    } else if u == k {
         take_over(row, via);
     }
 }
@@ -60,16 +53,7 @@ fn two_inputs(board: Board, a: usize, b: usize, k: usize) -> bool
     ensures { result ≡ (two_inputs board a b && ltb k board.vertices) }
 {
     let m = board.inputs;
-    if a >= m {
-        return false;
-    }
-    if b >= m {
-        return false;
-    }
-    if a == b {
-        return false;
-    }
-    k < board.vertices
+    a < m && b < m && a != b && k < board.vertices
 }
 
 // The outputs' delays are compared: those in the second N cells less those in the first N.

@@ -23,27 +23,17 @@ pub fn share_outputs_row(row: &mut [i32], a: usize, b: usize, e: i32, u: usize)
     requires { b < length row.old }
     ensures { row.new ≡ remade (outputs_cell row.old a b e u) row.old }
 {
-    if u == a {
-        row[b] = e;
-        return;
-    }
-    row[b] = Board::ABSENT;
+    row[b] = if u == a { e } else { Board::ABSENT };
 }
 
 fn two_outputs(board: Board, a: usize, b: usize) -> bool
     requires { Sized board }
     ensures { result ≡ two_outputs board a b }
 {
-    if !rows::is_output(board, a) {
-        return false;
-    }
-    if !rows::is_output(board, b) {
-        return false;
-    }
-    a != b
+    rows::is_output(board, a) && rows::is_output(board, b) && a != b
 }
 
-// Column b less column a. The first input at which the difference is another settles it, before the delays from the others are looked for.
+// Column b less column a. The first input at which the difference is another settles it, before the delays from the others are looked for. The labelled loop is document 01's form.
 fn columns_difference(
     board: Board,
     table: &[i32],
@@ -99,10 +89,7 @@ fn is_ahead(order: &Order, sorted: bool, n: usize, a: usize, b: usize) -> bool
     requires { n ≤ max_vertices }
     ensures { result ≡ true → (sorted ≡ true) × T (stands_before n order.now a b) }
 {
-    if !sorted {
-        return false;
-    }
-    order::stands_before(order, n, a, b)
+    sorted && order::stands_before(order, n, a, b)
 }
 
 // Looks for a path from b to a. Where a is ahead of b, and where b→a is an arc, the row sets are not asked for. `sorted`: the order is one of the

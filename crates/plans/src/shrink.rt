@@ -22,10 +22,7 @@ fn is_relay(board: Board, table: &[i32], k: usize) -> bool
     ensures { result ≡ relays board table.now k }
 {
     let one_out = cells::fan_out(board, table, k) == 1;
-    if one_out {
-        return true;
-    }
-    cells::one_into(board, table, k)
+    one_out || cells::one_into(board, table, k)
 }
 
 // Whether the sums of `into`, the delay of an arc into k, and the arcs out of k, in `via`, fit: those are from low to high. No sum with a delay from 0 on is too low.
@@ -51,13 +48,11 @@ fn sums_fit(board: Board, table: &[i32], k: usize) -> bool
 {
     let n = board.vertices;
     let from = n * k;
-    let mut u = cells::next_into(board, table, k, 0);
-    while u < n {
-        let at = n * u + k;
-        if !row_sums_fit(table[at], &table[from..], n) {
+    for u in 0..n {
+        let into = table[n * u + k];
+        if cells::is_arc(into) && !row_sums_fit(into, &table[from..], n) {
             return false;
         }
-        u = cells::next_into(board, table, k, u + 1);
     }
     true
 }
@@ -86,10 +81,8 @@ pub fn join_row(row: &mut [i32], via: &Row, into: i32)
     requires t { T (sums_fit (length row.old) (read_cell absent_cell into) via.now) }
     ensures { row.new ≡ remade (joined_cell row.old via.now (read_cell absent_cell into)) row.old }
 {
-    let mut t = 0;
-    while t < row.len() {
-        row[t] = sums::join(row[t], into, via[t]);
-        t += 1;
+    for (t, cell) in row.iter_mut().enumerate() {
+        *cell = sums::join(*cell, into, via[t]);
     }
 }
 
@@ -99,11 +92,10 @@ fn bypass(row: &mut [i32], via: &Row, k: usize)
     ensures { row.new ≡ remade (bypassed_cell row.old via.now k) row.old }
 {
     let into = row[k];
-    if !cells::is_arc(into) {
-        return;
+    if cells::is_arc(into) {
+        join_row(row, via, into);
+        row[k] = Board::ABSENT;
     }
-    join_row(row, via, into);
-    row[k] = Board::ABSENT;
 }
 
 pub fn shrink_row(row: &mut [i32], via: &Row, k: usize, u: usize)
@@ -112,7 +104,7 @@ pub fn shrink_row(row: &mut [i32], via: &Row, k: usize, u: usize)
 {
     if u == k {
         cells::clear(row);
-        return;
+    } else {
+        bypass(row, via, k);
     }
-    bypass(row, via, k);
 }

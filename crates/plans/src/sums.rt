@@ -10,20 +10,14 @@ use paths::{Board, cells};
 fn wide_sum(a: i32, b: i32) -> i64
     ensures { result ≡ a +ℤ b }
 {
-    cells::wide(a) + cells::wide(b)
+    i64::from(a) + i64::from(b)
 }
 
 // Whether the sum of two delays is absent or in range.
 pub fn sum_fits(a: i32, b: i32) -> bool
     ensures { result ≡ fits delay_limit (read_cell absent_cell a ⊕ read_cell absent_cell b) }
 {
-    if !cells::is_arc(a) {
-        return true;
-    }
-    if !cells::is_arc(b) {
-        return true;
-    }
-    cells::in_range(wide_sum(a, b))
+    !cells::is_arc(a) || !cells::is_arc(b) || cells::in_range(wide_sum(a, b))
 }
 
 // The sum of two delays; absent where a part is.
@@ -31,23 +25,18 @@ pub fn sum(a: i32, b: i32) -> i32
     requires { T (fits delay_limit (read_cell absent_cell a ⊕ read_cell absent_cell b)) }
     ensures { read_cell absent_cell result ≡ read_cell absent_cell a ⊕ read_cell absent_cell b }
 {
-    if !cells::is_arc(a) {
-        return Board::ABSENT;
+    if cells::is_arc(a) && cells::is_arc(b) {
+        a + b
+    } else {
+        Board::ABSENT
     }
-    if !cells::is_arc(b) {
-        return Board::ABSENT;
-    }
-    a + b
 }
 
 // The larger of two delays: absent is the least number of all.
 pub fn larger(a: i32, b: i32) -> i32
     ensures { result ≡ write_cell absent_cell (read_cell absent_cell a ⋓ read_cell absent_cell b) }
 {
-    if a < b {
-        return b;
-    }
-    a
+    a.max(b)
 }
 
 // The larger of a delay and the sum of two others.

@@ -1,0 +1,9 @@
+use Rattle.std.proofs.Common.{◌≡◌, true}
+use Rattle.laws.specs.Bounded.{every}
+use Rattle.graph.specs.Delay.{at, ◌⊕◌}
+use Rattle.timing.specs.Limits.{delay_limit, fits}
+use Rattle.timing.specs.Table.{graph_of}
+use Rattle.plans.proofs.merge_back.column_sums_fit.Given as goal
+
+abbrev pub invariant-loop-u : goal.invariant-loop-u
+invariant-loop-u l = every l.u (λ u. fits delay_limit (graph_of l.n l.table u l.v ⊕ at l.fn.d)) ≡ true
