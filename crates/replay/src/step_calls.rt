@@ -3,8 +3,8 @@ use crate::calls::{Lent, Sizes};
 use crate::input::{self, Number};
 use crate::page::Page;
 use crate::{answers, lines, memory};
-use timing::Refusal;
 use steps::calls;
+use timing::Refusal;
 
 // Makes a step, given m, n, N, the table and the scratch.
 fn make<S: FnOnce(usize, usize, usize, &mut [i32], &mut [i64]) -> Result<usize, Refusal>>(
