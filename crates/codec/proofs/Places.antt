@@ -2,23 +2,26 @@
 use mathlib.Core.Path.{◌≡◌, refl, sym, ap, ◌∙◌}
 use mathlib.Core.List.{List, [], ◌∷◌}
 use Prim.Native.Nat.{ℕ, zero, suc, ◌+◌, ◌-◌, ◌*◌, ◌^◌, ◌≤◌, ◌<◌}
-use native.Mathlib.Nat.{not-suc-le-zero}
+use native.Mathlib.Nat.{not-suc-le-zero, mul-le-mul_left, pow-succ'}
 use native.Mathlib.Decide.{ℕ_discrete, dec_lt}
 use Rattle.std.proofs.Common.{zero-add}
 use native.Mathlib.Omega.{arith}
-use lib.Dec.{T}
-use lib.IntN.{ℤ}
+use lib.Dec.{T, leb→le}
+use lib.IntN.{ℤ, pos, negsuc}
 use lib.ListN.{length, get_or, set, take, drop, length-set}
 use borrow.Rule.Slice.PartMut.{put_mid}
-use Rattle.std.specs.Int.{w64, byte_at, bytes_low_first, to_le_bytes, from_le_bytes}
+use Rattle.std.specs.Int.{w64, cast_signed, cast_unsigned, byte_at, bytes_low_first, to_le_bytes, from_le_bytes}
 use Rattle.std.proofs.lemmas.Grind.{same_number_lists}
 use Rattle.std.proofs.lemmas.List.{places, get_or-take}
 use lib.Seq.{get_or-set_same, get_or-set_other, set-get_or}
+use mir.Facts.{to_z_pos, to_z-neg}
 use mir.Syntax.{w8}
 use mir.Val.{Fits}
+use Rattle.laws.specs.Lists.{tabulate}
+use Rattle.laws.proofs.Lists.{length-tabulate, get_d_tabulate, tabulate_same}
 use Rattle.codec.specs.Bytes.{number_of, byte_of, twos, pattern, in_width, unsigned_at, signed_at, with_number}
-use Rattle.codec.proofs.Bytes.{number_same, number_of_bytes, bytes_of_number, number-below, byte_first}
-use Rattle.codec.proofs.Patterns.{twos-pattern, pattern-below, pattern-twos, twos_in_width}
+use Rattle.codec.proofs.Bytes.{number_same, number_of_bytes, bytes_of_number, number-below, number_longer, number_filled, number_top, byte_first, byte_more, power_above, power_fits}
+use Rattle.codec.proofs.Patterns.{twos-pattern, pattern-below, pattern-twos, twos_in_width, twos_low, twos_high}
 
 module _ (s : List ℕ) (p x : ℕ) where
   pub length_with : (w : ℕ) → length (with_number w s p x) ≡ length s
@@ -87,58 +90,111 @@ low_first_at zero j x i h = absurd (omega arith)
 low_first_at (suc k) j x zero h = byte_at_is j x ∙ ap (byte_of x) (omega arith)
 low_first_at (suc k) j x (suc i) h = low_first_at k (suc j) x i (omega arith) ∙ ap (byte_of x) (omega arith)
 
--- the first w bytes of x, copied over the places from p on
-pub put_written : (w : ℕ) (s : List ℕ) (p x : ℕ) (part : List ℕ) → w ≤ 8 → p + w ≤ length s → part ≡ take w (to_le_bytes w64 x) → put_mid p (p + w - p) s part ≡ with_number w s p x
-put_written w s p x part h r e = same_number_lists _ _ (grind (arith, places, length_with s p x w)) at
+-- the first w bytes of x
+pub first_bytes : (w x : ℕ) → w ≤ 8 → take w (to_le_bytes w64 x) ≡ tabulate w (byte_of x)
+first_bytes w x h = same_number_lists _ _ (grind (arith, places, length-tabulate (byte_of x) w)) at
   where
-    copied : (i : ℕ) → i < w → get_or part i 0 ≡ byte_of x i
-    copied i l = ap (λ (t : List ℕ). get_or t i 0) e ∙ get_or-take w (to_le_bytes w64 x) i 0 l ∙ low_first_at 8 0 x i (omega arith) ∙ ap (byte_of x) (zero-add i)
+    at : (i : ℕ) → i < length (take w (to_le_bytes w64 x)) → get_or (take w (to_le_bytes w64 x)) i 0 ≡ get_or (tabulate w (byte_of x)) i 0
+    at i l =
+        let m : i < w = grind (arith, places) in
+        get_or-take w (to_le_bytes w64 x) i 0 m ∙ low_first_at 8 0 x i (omega arith) ∙ ap (byte_of x) (zero-add i) ∙ sym (get_d_tabulate (byte_of x) w i 0 m)
 
-    long : length part ≡ w
-    long = grind (arith, places)
+-- the bits of a signed number have its pattern's bytes
+pub pattern_bytes : (w : ℕ) (z : ℤ) → w ≤ 8 → T (in_width w z) → tabulate w (byte_of (cast_unsigned w64 z)) ≡ tabulate w (byte_of (pattern w z))
+unfolding pattern in_width
+pattern_bytes w (pos n) h t = refl
+pattern_bytes w (negsuc n) h t = tabulate_same w _ _ (λ i l. ap (λ (y : ℕ). byte_of y i) whole ∙ byte_more i w (256 ^ w - suc n) above.0 l)
+  where
+    above : (m : ℕ) × (256 ^ (w + (8 - w)) ≡ 256 ^ w + 256 ^ w * m)
+    above = power_above w (8 - w)
 
-    past : (k : ℕ) → p + w ≤ k → get_or (put_mid p (p + w - p) s part) k 0 ≡ get_or s k 0
-    past k a = let q : p + ((p + w - p) + (k - p - w)) ≡ k = omega arith in grind (arith, places)
+    whole : 2 ^ 64 - suc n ≡ 256 ^ w - suc n + 256 ^ w * above.0
+    whole =
+        let q : w + (8 - w) ≡ 8 = omega arith in
+        let e : 256 ^ 8 ≡ 256 ^ w + 256 ^ w * above.0 = rw q at above.1 in
+        omega (arith, e, leb→le (2 * suc n) (256 ^ w) t)
 
-    middle : (k : ℕ) → p ≤ k → k < p + w → get_or (put_mid p (p + w - p) s part) k 0 ≡ get_or part (k - p) 0
-    middle k a b = grind (arith, places)
+-- the bytes of s, copied over the first of eight bytes b
+module _ (s : List ℕ) (few : length s ≤ 8) (b : ℕ) (part : List ℕ) (e : part ≡ s) where
+  abbrev all : List ℕ
+  all = put_mid 0 (length s) (b ∷ b ∷ b ∷ b ∷ b ∷ b ∷ b ∷ b ∷ []) part
 
-    at : (k : ℕ) → k < length (put_mid p (p + w - p) s part) → get_or (put_mid p (p + w - p) s part) k 0 ≡ get_or (with_number w s p x) k 0
-    at k l = go (dec_lt k p) (dec_lt k (p + w))
+  long : length part ≡ length s
+  long = ap length e
+
+  eight : from_le_bytes w64 all ≡ number_of 8 (λ i. get_or all i 0)
+  unfolding number_of
+  eight = omega arith
+
+  above : (i : ℕ) → length s ≤ i → i < 8 → get_or all i 0 ≡ b
+  above i l m = grind (arith, places)
+
+  past : (i : ℕ) → 8 ≤ i → get_or all i 0 ≡ 0
+  past i l = grind (arith, places)
+
+  same : (i : ℕ) → i < length s → get_or all i 0 ≡ get_or s (0 + i) 0
+  same i l = grind (arith, places)
+
+  read_first : number_of (length s) (λ i. get_or all i 0) ≡ unsigned_at (length s) s 0
+  read_first = number_same (length s) _ _ same
+
+  pub read_copied : b ≡ 0 → from_le_bytes w64 all ≡ unsigned_at (length s) s 0
+  read_copied z = eight ∙ number_longer (length s) (8 - length s) 8 _ (omega arith) none ∙ read_first
+    where
+      none : (i : ℕ) → length s ≤ i → get_or all i 0 ≡ 0
+      none i l = go (dec_lt i 8)
+        where
+          go : Dec (i < 8) → get_or all i 0 ≡ 0
+          go (yes m) = above i l m ∙ z
+          go (no m) = past i (omega arith)
+
+  read_filled : b ≡ 255 → from_le_bytes w64 all + 256 ^ length s ≡ unsigned_at (length s) s 0 + 2 ^ 64
+  read_filled z = omega (arith, eight, number_filled (length s) (8 - length s) 8 (λ i. get_or all i 0) (omega arith) (λ i l m. above i l m ∙ z), read_first)
+
+  -- and as a signed number
+  module _ (some : 1 ≤ length s) (bytes : AreBytes s) where
+    top : unsigned_at (length s) s 0 ≡ unsigned_at (length s - 1) s 0 + 256 ^ (length s - 1) * get_or s (length s - 1) 0
+    top =
+        let q : length s ≡ suc (length s - 1) = omega arith in
+        let z : 0 + (length s - 1) ≡ length s - 1 = omega arith in
+        ap (λ (w : ℕ). unsigned_at w s 0) q ∙ number_top (length s - 1) (λ i. get_or s (0 + i) 0) ∙ ap (λ (i : ℕ). unsigned_at (length s - 1) s 0 + 256 ^ (length s - 1) * get_or s i 0) z
+
+    power : 256 ^ length s ≡ 256 * 256 ^ (length s - 1)
+    power = let q : length s ≡ suc (length s - 1) = omega arith in ap (λ (w : ℕ). 256 ^ w) q ∙ pow-succ' 256 (length s - 1)
+
+    read_positive : get_or s (length s - 1) 0 < 128 → b ≡ 0 → cast_signed w64 (from_le_bytes w64 all) ≡ signed_at (length s) s 0
+    read_positive h z =
+        let low : 2 * unsigned_at (length s) s 0 < 256 ^ length s = omega (arith, top, power, read_below s 0 (length s - 1) bytes, mul-le-mul_left (256 ^ (length s - 1)) (let q : get_or s (length s - 1) 0 ≤ 127 = omega arith in q)) in
+        ap (cast_signed w64) (read_copied z) ∙ to_z_pos w64 (omega (arith, power_fits (length s) few)) ∙ sym (twos_low (length s) _ low)
+
+    read_negative : 128 ≤ get_or s (length s - 1) 0 → b ≡ 255 → cast_signed w64 (from_le_bytes w64 all) ≡ signed_at (length s) s 0
+    read_negative h z =
+        let x = unsigned_at (length s) s 0 in
+        let high : 256 ^ length s ≤ 2 * x = omega (arith, top, power, mul-le-mul_left (256 ^ (length s - 1)) h) in
+        let k = 256 ^ length s - suc x in
+        let e : from_le_bytes w64 all ≡ 2 ^ 64 - suc k = omega (arith, read_filled z, read_below s 0 (length s) bytes, power_fits (length s) few) in
+        ap (cast_signed w64) e ∙ to_z-neg w64 k (omega (arith, power_fits (length s) few)) ∙ sym (twos_high (length s) x high)
+
+    -- b is the sign of the highest byte
+    pub read_signed : (get_or s (length s - 1) 0 < 128 → b ≡ 0) → (128 ≤ get_or s (length s - 1) 0 → b ≡ 255) → cast_signed w64 (from_le_bytes w64 all) ≡ signed_at (length s) s 0
+    read_signed low high = go (dec_lt (get_or s (length s - 1) 0) 128)
       where
-        go : Dec (k < p) → Dec (k < p + w) → get_or (put_mid p (p + w - p) s part) k 0 ≡ get_or (with_number w s p x) k 0
-        go (yes a) _ = let e = byte_left s p x w k (λ i m q. omega arith) in grind (arith, places)
-        go (no a) (yes b) = let q : p + (k - p) ≡ k = omega arith in
-            middle k (omega arith) b ∙ copied (k - p) (omega arith) ∙ sym (byte_written s p x w (k - p) r (omega arith)) ∙ ap (λ (j : ℕ). get_or (with_number w s p x) j 0) q
-        go (no a) (no b) = past k (omega arith) ∙ sym (byte_left s p x w k (λ i m q. omega arith))
+        go : Dec (get_or s (length s - 1) 0 < 128) → cast_signed w64 (from_le_bytes w64 all) ≡ signed_at (length s) s 0
+        go (yes h) = read_positive h (low h)
+        go (no h) = let k : 128 ≤ get_or s (length s - 1) 0 = omega arith in read_negative k (high k)
 
-number_none : (w : ℕ) (f : ℕ → ℕ) → ((i : ℕ) → f i ≡ 0) → number_of w f ≡ 0
-unfolding number_of
-number_none zero f h = refl
-number_none (suc w) f h = omega (arith, h 0, number_none w (λ i. f (suc i)) (λ i. h (suc i)))
+-- ---- a number in a part of a list
 
-number_longer : (w k n : ℕ) (f : ℕ → ℕ) → w + k ≡ n → ((i : ℕ) → w ≤ i → f i ≡ 0) → number_of n f ≡ number_of w f
-unfolding number_of
-number_longer zero k n f e h = number_none n f (λ i. h i (omega arith))
-number_longer (suc w) k zero f e h = absurd (omega arith)
-number_longer (suc w) k (suc n) f e h = ap (λ (r : ℕ). f 0 + 256 * r) (number_longer w k n (λ i. f (suc i)) (omega arith) (λ i l. h (suc i) (omega arith)))
-
-abbrev zeros : List ℕ
-zeros = 0 ∷ 0 ∷ 0 ∷ 0 ∷ 0 ∷ 0 ∷ 0 ∷ 0 ∷ []
-
--- w bytes of s, copied over the first of eight zeros
-pub read_copied : (w : ℕ) (s : List ℕ) (p : ℕ) (part : List ℕ) → w ≤ 8 → p + w ≤ length s → part ≡ take (p + w - p) (drop p s) → from_le_bytes w64 (put_mid 0 w zeros part) ≡ unsigned_at w s p
-unfolding number_of
-read_copied w s p part h r e = eight (put_mid 0 w zeros part) ∙ number_longer w (8 - w) 8 _ (omega arith) none ∙ number_same w _ _ same
+pub part_unsigned : (s : List ℕ) (p w k : ℕ) → p + w ≤ length s → k ≡ w → unsigned_at (length (take k (drop p s))) (take k (drop p s)) 0 ≡ unsigned_at w s p
+part_unsigned s p w k h e = ap (λ (n : ℕ). unsigned_at n (take k (drop p s)) 0) long ∙ number_same w _ _ same
   where
-    long : length part ≡ w
+    long : length (take k (drop p s)) ≡ w
     long = grind (arith, places)
 
-    eight : (t : List ℕ) → from_le_bytes w64 t ≡ number_of 8 (λ i. get_or t i 0)
-    eight t = omega arith
-
-    none : (i : ℕ) → w ≤ i → get_or (put_mid 0 w zeros part) i 0 ≡ 0
-    none i l = grind (arith, places)
-
-    same : (i : ℕ) → i < w → get_or (put_mid 0 w zeros part) i 0 ≡ get_or s (p + i) 0
+    same : (i : ℕ) → i < w → get_or (take k (drop p s)) (0 + i) 0 ≡ get_or s (p + i) 0
     same i l = grind (arith, places)
+
+pub part_signed : (s : List ℕ) (p w k : ℕ) → p + w ≤ length s → k ≡ w → signed_at (length (take k (drop p s))) (take k (drop p s)) 0 ≡ signed_at w s p
+part_signed s p w k h e =
+    let long : length (take k (drop p s)) ≡ w = grind (arith, places) in
+    (λ i. twos (long i) (part_unsigned s p w k h e i))

@@ -1,61 +1,34 @@
-// Signed numbers of `width` bytes: two's complement, low byte first.
-ghost use Rattle.std.specs.Prelude.{◌≡◌, ◌+◌, ◌<◌, ◌≤◌, ◌^◌, T};
-ghost use Rattle.codec.specs.Bytes.{Room, twos, pattern, in_width, signed_at, with_number};
+// Signed numbers: two's complement, low byte first.
+ghost use Rattle.std.specs.Prelude.{◌≡◌, ◌≤◌, ◌<◌, T, length};
+ghost use Rattle.laws.specs.Lists.{tabulate};
+ghost use Rattle.codec.specs.Bytes.{byte_of, pattern, in_width, signed_at};
 
-use crate::unsigned;
-
-// The greatest pattern.
-fn greatest(width: usize) -> u64
-    requires le_width { 1 ≤ width }
-    requires width_bound { width ≤ 8 }
-    ensures { result + 1 ≡ 256 ^ width }
+// What the bytes above a number hold whose highest byte this is: the sign.
+fn sign(highest: u8) -> u8
+    ensures low { highest < 128 → result ≡ 0 }
+    ensures high { 128 ≤ highest → result ≡ 255 }
 {
-    u64::MAX >> (64 - 8 * width)
+    if highest < 128 { 0 } else { 255 }
 }
 
-// The signed number of a pattern.
-fn of_pattern(x: u64, width: usize) -> i64
-    requires le_width { 1 ≤ width }
-    requires width_bound { width ≤ 8 }
-    requires x_bound { x < 256 ^ width }
-    ensures { result ≡ twos width x }
+// The number in these bytes.
+pub fn decode(bytes: &[u8]) -> i64
+    requires some { 1 ≤ length bytes.now }
+    requires few { length bytes.now ≤ 8 }
+    ensures { result ≡ signed_at (length bytes.now) bytes.now 0 }
 {
-    let max = greatest(width);
-    if x <= max / 2 {
-        return x as i64;
-    }
-    !((max - x) as i64)
+    let mut all = [sign(bytes[bytes.len() - 1]); 8];
+    all[..bytes.len()].copy_from_slice(bytes);
+    i64::from_le_bytes(all)
 }
 
-// The pattern of a signed number.
-fn to_pattern(x: i64, width: usize) -> u64
-    requires le_width { 1 ≤ width }
-    requires width_bound { width ≤ 8 }
-    requires t { T (in_width width x) }
-    ensures { result ≡ pattern width x }
+// Writes the number into the bytes. Not one generic function with `unsigned::put_number`: which numbers have so many bytes, and what the bytes are, differs.
+pub fn encode(bytes: &mut [u8], x: i64)
+    requires few { length bytes.old ≤ 8 }
+    requires fits_width { T (in_width (length bytes.old) x) }
+    ensures { bytes.new ≡ tabulate (length bytes.old) (byte_of (pattern (length bytes.old) x)) }
 {
-    if x < 0 {
-        let max = greatest(width);
-        return max - (!x as u64);
-    }
-    x as u64
-}
-
-// The number in the bytes from `at` on.
-pub fn decode(bytes: &[u8], at: usize, width: usize) -> i64
-    requires { Room bytes.now at width }
-    ensures { result ≡ signed_at width bytes.now at }
-{
-    let x = unsigned::number(bytes, at, width);
-    of_pattern(x, width)
-}
-
-// Writes the number into the bytes from `at` on.
-pub fn encode(bytes: &mut [u8], at: usize, width: usize, x: i64)
-    requires room { Room bytes.old at width }
-    requires t { T (in_width width x) }
-    ensures { bytes.new ≡ with_number width bytes.old at (pattern width x) }
-{
-    let p = to_pattern(x, width);
-    unsigned::put_number(bytes, at, width, p);
+    let all = x.to_le_bytes();
+    let width = bytes.len();
+    bytes.copy_from_slice(&all[..width]);
 }

@@ -1,23 +1,25 @@
-// Unsigned numbers of `width` bytes, low byte first.
-ghost use Rattle.std.specs.Prelude.{◌≡◌, ◌<◌, ◌^◌};
-ghost use Rattle.codec.specs.Bytes.{Room, unsigned_at, with_number};
+// Unsigned numbers, low byte first.
+ghost use Rattle.std.specs.Prelude.{◌≡◌, ◌<◌, ◌≤◌, ◌^◌, length};
+ghost use Rattle.laws.specs.Lists.{tabulate};
+ghost use Rattle.codec.specs.Bytes.{byte_of, unsigned_at};
 
-// The number in the bytes from `at` on.
-pub fn number(bytes: &[u8], at: usize, width: usize) -> u64
-    requires { Room bytes.now at width }
-    ensures { result ≡ unsigned_at width bytes.now at }
+// The number in these bytes.
+pub fn number(bytes: &[u8]) -> usize
+    requires { length bytes.now ≤ 8 }
+    ensures { result ≡ unsigned_at (length bytes.now) bytes.now 0 }
 {
-    let mut all = [0u8; 8];
-    all[..width].copy_from_slice(&bytes[at..at + width]);
-    u64::from_le_bytes(all)
+    let mut all = [0; 8];
+    all[..bytes.len()].copy_from_slice(bytes);
+    usize::from_le_bytes(all)
 }
 
-// Writes the number into the bytes from `at` on.
-pub fn put_number(bytes: &mut [u8], at: usize, width: usize, x: u64)
-    requires room { Room bytes.old at width }
-    requires x_bound { x < 256 ^ width }
-    ensures { bytes.new ≡ with_number width bytes.old at x }
+// Writes the number into the bytes.
+pub fn put_number(bytes: &mut [u8], x: usize)
+    requires few { length bytes.old ≤ 8 }
+    requires fits_width { x < 256 ^ length bytes.old }
+    ensures { bytes.new ≡ tabulate (length bytes.old) (byte_of x) }
 {
     let all = x.to_le_bytes();
-    bytes[at..at + width].copy_from_slice(&all[..width]);
+    let width = bytes.len();
+    bytes.copy_from_slice(&all[..width]);
 }

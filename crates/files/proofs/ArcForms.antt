@@ -1,6 +1,6 @@
 -- Arcs, each written by itself: cell by cell, and one after another.
 use mathlib.Core.Path.{◌≡◌, refl, sym, ap, ◌∙◌, subst}
-use mathlib.Core.Bool.{true, false}
+use mathlib.Core.Bool.{true}
 use mathlib.Core.List.{List, [], ◌∷◌, ◌++◌, append-nil}
 use Prim.Native.Nat.{ℕ}
 use lib.Dec.{T}
@@ -14,7 +14,7 @@ use Rattle.std.proofs.lemmas.List.Concat.{flat_map-cons}
 use Rattle.graph.specs.Delay.{Delay, present, at}
 use Rattle.timing.specs.Limits.{absent_cell, delay_limit, fits}
 use Rattle.timing.specs.Table.{read_cell}
-use Rattle.paths.proofs.ReadCells.{arc_cell, absent_cell_lem}
+use Rattle.paths.proofs.ReadCells.{arc_cell}
 use Rattle.format.specs.Arcs.{Arc, arc_in}
 use Rattle.format.specs.Writing.{arc_record, arc_records}
 use Rattle.format.specs.Text.{arc_line, arc_lines}
@@ -42,9 +42,6 @@ module _ (text : Arc → List ℕ) where
     cell_arc e =
         let a : Arc = record { from = u; to = v; delay = z } in
         ap (λ (d : Delay). flat_map text (arc_in u v d)) (arc_cell z e) ∙ flat_map-cons text a [] ∙ append-nil (text a)
-
-    pub cell_none : present (read_cell absent_cell z) ≡ false → cell_as text u v z ≡ []
-    cell_none e = ap (λ (d : Delay). flat_map text (arc_in u v d)) (absent_cell_lem z e)
 
 -- a cell with an arc, as the code holds it
 module _ (z : ℤ) (f : SFits w32 z) (r : true ≡ present (read_cell absent_cell (to_z w32 (of_z w32 z)))) where

@@ -14,7 +14,6 @@ use lib.IntN.{ℤ}
 use lib.ListN.{length, get_or, set}
 use lib.Seq.{get_or-set_same, get_or-set_other}
 use Rattle.laws.proofs.Booleans.{eqb_same, eqb_other}
-use Rattle.timing.specs.declared.Refusal.{Refusal}
 use Rattle.timing.specs.declared.Refusal.TheVariants.{FileEnds, NotRising, WrongCount, FileGoesOn}
 use Rattle.timing.specs.Refusal.{number, Verdict, refused, accepted}
 use Rattle.format.specs.declared.Record.{Record}

@@ -13,7 +13,8 @@ use Rattle.graph.specs.Graph.{Graph}
 use Rattle.timing.specs.declared.Refusal.{Refusal}
 use Rattle.timing.specs.declared.Refusal.TheVariants.{DestinationShort}
 use Rattle.timing.specs.Refusal.{Verdict, accepted, require, left_by}
-use Rattle.paths.specs.declared.board.Board.{Board}
+use Rattle.paths.specs.declared.sorted.Sorted.{Sorted}
+use Rattle.paths.specs.Tables.{of_table}
 use Rattle.paths.specs.Checked.{Checking}
 use Rattle.paths.proofs.Answering.{answers_on, answers_refused}
 use Rattle.format.specs.Writing.{file_of, Written, file_into, write_call}
@@ -43,11 +44,11 @@ module _ (m n N : ℕ) (g : Graph) (destination : List ℕ) where
       whole : after ≡ file ++ drop (length file) destination
       whole = let z : 0 + length file ≡ length file = omega arith in a.bytes ∙ sets-eq file destination 0 (omega arith) ∙ ap (λ (k : ℕ). file ++ drop k destination) z
 
-module _ {m n N s : ℕ} {t : List ℤ} {o : List ℕ} {made : Result Board Refusal} (c : Checking m n N s t o made) where
-  pub call_written : (b : Board) → made ≡ Ok b → (before after : List ℕ) (r : (Result ℕ Refusal)) → Writes (file_on b t before) before after r → Writes (write_call m n N s t before) before after r
+module _ {m n N s : ℕ} {t : List ℤ} where
+  pub call_written : (x : Sorted) → Checking m n N s t (Ok x) → (before after : List ℕ) (r : (Result ℕ Refusal)) → Writes (of_table file_on x.table before) before after r → Writes (write_call m n N s t before) before after r
   unfolding write_call
-  call_written b q before after r h = answers_on c b q (λ m n N. file_into m n N before) before after r h
+  call_written x c before after r h = answers_on x c (λ m n N. file_into m n N before) before after r h
 
-  pub call_stopped : (x : Refusal) → made ≡ Err x → (before : List ℕ) → Writes (write_call m n N s t before) before before (Err x)
+  pub call_stopped : (x : Refusal) → Checking m n N s t (Err x) → (before : List ℕ) → Writes (write_call m n N s t before) before before (Err x)
   unfolding write_call
-  call_stopped x q before = answers_refused c x q (file_into m n N before) before (Err x) refl
+  call_stopped x c before = answers_refused x c (file_into m n N before) before (Err x) refl

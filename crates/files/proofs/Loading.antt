@@ -6,26 +6,27 @@ use mathlib.Core.List.{List, ◌++◌}
 use Prim.Native.Nat.{ℕ}
 use native.Mathlib.Omega.{arith}
 use lib.IntN.{ℤ}
-use lib.ListN.{length}
 use Rattle.laws.specs.Lists.{rows}
 use Rattle.graph.specs.Delay.{absent, at}
 use Rattle.graph.specs.Graph.{Graph}
 use Rattle.timing.specs.declared.Refusal.{Refusal}
 use Rattle.timing.specs.Limits.{absent_cell}
-use Rattle.timing.specs.Refusal.{number, Verdict, refused, accepted, ◌then◌, verdict}
+use Rattle.timing.specs.Refusal.{number, Verdict, refused, accepted, verdict, on_value}
 use Rattle.timing.specs.Table.{write_cell, graph_of, with_graph}
-use Rattle.timing.specs.Checks.{arcs_checked}
+use Rattle.timing.specs.Checks.{arcs_checked, BoardSizes}
 use Rattle.timing.proofs.Checks.{arcs_accepted}
 use Rattle.timing.proofs.Verdict.{then_accepted}
-use Rattle.timing.proofs.Table.{graph_of_with_graph, length-with_graph, drop-with_graph}
-use Rattle.format.specs.Reading.{Reading, stopped, got, placed, BoardSizes, opened, board_records, arcs_worked, file_loads, with_record, no_arcs, file_graph, file_checked, arcs_read, read_call, graph_read, table_read}
+use Rattle.timing.proofs.Table.{graph_of_with_graph, drop-with_graph}
+use Rattle.format.specs.Reading.{Reading, stopped, got, placed, opened, board_records, arcs_worked, file_loads, with_record, no_arcs, file_graph, file_checked, arcs_read, read_call, graph_read, table_read}
+use Rattle.paths.specs.declared.table.Table.{Table}
+use Rattle.paths.specs.Tables.{timing_graph}
 use Rattle.paths.specs.declared.board.Board.{Board}
-use Rattle.paths.specs.Board.{Lent, graph_in}
+use Rattle.paths.specs.Board.{graph_in, sizes_of}
 use Rattle.paths.specs.Checked.{ArcsChecking}
 use Rattle.files.specs.Loads.{loads_of}
 use Rattle.files.specs.Place.{all_placed}
 use Rattle.files.specs.Scan.{scan_meaning}
-use Rattle.files.specs.Read.{sizes_of, passed, Loads}
+use Rattle.files.specs.Read.{passed, Loads}
 use Rattle.format.proofs.Readings.{next_on, next_off}
 
 -- ---- tables
@@ -41,47 +42,50 @@ blank_graph N t = graph_of_with_graph N no_arcs t (record { in_range = λ u v k.
     never : (z : ℤ) → absent ≡ at z → ⊥
     never z e = let q : ◌≡◌ {A = ℕ} 0 1 = cc in omega arith
 
-pub blank_lent : (b : Board) (t x : List ℤ) → Lent b t → x ≡ with_graph b.vertices no_arcs t → Lent b x
-blank_lent b t x h e = record { sized = h.sized; room = omega (arith, h.room, ap length e, length-with_graph b.vertices no_arcs t h.room) }
-
 -- ---- the arcs, in a table without arcs, then 5 and 6
 
-module _ (lib : List ℤ) (b : Board) (s l : List ℕ) (t t₁ : List ℤ) (o : List ℕ) (loads : loads_of l ≡ file_loads b.vertices s) (empty : graph_in b t ≡ no_arcs)
-    (graph : graph_in b t₁ ≡ all_placed lib b.vertices s (loads_of l) t) (table : t₁ ≡ with_graph b.vertices (all_placed lib b.vertices s (loads_of l) t) t)
-    (r : Result Board Refusal) (said : ArcsChecking b t₁ o r) where
+module _ (lib : List ℤ) (x : Table) (s l : List ℕ) (t : List ℤ) (loads : loads_of l ≡ file_loads x.board.vertices s) (empty : graph_in x.board t ≡ no_arcs)
+    (graph : timing_graph x ≡ all_placed lib x.board.vertices s (loads_of l) t) (table : x.cells.now ≡ with_graph x.board.vertices (all_placed lib x.board.vertices s (loads_of l) t) t)
+    (r : Result (List ℕ) Refusal) (said : ArcsChecking x r) where
+  abbrev b : Board
+  b = x.board
+
+  abbrev t₁ : List ℤ
+  t₁ = x.cells.now
+
   abbrev m : ℕ
   m = b.inputs
 
   abbrev n : ℕ
   n = b.vertices
 
-  file_graph_lem : all_placed lib b.vertices s (loads_of l) t ≡ file_graph lib b.vertices s
+  file_graph_lem : all_placed lib x.board.vertices s (loads_of l) t ≡ file_graph lib x.board.vertices s
   unfolding file_graph
   file_graph_lem i = arcs_worked (with_record lib (loads i)) n s (empty i)
 
-  answer : (arcs_checked b.inputs b.vertices (file_graph lib b.vertices s) then λ _. accepted b) ≡ verdict r
-  answer = sym (said.answer ∙ ap (λ (g : Graph). arcs_checked m n g then λ _. accepted b) (graph ∙ file_graph_lem))
+  answer : on_value (λ _. tt {0}) (arcs_checked x.board.inputs x.board.vertices (file_graph lib x.board.vertices s)) ≡ on_value (λ _. tt {0}) (verdict r)
+  answer = sym (said.answer ∙ ap (λ (g : Graph). on_value (λ _. tt {0}) (arcs_checked m n g)) (graph ∙ file_graph_lem))
 
-  pub filled : (x : Board) → r ≡ Ok x → Loads b.vertices (file_checked lib (sizes_of b) s) t t₁ (Ok tt)
-  filled x e = record { answer = sym (ap passed found); table = table ∙ ap (λ (g : Graph). with_graph n g t) (file_graph_lem ∙ sym (ap graph_read found)) }
+  pub filled : (o : List ℕ) → r ≡ Ok o → Loads x.board.vertices (file_checked lib (sizes_of x.board) s) t x.cells.now (Ok tt)
+  filled o e = record { answer = sym (ap passed found); table = table ∙ ap (λ (g : Graph). with_graph n g t) (file_graph_lem ∙ sym (ap graph_read found)) }
     where
-      found : file_checked lib (sizes_of b) s ≡ got (file_graph lib b.vertices s)
+      found : file_checked lib (sizes_of x.board) s ≡ got (file_graph lib x.board.vertices s)
       found =
-          let p = then_accepted (arcs_checked m n (file_graph lib n s)) _ x (answer ∙ ap verdict e) in
+          let p = then_accepted (arcs_checked m n (file_graph lib n s)) _ (tt {0}) (answer ∙ ap (λ (q : Result (List ℕ) Refusal). on_value (λ _. tt {0}) (verdict q)) e) in
           ap (placed 0) (p.1 ∙ ap accepted (sym (arcs_accepted m n (file_graph lib n s) p.0 p.1).same))
 
-  pub emptied : (x : Refusal) → r ≡ Err x → (t₂ : List ℤ) → t₂ ≡ with_graph b.vertices no_arcs t₁ → Loads b.vertices (file_checked lib (sizes_of b) s) t t₂ (Err (record { refusal = x; at = 0 }))
-  emptied x e t₂ q = record {
+  pub emptied : (f : Refusal) → r ≡ Err f → (t₂ : List ℤ) → t₂ ≡ with_graph x.board.vertices no_arcs x.cells.now → Loads x.board.vertices (file_checked lib (sizes_of x.board) s) t t₂ (Err (record { refusal = f; at = 0 }))
+  emptied f e t₂ q = record {
     answer = sym (ap passed found);
     table = q ∙ ap (with_graph n no_arcs) table ∙ written_over n no_arcs (all_placed lib n s (loads_of l) t) t ∙ ap (λ (y : Reading Graph). with_graph n (graph_read y) t) (sym found);
   }
     where
-      go : (v : Verdict Graph) → (v then λ _. accepted b) ≡ refused (number x) → placed 0 v ≡ stopped (number x) 0
+      go : (v : Verdict Graph) → on_value (λ _. tt {0}) v ≡ refused (number f) → placed 0 v ≡ stopped (number f) 0
       go (refused y) z = (cc)
       go (accepted y) z = absurd (let w : ◌≡◌ {A = ℕ} 0 1 = cc in omega arith)
 
-      found : file_checked lib (sizes_of b) s ≡ stopped (number x) 0
-      found = go (arcs_checked m n (file_graph lib n s)) (answer ∙ ap verdict e)
+      found : file_checked lib (sizes_of x.board) s ≡ stopped (number f) 0
+      found = go (arcs_checked m n (file_graph lib n s)) (answer ∙ ap (λ (q : Result (List ℕ) Refusal). on_value (λ _. tt {0}) (verdict q)) e)
 
 -- ---- the records, then the arcs
 

@@ -1,7 +1,7 @@
 -- The record at an offset as a step of pass 2.
 use Rattle.std.specs.Prelude.{Some}
 use Rattle.files.specs.declared.place.Placed.{Placed}
-use Rattle.std.specs.Prelude.{None, Option}
+use Rattle.std.specs.Prelude.{Option}
 use mathlib.Core.Path.{◌≡◌, sym, ap, ◌∙◌}
 use mathlib.Core.List.{List}
 use Prim.Native.Nat.{ℕ, ◌+◌}
@@ -11,7 +11,7 @@ use lib.ListN.{length}
 use Rattle.graph.specs.Delay.{Delay, at}
 use Rattle.graph.specs.Graph.{Graph}
 use Rattle.timing.specs.Limits.{absent_cell}
-use Rattle.timing.specs.Refusal.{refused, accepted}
+use Rattle.timing.specs.Refusal.{accepted}
 use Rattle.timing.specs.Table.{read_cell, write_cell}
 use Rattle.timing.proofs.Limits.{not_mark}
 use Rattle.timing.proofs.Table.{read_at}
@@ -43,9 +43,3 @@ module _ (l : List ℤ) (N : ℕ) (s : List ℕ) (load : ℕ → ℕ) (p : ℕ) 
         let k = legal N s p (R.Cell u v c) e in
         let h : read_cell absent_cell z ≡ value_of (cell_delay l c (load v)) = delay_held l ok c (load v) z q in
         (λ g onward. stored u v (p + 5) z (value_of (cell_delay l c (load v))) h g onward ∙ sym (ap (worked_of (board_shape N) (with_record l load) p g onward) e), (k.1, k.2, omega arith, k.0))
-
-  pub end_steps : (n : ℕ) → record_at N s p ≡ accepted (R.End n) → Steps None
-  end_steps n e = (λ g onward. sym (ap (worked_of (board_shape N) (with_record l load) p g onward) e), tt)
-
-  pub refused_steps : (r : ℕ) → record_at N s p ≡ refused r → Steps None
-  refused_steps r e = (λ g onward. sym (ap (worked_of (board_shape N) (with_record l load) p g onward) e), tt)

@@ -1,15 +1,11 @@
 -- What a loop over a row's cells hands on, and what is left of the row after it.
 use mathlib.Core.Path.{◌≡◌, sym, ap, ◌∙◌, subst}
 use mathlib.Core.List.{List, ◌++◌}
-use Prim.Native.Nat.{ℕ, ◌+◌, ◌*◌, ◌^◌, ◌<◌}
+use Prim.Native.Nat.{ℕ, ◌+◌, ◌*◌, ◌<◌}
 use lib.Dec.{T}
 use lib.IntN.{ℤ, pos}
 use lib.ListN.{get_or}
-use lib.Signed.{mag}
-use mir.Syntax.{w32}
-use mir.Val.{to_z, of_z}
 use Rattle.std.specs.List.{flat_map}
-use mir.Facts.{to_z-of_z}
 use Rattle.graph.specs.Delay.{Delay}
 use Rattle.timing.specs.Limits.{absent_cell, delay_limit, fits}
 use Rattle.timing.specs.Table.{read_cell}
@@ -24,13 +20,10 @@ use Rattle.files.proofs.Turns.{left, left_next}
 use Rattle.files.proofs.ArcParts.{row_parts}
 use Rattle.files.proofs.ArcForms.{arcs_join}
 
-module _ {b : Board} {t : List ℤ} (k : Checked b t) (u v : ℕ) (x : u < b.vertices) (y : v < b.vertices) (small : mag (get_or t (b.vertices * u + v) (pos 0)) < 2 ^ 31) where
-  -- the cell, as the code holds it
-  abbrev held : ℤ
-  held = to_z w32 (of_z w32 (get_or t (b.vertices * u + v) (pos 0)))
-
+-- `held` is the cell, as the code holds it
+module _ {b : Board} {t : List ℤ} (k : Checked b t) (u v : ℕ) (x : u < b.vertices) (y : v < b.vertices) {held : ℤ} (is : held ≡ get_or t (b.vertices * u + v) (pos 0)) where
   says : graph_in b t u v ≡ read_cell absent_cell held
-  says = graph_of_at b.vertices t u v x y ∙ ap (read_cell absent_cell) (sym (to_z-of_z {w = w32} (record { sfits = small })))
+  says = graph_of_at b.vertices t u v x y ∙ ap (read_cell absent_cell) (sym is)
 
   pub row_fits : T (fits delay_limit (read_cell absent_cell held))
   row_fits = subst (λ (d : Delay). T (fits delay_limit d)) says (sound_fits k.sound u v)

@@ -4,14 +4,14 @@ use Rattle.files.specs.declared.answer.Fault.{Fault}
 use Rattle.std.specs.Prelude.{None, Ok, Option, Result}
 use mathlib.Core.Path.{◌≡◌, sym, ap, ◌∙◌, subst}
 use mathlib.Core.List.{List}
-use Prim.Native.Nat.{ℕ, ◌≤◌, ◌<◌}
+use Prim.Native.Nat.{ℕ, ◌<◌}
 use native.Mathlib.Omega.{arith}
 use lib.ListN.{length}
 use Rattle.timing.specs.declared.Refusal.{Refusal}
 use Rattle.timing.specs.Refusal.{number, Verdict}
 use Rattle.format.specs.Reading.{Reading, stopped, got, Shape, Onward}
 use Rattle.files.specs.declared.scan.Cursor.{Cursor}
-use Rattle.files.specs.Scan.{turn_meaning, shape_says, found_says, InFile, Turns}
+use Rattle.files.specs.Scan.{turn_meaning, found_says, InFile, Turns}
 
 module _ {bytes : ℕ} {c : Cursor} {v : Onward → Reading (Unit {0})} where
   pub refuses : (x : Refusal) (p : ℕ) → ((onward : Onward) → stopped (number x) p ≡ v onward) → Turns bytes c v (Err (record { refusal = x; at = p }))
@@ -30,17 +30,7 @@ module _ {bytes : ℕ} {c : Cursor} {v : Onward → Reading (Unit {0})} where
 pub turn_means : {bytes : ℕ} {c : Cursor} {v : Onward → Reading (Unit {0})} {r x : Result (Option Cursor) Fault} → Turns bytes c v r → r ≡ x → (onward : Onward) → turn_meaning x onward ≡ v onward
 turn_means t e onward = ap (λ (y : Result (Option Cursor) Fault). turn_meaning y onward) (sym e) ∙ t.meaning onward
 
--- a file that is longer
-in_longer : (short long : ℕ) {c : Cursor} {v : Onward → Reading (Unit {0})} {r : Result (Option Cursor) Fault} → short ≤ long → Turns short c v r → Turns long c v r
-in_longer short long l t = record {
-  meaning = t.meaning;
-  further = λ d e. let f = t.further d e in (f.0, record { inside = omega (arith, f.1.inside, l); few = f.1.few });
-}
-
 -- what a record or a verdict says, once it is known to be y
 module _ {R : Type 0} (shape : R → Shape) {c : Cursor} {r : Result (Option Cursor) Fault} (s : List ℕ) where
-  pub record_is : {x y : R} {short : ℕ} → x ≡ y → short ≤ length s → Turns short c (shape_says s c (shape y)) r → Turns (length s) c (shape_says s c (shape x)) r
-  record_is {short = short} e l t = in_longer short (length s) l (subst (λ (z : R). Turns short c (shape_says s c (shape z)) r) (sym e) t)
-
   pub found_is : {x y : Verdict R} → x ≡ y → Turns (length s) c (found_says s c shape y) r → Turns (length s) c (found_says s c shape x) r
   found_is e t = subst (λ (z : Verdict R). Turns (length s) c (found_says s c shape z) r) (sym e) t

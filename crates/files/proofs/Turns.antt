@@ -51,9 +51,6 @@ pub record Joins {A B : Type 0} (write : List A → List B) : Type 0 where
 abbrev pub left : {A B : Type 0} → (List A → List B) → (ℕ → ℕ → List A) → ℕ → ℕ → List B
 left write from n v = write (from v (n - v))
 
-pub left_all : {A B : Type 0} (write : List A → List B) (from : ℕ → ℕ → List A) (n : ℕ) → left write from n 0 ≡ write (from 0 n)
-left_all write from n = let e : n - 0 ≡ n = omega arith in ap (λ (k : ℕ). write (from 0 k)) e
-
 module _ {A B : Type 0} {write : List A → List B} (w : Joins write) {part : ℕ → List A} {from : ℕ → ℕ → List A} (ps : Parts part from) (n v : ℕ) where
   pub left_next : v < n → left write from n v ≡ write (part v) ++ left write from n (v + 1)
   left_next l = ap write (turn ps v n l) ∙ w.more (part v) (from (v + 1) (n - (v + 1)))

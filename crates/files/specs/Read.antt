@@ -5,14 +5,12 @@ use Rattle.std.specs.Prelude.{Err, Ok, Result, ◌≡◌, List, ℕ, ℤ}
 use Rattle.graph.specs.Graph.{Graph}
 use Rattle.timing.specs.Refusal.{number, verdict}
 use Rattle.timing.specs.Table.{with_graph}
+use Rattle.timing.specs.Checks.{BoardSizes, sizes}
 use Rattle.format.specs.Library.{InForce}
-use Rattle.format.specs.Reading.{Reading, stopped, got, placed, ◌next◌, BoardSizes, sizes, graph_read}
+use Rattle.format.specs.Reading.{Reading, stopped, got, placed, ◌next◌, graph_read}
 use Rattle.paths.specs.declared.board.Board.{Board}
-use Rattle.paths.specs.Board.{Lent}
+use Rattle.paths.specs.Board.{Lent, sizes_of}
 use Rattle.files.specs.Scan.{scan_meaning}
-
-abbrev pub sizes_of : Board → BoardSizes
-sizes_of b = sizes b.inputs b.outputs b.vertices
 
 abbrev pub read_meaning : Result Board Fault → Reading BoardSizes
 read_meaning (Ok b) = got (sizes_of b)

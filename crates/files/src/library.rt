@@ -3,30 +3,20 @@ ghost use Rattle.timing.specs.Refusal.{verdict};
 ghost use Rattle.std.specs.Prelude.{◌≡◌, length};
 ghost use Rattle.timing.specs.Limits.{absent_cell};
 ghost use Rattle.timing.specs.Table.{write_cell};
-ghost use Rattle.format.specs.Library.{library_cells, library_fits, ticks_in, ticks_of, value_of, built_in_cells};
+ghost use Rattle.format.specs.Library.{library_fits, ticks_in, ticks_of, value_of, built_in_cells};
 
 use paths::{Board, cells};
 use records::{library, parse};
 use timing::Refusal;
 
-// The most ticks, as a cell has them.
-const MAX_TICKS: i32 = library::MAX_TICKS as i32;
-
-// Cells for one.
-pub fn none() -> [i32; library::CODES]
-    ensures { length result ≡ library_cells }
-{
-    [0i32; library::CODES]
-}
-
-// Whether it may be lent to a read.
+// Whether it may be lent to a read. That it may stays a clause of what comes after: C lends the cells, and a struct would be made at each read to hand them on.
 pub fn fits(library: &[i32]) -> bool
     ensures { result ≡ library_fits library.now }
 {
     if library.len() != library::CODES {
         return false;
     }
-    cells::row_within(library, 0, MAX_TICKS)
+    cells::row_within(library, 0, library::MAX_TICKS)
 }
 
 // A code's ticks.
@@ -34,7 +24,7 @@ pub fn ticks_in(library: &[i32], code: u8) -> Result<i32, Refusal>
     ensures { verdict result ≡ ticks_in library.now code }
 {
     let lacking = Err(Refusal::WrongField);
-    let at = code as usize;
+    let at = usize::from(code);
     if at >= library.len() {
         return lacking;
     }
@@ -49,10 +39,10 @@ pub fn ticks_in(library: &[i32], code: u8) -> Result<i32, Refusal>
 fn built_in_cell(code: usize) -> i32
     ensures { result ≡ write_cell absent_cell (value_of (ticks_of code)) }
 {
-    if code > 255 {
-        return Board::ABSENT;
+    match u8::try_from(code) {
+        Ok(code) => parse::cell_ticks(code).unwrap_or(Board::ABSENT),
+        Err(_) => Board::ABSENT,
     }
-    parse::cell_ticks(code as u8).unwrap_or(Board::ABSENT)
 }
 
 // Fills the cells from the built-in ticks: 32 of them are the built-in library.

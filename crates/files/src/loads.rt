@@ -1,29 +1,21 @@
 // Loads, a byte for each vertex, and a cell's delay under its load.
-ghost use Rattle.std.specs.Prelude.{◌≡◌, length};
-ghost use Rattle.timing.specs.Limits.{max_vertices, absent_cell};
+ghost use Rattle.std.specs.Prelude.{◌≡◌};
+ghost use Rattle.timing.specs.Limits.{absent_cell};
 ghost use Rattle.timing.specs.Table.{write_cell};
 ghost use Rattle.format.specs.Library.{value_of, InForce};
 ghost use Rattle.format.specs.Records.{under_load, cell_delay};
-ghost use Rattle.format.specs.Reading.{no_loads};
-ghost use Rattle.files.specs.Loads.{loads_of, Loadable};
+ghost use Rattle.files.specs.Loads.{Loadable};
 
 use crate::library;
 use paths::Board;
-
-// No loads.
-pub fn none() -> [u8; Board::MAX_VERTICES]
-    ensures result_len { length result ≡ max_vertices }
-    ensures result_value { loads_of result ≡ no_loads }
-{
-    [0u8; Board::MAX_VERTICES]
-}
 
 // A fifth more for each record of the load, rounded up.
 fn under_load(ticks: i32, load: u8) -> i32
     requires { Loadable ticks }
     ensures { result ≡ under_load ticks load }
 {
-    let fifths = ticks as usize * (5 + load as usize);
+    let fifths = u64::from(ticks.unsigned_abs()) * (5 + u64::from(load));
+    // It fits, by `Loadable`: a `try_from` would want an answer where it does not.
     ((fifths + 4) / 5) as i32
 }
 

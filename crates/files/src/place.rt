@@ -1,4 +1,4 @@
-// Pass 2: the arcs of a file whose records have been checked are placed by value.
+// Pass 2: the arcs of a file whose records have been checked are placed by value. A record is told by its offset in the file, as in `records::parse`.
 ghost use Rattle.std.specs.Prelude.{◌≡◌, ◌*◌, ◌≤◌, length};
 ghost use Rattle.timing.specs.Limits.{max_vertices};
 ghost use Rattle.timing.specs.Table.{graph_of, with_graph};
@@ -62,9 +62,9 @@ pub fn place(bytes: &[u8], n: usize, library: &[i32], loads: &[u8], table: &mut 
     requires n_le_max_vertices { n ≤ max_vertices }
     requires in_force { InForce library.now }
     requires n_in_bounds { n ≤ length loads.now }
-    requires n_in_bounds_2 { n * n ≤ length table.old }
-    ensures table_after { graph_of n table.new ≡ all_placed library.now n bytes.now (loads_of loads.now) table.old }
-    ensures table_after_2 { table.new ≡ with_graph n (all_placed library.now n bytes.now (loads_of loads.now) table.old) table.old }
+    requires table_room { n * n ≤ length table.old }
+    ensures graph_after { graph_of n table.new ≡ all_placed library.now n bytes.now (loads_of loads.now) table.old }
+    ensures table_after { table.new ≡ with_graph n (all_placed library.now n bytes.now (loads_of loads.now) table.old) table.old }
 {
     let mut at = 5;
     while let Some(arc) = next_arc(bytes, n, library, loads, at) {

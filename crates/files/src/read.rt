@@ -2,14 +2,14 @@
 ghost use Rattle.std.specs.Prelude.{◌≡◌, ◌≤◌, length};
 ghost use Rattle.format.specs.Library.{InForce};
 ghost use Rattle.format.specs.Reading.{header, opened, file_loads, no_arcs, file_checked, arcs_read, read_call, table_read};
-ghost use Rattle.paths.specs.Board.{Lent, graph_in};
+ghost use Rattle.paths.specs.Board.{Lent, graph_in, sizes_of};
 ghost use Rattle.files.specs.Loads.{loads_of};
-ghost use Rattle.files.specs.Read.{sizes_of, read_meaning, header_meaning, Opens, Loads};
+ghost use Rattle.files.specs.Read.{read_meaning, header_meaning, Opens, Loads};
 
 use crate::answer::Fault;
-use crate::{library, loads, place, scan};
+use crate::{library, place, scan};
 use format::Mark;
-use paths::{Board, checks, room};
+use paths::{Board, Table, checks};
 use records::parse;
 use timing::Refusal;
 
@@ -41,7 +41,8 @@ fn open(bytes: &[u8], library: &[i32], table: &[i32], scratch: usize) -> Result<
         return Err(Refusal::WrongLibrary);
     }
     let (inputs, outputs, vertices) = first_record(bytes)?;
-    checks::memory_checked(inputs, outputs, vertices, table, scratch)
+    let table = checks::memory_checked(inputs, outputs, vertices, table, scratch)?;
+    Ok(table.board)
 }
 
 // The arcs of records that have been checked and have these loads, in a table without arcs.
@@ -61,8 +62,11 @@ fn fill(
     ensures { Loads board.vertices (file_checked library.now (sizes_of board) bytes.now) table.old table.new result }
 {
     place::place(bytes, board.vertices, library, loads, table);
-    let mut order = room::vertex_bytes();
-    if let Err(refusal) = checks::arcs_checked(board, table, &mut order) {
+    let read = Table {
+        board,
+        cells: table,
+    };
+    if let Err(refusal) = checks::arcs_checked(&read) {
         place::blank(table, board.vertices);
         return Err(Fault::from(refusal));
     }
@@ -78,7 +82,7 @@ fn load(board: Board, bytes: &[u8], library: &[i32], table: &mut [i32]) -> Resul
 {
     let n = board.vertices;
     place::blank(table, n);
-    let mut loads = loads::none();
+    let mut loads = [0; Board::MAX_VERTICES];
     scan::scan(bytes, n, library, &mut loads)?;
     fill(board, bytes, library, &loads, table)
 }

@@ -23,6 +23,7 @@ fn item_turn(bytes: &[u8], cursor: Cursor, item: Entry) -> Result<Option<Cursor>
     }
 }
 
+// Not one function with `scan::turn`: what finds a record, and what it says, would be closures, each with its contract.
 fn turn(bytes: &[u8], cursor: Cursor) -> Result<Option<Cursor>, Fault>
     requires { InFile (length bytes.now) cursor }
     ensures { Turns (length bytes.now) cursor (found_says bytes.now cursor entry_shape (entry_at bytes.now cursor.at)) result }

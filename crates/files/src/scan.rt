@@ -1,4 +1,4 @@
-// Pass 1: every record is checked and counted by its source; the table stays.
+// Pass 1: every record is checked and counted by its source; the table stays. A record is told by its offset in the file, as in `records::parse`.
 ghost use Rattle.timing.specs.Refusal.{verdict};
 ghost use Rattle.std.specs.Prelude.{◌≡◌, ◌+◌, ◌*◌, ◌<◌, ◌≤◌, length};
 ghost use Rattle.timing.specs.Limits.{max_vertices};

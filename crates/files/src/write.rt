@@ -6,15 +6,14 @@ ghost use Rattle.timing.specs.Table.{read_cell};
 ghost use Rattle.format.specs.Arcs.{Arc};
 ghost use Rattle.format.specs.Writing.{arc_record, end_record, write_call};
 ghost use Rattle.format.specs.Text.{arc_line};
-ghost use Rattle.paths.specs.Board.{Sized, graph_in};
-ghost use Rattle.paths.specs.Checked.{Checked};
+ghost use Rattle.paths.specs.Tables.{timing_graph, IsSound, of_table};
 ghost use Rattle.records.specs.Appending.{RoomFor, Appends};
 ghost use Rattle.records.specs.Lines.{DelayInRange};
 ghost use Rattle.records.specs.Writing.{HasRoom, Puts};
 ghost use Rattle.files.specs.Forms.{cell_as, row_as, table_as};
 ghost use Rattle.files.specs.Writing.{Writes, board_mark, board_file, file_on};
 
-use paths::{Board, cells, checks, room};
+use paths::{Board, Table, cells, checks};
 use records::lines;
 use records::put::Writer;
 use timing::Refusal;
@@ -40,8 +39,8 @@ impl Form for Records {
 
     fn put(w: &mut Writer, u: usize, v: usize, delay: i32) {
         w.text(b"AR");
-        w.byte(u as u8);
-        w.byte(v as u8);
+        w.small(u);
+        w.small(v);
         w.signed(4, i64::from(delay));
     }
 }
@@ -60,21 +59,20 @@ const ARC_BYTES: usize = 8;
 const FRAME_BYTES: usize = 9;
 
 fn put_board(w: &mut Writer, board: Board)
-    requires sized { Sized board }
-    requires room { HasRoom (board_mark board) w.old }
+    requires { HasRoom (board_mark board) w.old }
     ensures { Puts (board_mark board) w.old w.new }
 {
     w.text(b"BD");
-    w.byte(board.inputs as u8);
-    w.byte(board.outputs as u8);
-    w.byte(board.vertices as u8);
+    w.small(board.inputs);
+    w.small(board.outputs);
+    w.small(board.vertices);
 }
 
 // The arc of a cell, if it has one.
 fn put_cell<F: Form>(w: &mut Writer, u: usize, v: usize, cell: i32)
     requires u_bound { u < 256 }
     requires v_bound { v < 256 }
-    requires t { T (fits delay_limit (read_cell absent_cell cell)) }
+    requires cell_in_range { T (fits delay_limit (read_cell absent_cell cell)) }
     requires room { HasRoom (cell_as F.text u v cell) w.old }
     ensures { Puts (cell_as F.text u v cell) w.old w.new }
 {
@@ -89,58 +87,56 @@ fn put_end(w: &mut Writer, count: usize)
     ensures { Puts (end_record count) w.old w.new }
 {
     w.text(b"EN");
-    w.unsigned(2, count as u64);
+    w.unsigned(2, count);
 }
 
 // The arcs out of u.
-fn put_row<F: Form>(w: &mut Writer, board: Board, table: &[i32], u: usize)
-    requires checked { Checked board table.now }
-    requires u_lt_vertices { u < board.vertices }
-    requires room { HasRoom (row_as F.text board table.now u) w.old }
-    ensures { Puts (row_as F.text board table.now u) w.old w.new }
+fn put_row<F: Form>(w: &mut Writer, table: &Table, u: usize)
+    requires sound { IsSound table.now }
+    requires u_lt_vertices { u < table.now.board.vertices }
+    requires room { HasRoom (of_table (row_as F.text) table.now u) w.old }
+    ensures { Puts (of_table (row_as F.text) table.now u) w.old w.new }
 {
-    let n = board.vertices;
-    for v in 0..n {
-        put_cell::<F>(w, u, v, table[n * u + v]);
+    for v in 0..table.board.vertices {
+        put_cell::<F>(w, u, v, table.cell(u, v));
     }
 }
 
 // All arcs.
-pub fn put_arcs<F: Form>(w: &mut Writer, board: Board, table: &[i32])
-    requires checked { Checked board table.now }
-    requires room { HasRoom (table_as F.text board table.now) w.old }
-    ensures { Puts (table_as F.text board table.now) w.old w.new }
+pub fn put_arcs<F: Form>(w: &mut Writer, table: &Table)
+    requires sound { IsSound table.now }
+    requires room { HasRoom (of_table (table_as F.text) table.now) w.old }
+    ensures { Puts (of_table (table_as F.text) table.now) w.old w.new }
 {
-    let rows = board.vertices;
-    for u in 0..rows {
-        put_row::<F>(w, board, table, u);
+    for u in 0..table.board.vertices {
+        put_row::<F>(w, table, u);
     }
 }
 
 // The whole file, of so many arcs.
-fn put_file(board: Board, table: &[i32], count: usize, out: &mut [u8]) -> usize
-    requires checked { Checked board table.now }
-    requires count_value { count ≡ arcs board.vertices (graph_in board table.now) }
-    requires room_for { RoomFor (board_file board table.now) out.old 0 }
-    ensures { Appends (board_file board table.now) out.old 0 out.new result }
+fn put_file(table: &Table, count: usize, out: &mut [u8]) -> usize
+    requires sound { IsSound table.now }
+    requires count_value { count ≡ arcs table.now.board.vertices (timing_graph table.now) }
+    requires room_for { RoomFor (of_table board_file table.now) out.old 0 }
+    ensures { Appends (of_table board_file table.now) out.old 0 out.new result }
 {
     let mut w = Writer::new(out);
-    put_board(&mut w, board);
-    put_arcs::<Records>(&mut w, board, table);
+    put_board(&mut w, table.board);
+    put_arcs::<Records>(&mut w, table);
     put_end(&mut w, count);
     w.at
 }
 
-// The file of a board that has passed its checks; 21 where it does not fit.
-fn file_answer(board: Board, table: &[i32], destination: &mut [u8]) -> Result<usize, Refusal>
-    requires { Checked board table.now }
-    ensures { Writes (file_on board table.now destination.old) destination.old destination.new result }
+// The file of a table that has passed its checks; 21 where it does not fit.
+fn file_answer(table: &Table, destination: &mut [u8]) -> Result<usize, Refusal>
+    requires { IsSound table.now }
+    ensures { Writes (of_table file_on table.now destination.old) destination.old destination.new result }
 {
-    let count = cells::arcs(board, table);
+    let count = table.arcs();
     if destination.len() < FRAME_BYTES + ARC_BYTES * count {
         return Err(Refusal::DestinationShort);
     }
-    Ok(put_file(board, table, count, destination))
+    Ok(put_file(table, count, destination))
 }
 
 // Writes the board file of a table into the first bytes of `out`, and answers how many.
@@ -154,7 +150,6 @@ pub fn write(
 ) -> Result<usize, Refusal>
     ensures { Writes (write_call inputs outputs vertices (length scratch.now) table.now out.old) out.old out.new result }
 {
-    let mut order = room::vertex_bytes();
-    let board = checks::checked(inputs, outputs, vertices, table, scratch.len(), &mut order)?;
-    file_answer(board, table, out)
+    let sorted = checks::checked(inputs, outputs, vertices, table, scratch.len())?;
+    file_answer(&sorted.table, out)
 }

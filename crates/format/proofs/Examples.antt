@@ -7,12 +7,12 @@ use Rattle.laws.specs.Bounded.{every}
 use Rattle.laws.specs.Lists.{tabulate}
 use Rattle.graph.specs.Graph.{longest}
 use Rattle.timing.specs.Table.{read_cell}
-use Rattle.timing.specs.Checks.{sizes_fit, no_arc_into_input, no_cycle}
+use Rattle.timing.specs.Checks.{sizes_fit, no_arc_into_input, no_cycle, BoardSizes}
 use Rattle.codec.specs.Bytes.{number_of, twos}
 use Rattle.graph.specs.Delay.{Delay}
 use Rattle.format.specs.Library.{library_fits, ticks_in, cell_ticks, ticks_of}
 use Rattle.format.specs.Records.{mark_at, cell_delay, record_at}
-use Rattle.format.specs.Reading.{Reading, BoardSizes, header, opened, records_from, worked_from, board_records, file_loads, file_graph, arcs_read, read_call, table_read}
+use Rattle.format.specs.Reading.{Reading, header, opened, records_from, worked_from, board_records, file_loads, file_graph, arcs_read, read_call, table_read}
 use Rattle.format.specs.LibraryFile.{entry_at, library_records, file_ticks, file_library, library_call}
 use Rattle.format.specs.Examples.{files, delays, libraries, cells_left}
 

@@ -21,7 +21,7 @@ use Rattle.timing.specs.declared.Refusal.TheVariants.{WrongField, WrongLibrary}
 use Rattle.timing.specs.Limits.{max_vertices, delay_limit, absent_cell, fits}
 use Rattle.timing.specs.Refusal.{Verdict, refused, accepted}
 use Rattle.timing.specs.Table.{read_cell, write_cell, with_graph}
-use Rattle.timing.specs.Checks.{sizes_fit, table_fits, cells_fit, memory_checked, passes}
+use Rattle.timing.specs.Checks.{sizes_fit, table_fits, cells_fit, memory_checked, passes, BoardSizes}
 use Rattle.timing.proofs.Checks.{few_of, sound_of, Passed, passed-passes, MemoryFits, memory_accepted, ArcsFit, arcs_accepted}
 use Rattle.timing.proofs.Limits.{span_fits, not_mark}
 use Rattle.timing.proofs.Table.{read_absent, read_at, graph_of_with_graph, length-with_graph}
@@ -32,7 +32,7 @@ use Rattle.format.specs.declared.Entry.{Entry}
 use Rattle.format.specs.declared.Entry.TheVariants as E
 use Rattle.format.specs.Library.{library_cells, ticks_limit, ticks_fit, absent_or_fits, library_fits, InForce, found_in, ticks_in, value_of}
 use Rattle.format.specs.Records.{under_load, cell_delay, record_at, LegalRecord}
-use Rattle.format.specs.Reading.{got, placed, BoardSizes, board_shape, known_at, board_records, arcs_worked, counted, no_loads, file_loads, with_arc, with_record, no_arcs, file_graph, header, opened, arcs_read, read_call, table_read}
+use Rattle.format.specs.Reading.{got, placed, board_shape, known_at, board_records, arcs_worked, counted, no_loads, file_loads, with_arc, with_record, no_arcs, file_graph, header, opened, arcs_read, read_call, table_read}
 use Rattle.format.specs.LibraryFile.{entry_at, entry_shape, library_records, with_entry, no_ticks, file_ticks, file_library, library_call}
 use Rattle.format.specs.InRange.{most_delay, NoRangeCheck, ReadPasses, LibraryPasses}
 use Rattle.format.proofs.AcceptedRecords.{legal, stands, legal_entry}

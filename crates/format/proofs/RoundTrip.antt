@@ -19,7 +19,7 @@ use Rattle.timing.specs.Limits.{max_vertices, absent_cell, scratch_cells}
 use Rattle.timing.specs.declared.Refusal.TheVariants.{DestinationShort}
 use Rattle.timing.specs.Refusal.{accepted}
 use Rattle.timing.specs.Table.{write_cell, graph_of, with_graph}
-use Rattle.timing.specs.Checks.{sizes_fit, table_fits, scratch_fits, cells_fit, no_arc_into_input, no_cycle, checked, passes}
+use Rattle.timing.specs.Checks.{sizes_fit, table_fits, scratch_fits, cells_fit, no_arc_into_input, no_cycle, checked, passes, BoardSizes, sizes}
 use Rattle.timing.proofs.Checks.{sound_within, sound_fits, Passed, passed, passed-passes, checked_accepted}
 use Rattle.timing.proofs.Table.{written_read, graph_of_at, drop-with_graph, length-with_graph}
 use Rattle.timing.proofs.Verdict.{require_accepted, then_accepted, same_accepted}
@@ -29,7 +29,7 @@ use Rattle.codec.specs.Bytes.{byte_of, pattern}
 use Rattle.format.specs.Library.{library_fits, InForce}
 use Rattle.format.specs.Records.{mark_at}
 use Rattle.format.specs.Arcs.{Arc, arc_in, row_arcs, arcs_between, arcs_of}
-use Rattle.format.specs.Reading.{got, BoardSizes, sizes, header, opened, board_records, file_loads, no_arcs, file_graph, arcs_read, read_call, table_read}
+use Rattle.format.specs.Reading.{got, header, opened, board_records, file_loads, no_arcs, file_graph, arcs_read, read_call, table_read}
 use Rattle.format.specs.Writing.{board_record, arc_records, end_record, file_of, Written, write_call}
 use Rattle.format.specs.RoundTrip.{RoundTrip}
 use Rattle.format.proofs.Rising.{rising-arcs, place_arcs}

@@ -3,9 +3,10 @@ use Rattle.std.specs.Prelude.{cond, List, [], ◌∷◌, ◌++◌, ℕ, eqb, ℤ
 use Rattle.laws.specs.Lists.{tabulate}
 use Rattle.graph.specs.Delay.{Delay, absent, at}
 use Rattle.timing.specs.Limits.{absent_cell}
+use Rattle.timing.specs.Checks.{BoardSizes, sizes}
 use Rattle.format.specs.Library.{library_cells, value_of, built_in}
 use Rattle.format.specs.Records.{cell_delay}
-use Rattle.format.specs.Reading.{Reading, stopped, got, BoardSizes, sizes, file_graph, read_call, table_read}
+use Rattle.format.specs.Reading.{Reading, stopped, got, file_graph, read_call, table_read}
 use Rattle.format.specs.LibraryFile.{library_call, library_read}
 
 -- read into 25 cells, with as many of scratch, under a library

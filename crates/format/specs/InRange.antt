@@ -3,11 +3,11 @@ use Rattle.std.specs.Prelude.{◌≡◌, ◌&&◌, List, ℕ, ◌≤◌, T, ℤ,
 use Rattle.std.specs.Int.Signed.{le_z}
 use Rattle.timing.specs.Limits.{max_vertices, delay_limit, fits}
 use Rattle.timing.specs.Refusal.{accepted}
-use Rattle.timing.specs.Checks.{passes}
+use Rattle.timing.specs.Checks.{passes, BoardSizes}
 use Rattle.format.specs.Library.{InForce}
 use Rattle.format.specs.Records.{cell_delay}
 use Rattle.format.specs.LibraryFile.{library_call, library_read}
-use Rattle.format.specs.Reading.{got, BoardSizes, board_records, file_loads, file_graph, read_call, table_read}
+use Rattle.format.specs.Reading.{got, board_records, file_loads, file_graph, read_call, table_read}
 
 -- the most that a cell takes: 1,000,000 × 95 / 5 ticks
 abbrev pub most_delay : ℕ

@@ -6,7 +6,7 @@ use Rattle.timing.specs.declared.Refusal.{Refusal}
 use Rattle.timing.specs.declared.Refusal.TheVariants.{FileEnds, WrongMark, NotRising, WrongCount, FileGoesOn, WrongLibrary}
 use Rattle.timing.specs.Refusal.{number, Verdict, refused, accepted, ◌then◌}
 use Rattle.timing.specs.Table.{with_graph}
-use Rattle.timing.specs.Checks.{memory_checked, arcs_checked}
+use Rattle.timing.specs.Checks.{memory_checked, arcs_checked, BoardSizes, sizes}
 use Rattle.format.specs.declared.Mark.{Mark}
 use Rattle.format.specs.declared.Mark.TheVariants as M
 use Rattle.format.specs.declared.Record.{Record}
@@ -32,14 +32,6 @@ got a next f = f a
 abbrev pub placed : {A : Type 0} → ℕ → Verdict A → Reading A
 placed p (refused r) = stopped r p
 placed p (accepted a) = got a
-
-pub record BoardSizes : Type 0 where
-  pub inputs : ℕ
-  pub outputs : ℕ
-  pub vertices : ℕ
-
-abbrev pub sizes : ℕ → ℕ → ℕ → BoardSizes
-sizes m n N = record { inputs = m; outputs = n; vertices = N }
 
 -- ---- the library, the first record, and 1, 2, 3 right after its bytes
 

@@ -2,8 +2,9 @@
 use Rattle.std.specs.Prelude.{◌≡◌, List, ℕ, ◌*◌, ◌≤◌, ◌<◌, ℤ, pos, length, get_or, take}
 use Rattle.timing.specs.Limits.{scratch_cells}
 use Rattle.timing.specs.Refusal.{accepted}
+use Rattle.timing.specs.Checks.{sizes}
 use Rattle.format.specs.Library.{InForce}
-use Rattle.format.specs.Reading.{got, sizes, read_call, table_read}
+use Rattle.format.specs.Reading.{got, read_call, table_read}
 use Rattle.format.specs.Writing.{Written, write_call}
 
 -- a file is read under library l into table t', with k cells of scratch: accepted, with these sizes; the first N × N cells are those of t, each later one is as it was

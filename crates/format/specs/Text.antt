@@ -7,9 +7,10 @@ use Rattle.timing.specs.Refusal.{Verdict, refused, accepted}
 use Rattle.timing.specs.Table.{graph_of}
 use Rattle.reduction.specs.Outcome.{Reduced}
 use Rattle.reduction.specs.Run.{run_call}
+use Rattle.timing.specs.Checks.{BoardSizes}
 use Rattle.format.specs.Library.{built_in}
 use Rattle.format.specs.Arcs.{Arc, arcs_of}
-use Rattle.format.specs.Reading.{Reading, stopped, got, BoardSizes, read_call, table_read}
+use Rattle.format.specs.Reading.{Reading, stopped, got, read_call, table_read}
 
 -- ---- numbers
 

@@ -7,5 +7,6 @@ use timing::{Refusal, numbers};
 pub fn refused(refusal: Refusal) -> i64
     ensures { result ≡ neg_ℤ (pos (number refusal)) }
 {
-    0 - (numbers::number(refusal) as i64)
+    // It is below 24: a `try_from` would want an answer where it does not fit.
+    -(numbers::number(refusal) as i64)
 }

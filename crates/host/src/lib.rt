@@ -10,7 +10,7 @@ ghost use Rattle.std.specs.Prelude.{◌≡◌};
 ghost use Rattle.reduction.specs.Steps.{shrink, prune};
 ghost use Rattle.host.specs.Answers.{matrix_answer, matrix_bytes, matrix_over, step_answer, table_bytes, step_over};
 
-use steps::step::Step;
+use steps::step::{Prune, Shrink};
 
 // The delay matrix. Answers 0, or minus the refusal's number.
 #[unsafe(no_mangle)]
@@ -43,7 +43,7 @@ pub extern "C" fn board_shrink(
     ensures table_after { table.new ≡ table_bytes (step_over inputs outputs vertices (shrink k) table.old scratch.old) table.old }
     ensures scratch_after { scratch.new ≡ scratch.old }
 {
-    reduce::reduce(inputs, outputs, vertices, table, scratch, Step::Shrink(k))
+    reduce::reduce(inputs, outputs, vertices, table, scratch, &Shrink { k })
 }
 
 // Drops the arcs that decide no delay. Answers the arcs left, or minus the refusal's number.
@@ -59,5 +59,5 @@ pub extern "C" fn board_prune(
     ensures table_after { table.new ≡ table_bytes (step_over inputs outputs vertices prune table.old scratch.old) table.old }
     ensures scratch_after { scratch.new ≡ scratch.old }
 {
-    reduce::reduce(inputs, outputs, vertices, table, scratch, Step::Prune)
+    reduce::reduce(inputs, outputs, vertices, table, scratch, &Prune)
 }

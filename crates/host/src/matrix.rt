@@ -5,7 +5,7 @@ ghost use Rattle.host.specs.Shown.{shown, pairs_shown};
 ghost use Rattle.host.specs.Answers.{matrix_answer, matrix_bytes, matrix_with, matrix_over};
 
 use crate::{answers, runs};
-use paths::{queries, room};
+use paths::{Board, queries};
 
 // What an accepted call answers.
 const DONE: i64 = 0;
@@ -51,9 +51,9 @@ pub fn matrix(
     let count = runs::shown(vertices, vertices, table.len() / 4);
     let room = runs::shown(vertices, vertices, scratch.len() / 8);
     let pairs = runs::pairs_shown(inputs, outputs, matrix.len() / 8);
-    let mut cells = room::cells();
-    let mut wide = room::wide_cells();
-    let mut delays = runs::pair_cells();
+    let mut cells = [0; Board::MAX_CELLS];
+    let mut wide = [0; Board::MAX_CELLS];
+    let mut delays = [0; Board::MAX_PAIRS];
     matrix_in(
         inputs,
         outputs,

@@ -36,19 +36,13 @@ pub fn pairs_shown(inputs: usize, outputs: usize, cells: usize) -> usize
     all
 }
 
-// Room for a matrix's cells.
-pub fn pair_cells() -> [i64; Board::MAX_PAIRS]
-    ensures { length result ≡ most_pairs }
-{
-    [0i64; Board::MAX_PAIRS]
-}
-
 // Cell x of a table.
 fn cell_at(bytes: &[u8], x: usize) -> i32
     requires { 4 * x + 4 ≤ length bytes.now }
     ensures { result ≡ run_cell 4 bytes.now x }
 {
-    signed::decode(bytes, 4 * x, 4) as i32
+    // Four bytes hold no more than an i32: a `try_from` would want an answer where it does not fit.
+    signed::decode(&bytes[4 * x..4 * x + 4]) as i32
 }
 
 // The first cells of a table.
@@ -61,13 +55,13 @@ pub fn take_table(bytes: &[u8], cells: &mut [i32])
     }
 }
 
-// The first cells of a table, put back.
+// The first cells of a table, put back. Not one generic function with `put_matrix`: a cell's width and its value would be a trait with a law, longer than the loop.
 pub fn put_table(bytes: &mut [u8], cells: &[i32])
     requires { 4 * length cells.now ≤ length bytes.old }
     ensures { bytes.new ≡ with_cells 4 cells.now bytes.old }
 {
     for (x, &cell) in cells.iter().enumerate() {
-        signed::encode(bytes, 4 * x, 4, cells::wide(cell));
+        signed::encode(&mut bytes[4 * x..4 * x + 4], cells::wide(cell));
     }
 }
 
@@ -77,6 +71,6 @@ pub fn put_matrix(bytes: &mut [u8], cells: &[i64])
     ensures { bytes.new ≡ with_cells 8 cells.now bytes.old }
 {
     for (x, &cell) in cells.iter().enumerate() {
-        signed::encode(bytes, 8 * x, 8, cell);
+        signed::encode(&mut bytes[8 * x..8 * x + 8], cell);
     }
 }

@@ -1,5 +1,5 @@
 -- What a measured call answers: 0, or document 01's number.
-use Rattle.std.specs.Prelude.{◌≡◌, List, ℕ, ℤ}
+use Rattle.std.specs.Prelude.{◌≡◌, ℕ}
 use Rattle.timing.specs.Refusal.{Verdict, refused, accepted, left_by}
 use Rattle.timing.specs.Margins.{Times}
 use Rattle.format.specs.Reading.{Reading, stopped, got}

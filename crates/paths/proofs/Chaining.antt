@@ -27,7 +27,7 @@ use Rattle.timing.proofs.Checks.{sound_inputs, sound_fits}
 use Rattle.paths.specs.declared.board.Board.{Board}
 use Rattle.paths.specs.Checked.{Checked}
 use Rattle.paths.specs.Cells.{cell_at, row_at}
-use Rattle.paths.specs.Order.{TopologicalOrder}
+use Rattle.paths.specs.Order.{TopologicalOrder, rank_of}
 use Rattle.paths.specs.Chain.{Chain, walked, walked_at, Beaten, Chained, chain_at, Chains, unbeaten, below, Near}
 use Rattle.paths.proofs.Rows.{lent, lent_cell, row_at_cell, length-row_at}
 use Rattle.paths.proofs.Walked.{unbeaten_no, unbeaten_yes, chain_same, walked_same, chained_same, walked-⊑, chained, unbeaten_none, unbeaten-or}
@@ -114,12 +114,12 @@ chained_by {b} {t} k u w l m C = chained C (unbeaten_none row next d 0 first) (�
     cell_is v h = row_at_cell n t u v l h
 
     first : row 0 ≡ absent
-    first = cell_is 0 (omega (arith, k.lent.sized)) ∙ sound_inputs k.sound u 0 k.lent.sized.some_inputs
+    first = cell_is 0 (omega (arith, b.sized)) ∙ sound_inputs k.sound u 0 b.sized.some_inputs
 
 -- a row of a checked table
 pub row_near : {b : Board} {t : List ℤ} → Checked b t → (u : ℕ) → u < b.vertices → Near b.vertices (row_at b.vertices u t)
 row_near {b} {t} k u l = record {
-  room = omega (arith, length-row_at b.vertices t u k.lent.room l);
+  room = omega (arith, length-row_at b.vertices t u k.lent l);
   near = λ v h. subst (λ (d : Delay). T (fits delay_limit d)) (sym (row_at_cell b.vertices t u v l h)) (sound_fits k.sound u v);
 }
 
@@ -169,7 +169,7 @@ module _ {n : ℕ} {t : List ℤ} {o c₀ c : List ℕ} {w : ℕ} (p : ℕ) (s :
 
       go : (q : ℕ) → p ≤ q → q < n → Dec (q ≡ p) → Chained n (graph_of n t) (get_or o q 0) (chain_at n (put_mid (n * u) (n * u + n - n * u) c ys) (get_or o q 0))
       go q h l (yes e) = rw e (chained_same (λ v m. sym (put_in (n * u) (n * u + n) c ys 0 (omega arith) inside sized v (omega arith))) C)
-      go q h l (no ne) = chained_same (others (get_or o q 0) (λ e. ne (sym (s.vertex q l).1 ∙ ap s.rank e ∙ (s.vertex p p_in).1))) (R.done q (omega arith) l)
+      go q h l (no ne) = chained_same (others (get_or o q 0) (λ e. ne (sym (s.vertex q l).1 ∙ ap (rank_of n o) e ∙ (s.vertex p p_in).1))) (R.done q (omega arith) l)
 
 -- a turn of the loop over the order backwards
 pub rows_back : {n : ℕ} {t : List ℤ} {o c₀ c : List ℕ} {w p : ℕ} → TopologicalOrder n (graph_of n t) o → n * n ≤ length c₀ → Rows n t o c₀ c w p → 0 < p → (u : ℕ) → u ≡ get_or o (p - 1) 0
@@ -243,11 +243,11 @@ pub walked_in_within : (n : ℕ) (t : List ℤ) (c : List ℕ) → Within n (wal
 walked_in_within n t c = record { in_range = λ u v h. (graph_of_within n t).in_range u v (present-⊑ (walked_in_⊑ n t c u v) h) }
 
 pub walked_in_order : {n : ℕ} (t : List ℤ) {o : List ℕ} (c : List ℕ) → TopologicalOrder n (graph_of n t) o → TopologicalOrder n (walked_in n t c) o
-walked_in_order {n} t c s = record { rank = s.rank; place = s.place; vertex = s.vertex; rise = λ u v h. s.rise u v (present-⊑ (walked_in_⊑ n t c u v) h) }
+walked_in_order {n} t c s = record { place = s.place; vertex = s.vertex; rise = λ u v h. s.rise u v (present-⊑ (walked_in_⊑ n t c u v) h) }
 
-pub walked_in_or : {n : ℕ} {t : List ℤ} {c : List ℕ} → Chains n t c → (u v : ℕ) → (walked_in n t c u v ≡ graph_of n t u v) ⊎ Beaten (graph_of n t) u v
+pub walked_in_or : {n : ℕ} {t : List ℤ} {c : List ℕ} → Chains n t c → (u v : ℕ) → ∥ (walked_in n t c u v ≡ graph_of n t u v) ⊎ Beaten (graph_of n t) u v ∥₁
 walked_in_or {n} {t} {c} C u v = go (absent_or (graph_of n t u v))
   where
-    go : (graph_of n t u v ≡ absent) ⊎ T (present (graph_of n t u v)) → (walked_in n t c u v ≡ graph_of n t u v) ⊎ Beaten (graph_of n t) u v
-    go (inl e) = inl (⊑-absent (⊑_trans (walked_in_⊑ n t c u v) (⊑-eq e)) ∙ sym e)
+    go : (graph_of n t u v ≡ absent) ⊎ T (present (graph_of n t u v)) → ∥ (walked_in n t c u v ≡ graph_of n t u v) ⊎ Beaten (graph_of n t) u v ∥₁
+    go (inl e) = ∣ inl (⊑-absent (⊑_trans (walked_in_⊑ n t c u v) (⊑-eq e)) ∙ sym e) ∣₁
     go (inr h) = let l = (graph_of_within n t).in_range u v h in (C.row u l.0).rest v l.1

@@ -9,16 +9,15 @@ use lib.IntN.{ℤ, pos}
 use lib.ListN.{length, get_or, set, take, drop, length-set, length-take, length-drop}
 use lib.Seq.{ext_get_or, get_or-drop, get_or-set_same, get_or-set_other}
 use borrow.Rule.Slice.PartMut.{put_mid, same_len_mid}
+use Rattle.std.proofs.lemmas.List.{get_or_past}
 use Rattle.laws.proofs.Grid.{row_of, row_cell}
 use Rattle.laws.proofs.LentParts.{put_before, put_after, put_in}
-use Rattle.paths.specs.Arrivals.{lane, EachLane}
+use Rattle.paths.specs.Arrivals.{lane}
 
-pub each : (P : ℕ → Type 0) → P 0 → P 1 → P 2 → P 3 → EachLane P
-each P a b c d zero h = a
-each P a b c d (suc zero) h = b
-each P a b c d (suc (suc zero)) h = c
-each P a b c d (suc (suc (suc zero))) h = d
-each P a b c d (suc (suc (suc (suc l)))) h = absurd (omega arith)
+-- of one lane
+pub alone : (P : ℕ → Type 0) → P 0 → (l : ℕ) → l < 1 → P l
+alone P a zero h = a
+alone P a (suc l) h = absurd (omega arith)
 
 -- a lane lies within m lanes
 pub lane_room : (n l m : ℕ) (f : List ℤ) → l < m → n * m ≤ length f → n * l + n ≤ length f
@@ -29,6 +28,9 @@ lane-length n l f room = simp (length-take, length-drop) (omega arith)
 
 pub lane_cell : (n l : ℕ) (f : List ℤ) (v : ℕ) → v < n → get_or (lane n l f) v (pos 0) ≡ get_or f (n * l + v) (pos 0)
 lane_cell n l f v h = row_cell f (n * l) n v (pos 0) h
+
+pub lane_out : (n l : ℕ) (f : List ℤ) (v : ℕ) → n ≤ v → get_or (lane n l f) v (pos 0) ≡ pos 0
+lane_out n l f v h = get_or_past (lane n l f) v (pos 0) (omega (arith, length-take n (drop (n * l) f)))
 
 -- lent as `&f[at..end]`
 pub lane_lent : (n l : ℕ) (f : List ℤ) → take (n * l + n - n * l) (drop (n * l) f) ≡ lane n l f

@@ -1,4 +1,5 @@
 pub mod Sizes
+pub mod Tables
 pub mod Rows
 pub mod Walked
 pub mod Chaining
@@ -23,3 +24,4 @@ pub mod MarginTimes
 pub mod PathDelays
 pub mod WalkBounds
 pub mod Scanning
+pub mod Alone

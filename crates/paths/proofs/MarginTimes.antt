@@ -30,8 +30,8 @@ use Rattle.timing.proofs.Recursion.{required_propagated}
 use Rattle.timing.proofs.Margins.{arrival_span, mirrored_span, required_span}
 use Rattle.paths.specs.declared.board.Board.{Board}
 use Rattle.paths.specs.Board.{graph_in}
-use Rattle.paths.specs.Checked.{Checked, Passable}
-use Rattle.paths.specs.Arrivals.{inside_limit, reached_limit, stored, filled, from_list, times_at, arrivals_from, Started, Given}
+use Rattle.paths.specs.Checked.{Checked}
+use Rattle.paths.specs.Arrivals.{inside_limit, reached_limit, stored, filled, from_list, times_at, arrivals_from, Starts, Given}
 use Rattle.paths.specs.Queries.{Fills}
 use Rattle.paths.specs.Margins.{InReach, own_from, required_from, lists, lists_fit, margins_on}
 use Rattle.paths.proofs.Starting.{stored-length, stored_cell}
@@ -75,7 +75,7 @@ module _ {b : Board} {t : List ℤ} (k : Checked b t) where
   g = graph_of N t
 
   most : inside_limit + N * delay_limit ≤ reached_limit
-  most = omega (arith, k.lent.sized.few)
+  most = omega (arith, b.sized.few)
 
   -- ---- required times
 
@@ -94,8 +94,8 @@ module _ {b : Board} {t : List ℤ} (k : Checked b t) where
     own_read : (v : ℕ) → v < N → arrival_in f₁ v ≡ mirror (own_time m n R v)
     own_read = read_filled N inside_limit (λ v. mirror (own_time m n R v)) (λ v _. own_span v) (omega arith) f room
 
-    pub outputs_started : {o : List ℕ} → Passable b t o → Started b t o f₁
-    outputs_started p = record { passable = p; room = omega (arith, stored-length N (own_from b r) f room); near = λ v h. subst (λ (d : Delay). T (fits inside_limit d)) (sym (own_read v h)) (span_fits inside_limit (mirror (own_time m n R v)) (own_span v)) }
+    pub outputs_started : Starts b.vertices f₁
+    outputs_started = record { room = omega (arith, stored-length N (own_from b r) f room); near = λ v h. subst (λ (d : Delay). T (fits inside_limit d)) (sym (own_read v h)) (span_fits inside_limit (mirror (own_time m n R v)) (own_span v)) }
 
     -- as the code makes it: the times in their place, and then their mirror images
     abbrev placed : List ℤ

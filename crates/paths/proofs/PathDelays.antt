@@ -37,7 +37,7 @@ module _ {b : Board} {t : List ℤ} {o : List ℕ} (p : Passable b t o) (i : ℕ
   -- at most 90 arcs of at most 1,000,000,000
   pub walk_near : (v : ℕ) → v < b.vertices → T (fits arrival_limit (walk (longest (graph_of b.vertices t) b.vertices) i v))
   walk_near v hv = span_fits arrival_limit (walk (longest g n) i v) (walk_elim (longest g n) i v (InSpan arrival_limit) (λ _. (omega arith, omega arith))
-      (λ _. span_le (n * delay_limit) arrival_limit (longest g n i v) (omega (arith, p.checked.lent.sized.few))
+      (λ _. span_le (n * delay_limit) arrival_limit (longest g n i v) (omega (arith, b.sized.few))
       (longest_span n (sound_within p.checked.sound) p.checked.sound.acyclic delay_limit (λ u v. fits_span delay_limit (g u v) (sound_fits p.checked.sound u v)) i v)))
 
   -- f is what `delays_from` leaves of f₀

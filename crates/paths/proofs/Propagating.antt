@@ -27,7 +27,7 @@ use Rattle.timing.proofs.Checks.{sound_fits}
 use Rattle.paths.specs.declared.board.Board.{Board}
 use Rattle.paths.specs.Cells.{row_at}
 use Rattle.paths.specs.Chain.{chain_at, walked_at, Chains}
-use Rattle.paths.specs.Arrivals.{inside_limit, reached_limit, filled, Started, Reached, Pushable, Pushed}
+use Rattle.paths.specs.Arrivals.{inside_limit, reached_limit, filled, Starts, Reached, Pushable, Pushed}
 use Rattle.paths.specs.Checked.{Passable}
 use Rattle.paths.proofs.Rows.{lent, lent_cell, lent_long, row_at_cell, length-row_at}
 use Rattle.paths.proofs.Sorting.{order_ranked}
@@ -56,23 +56,23 @@ filled_is n h f₀ f room size cells rest = ext_get_or (pos 0) f (filled n h f�
         ∙ ap (λ (x : ℕ). get_or (tabulate n c ++ drop n f₀) (x + (i - n)) (pos 0)) (length-tabulate c n) ∙ ap (λ (x : ℕ). get_or (tabulate n c ++ drop n f₀) x (pos 0)) e
 
 -- a vertex's row and chain, lent as parts
-pub pushable : {b : Board} {t : List ℤ} {o c : List ℕ} (P : Passable b t o) (C : Chains b.vertices t c) (u : ℕ) (l : u < b.vertices) (f : List ℤ) → b.vertices ≤ length f → Pushable b.vertices (lent b.vertices t u P.checked.lent.room l) (lent_chain C u P.checked.lent.room l) f
+pub pushable : {b : Board} {t : List ℤ} {o c : List ℕ} (P : Passable b t o) (C : Chains b.vertices t c) (u : ℕ) (l : u < b.vertices) (f : List ℤ) → b.vertices ≤ length f → Pushable b.vertices (lent b.vertices t u P.checked.lent l) (lent_chain C u P.checked.lent l) f
 pushable {b} {t} P C u l f h = record {
-  some = omega (arith, P.checked.lent.sized);
-  few = P.checked.lent.sized.few;
-  row_room = lent_long b.vertices t u P.checked.lent.room l;
-  chain_room = chain_long C u P.checked.lent.room l;
+  some = omega (arith, b.sized);
+  few = b.sized.few;
+  row_room = lent_long b.vertices t u P.checked.lent l;
+  chain_room = chain_long C u P.checked.lent l;
   room = h;
-  near = λ v k. subst (λ (d : Delay). T (fits delay_limit d)) (sym (lent_cell b.vertices t u P.checked.lent.room l v k)) (sound_fits P.checked.sound u v);
-  chain = chain_lent C u P.checked.lent.room l;
+  near = λ v k. subst (λ (d : Delay). T (fits delay_limit d)) (sym (lent_cell b.vertices t u P.checked.lent l v k)) (sound_fits P.checked.sound u v);
+  chain = chain_lent C u P.checked.lent l;
 }
 
 -- the same, of rows of N cells: r and k are the table's and the chains'
 pub pushable_row : {b : Board} {t : List ℤ} {o c : List ℕ} → Passable b t o → Chains b.vertices t c → (u : ℕ) → u < b.vertices → (f : List ℤ) → b.vertices ≤ length f
     → (r : List ℤ) (k : List ℕ) → r ≡ row_at b.vertices u t → k ≡ row_at b.vertices u c → Pushable (length r) r k f
 pushable_row {b} {t} {o} {c} P C u l f h r k er ek = transport (λ i. Pushable (sym m i) (sym er i) (sym ek i) f) (record {
-  some = omega (arith, P.checked.lent.sized);
-  few = P.checked.lent.sized.few;
+  some = omega (arith, b.sized);
+  few = b.sized.few;
   row_room = omega (arith, long);
   chain_room = omega (arith, length-row_at b.vertices c u C.room l);
   room = h;
@@ -81,7 +81,7 @@ pushable_row {b} {t} {o} {c} P C u l f h r k er ek = transport (λ i. Pushable (
 })
   where
     long : length (row_at b.vertices u t) ≡ b.vertices
-    long = length-row_at b.vertices t u P.checked.lent.room l
+    long = length-row_at b.vertices t u P.checked.lent l
 
     m : length r ≡ b.vertices
     m = ap length er ∙ long
@@ -104,7 +104,7 @@ pub going_start : (n : ℕ) (t : List ℤ) (o c : List ℕ) (f : List ℤ) → G
 unfolding pushed
 going_start n t o c f = record { upto = omega arith; size = refl; cells = λ v h. refl; rest = λ v h. refl }
 
-module _ {b : Board} {t : List ℤ} {o c : List ℕ} {f₀ f : List ℤ} {p : ℕ} (R : Started b t o f₀) (C : Chains b.vertices t c) (G : Going b.vertices t o c f₀ f p) where
+module _ {b : Board} {t : List ℤ} {o c : List ℕ} {f₀ f : List ℤ} {p : ℕ} (P : Passable b t o) (R : Starts b.vertices f₀) (C : Chains b.vertices t c) (G : Going b.vertices t o c f₀ f p) where
   abbrev n : ℕ
   n = b.vertices
 
@@ -119,15 +119,15 @@ module _ {b : Board} {t : List ℤ} {o c : List ℕ} {f₀ f : List ℤ} {p : �
     x = get_or o p 0
 
     pub x_in : x < n
-    x_in = (R.passable.order.vertex p h).0
+    x_in = (P.order.vertex p h).0
 
     pub near : T (fits reached_limit (arrival_in f x))
     near = subst (λ (d : Delay). T (fits reached_limit d)) (sym (G.cells x x_in))
-        (span_fits reached_limit (pushed k o F p x) (span_le (inside_limit + p * delay_limit) reached_limit (pushed k o F p x) (omega (arith, R.passable.checked.lent.sized.few))
-        (pushed_span (walked_in_within n t c) (walked_in_order t c R.passable.order) F inside_limit delay_limit (λ v l. fits_span inside_limit (F v) (R.near v l)) arcs p x (omega arith) x_in)))
+        (span_fits reached_limit (pushed k o F p x) (span_le (inside_limit + p * delay_limit) reached_limit (pushed k o F p x) (omega (arith, b.sized.few))
+        (pushed_span (walked_in_within n t c) (walked_in_order t c P.order) F inside_limit delay_limit (λ v l. fits_span inside_limit (F v) (R.near v l)) arcs p x (omega arith) x_in)))
       where
         arcs : (u v : ℕ) → InSpan delay_limit (k u v)
-        arcs u v = walked_span delay_limit (chain_at n c u) (graph_of n t u) v (fits_span delay_limit (graph_of n t u v) (sound_fits R.passable.checked.sound u v))
+        arcs u v = walked_span delay_limit (chain_at n c u) (graph_of n t u) v (fits_span delay_limit (graph_of n t u v) (sound_fits P.checked.sound u v))
 
     pub onward_row : (f' : List ℤ) → length f' ≡ length f → (u : ℕ) (r : List ℤ) (s : List ℕ) → u ≡ get_or o p 0 → r ≡ row_at b.vertices u t → s ≡ row_at b.vertices u c → Pushed (length r) r s (get_or f u (pos 0)) f f' → Going b.vertices t o c f₀ f' (p + 1)
     unfolding pushed
@@ -145,7 +145,7 @@ module _ {b : Board} {t : List ℤ} {o c : List ℕ} {f₀ f : List ℤ} {p : �
         es' = es ∙ ap (λ (y : ℕ). row_at n y c) eu
 
         long : length r ≡ n
-        long = ap length er' ∙ length-row_at n t x R.passable.checked.lent.room x_in
+        long = ap length er' ∙ length-row_at n t x P.checked.lent x_in
 
         pushed_here : Pushed n (row_at n x t) (row_at n x c) (get_or f x (pos 0)) f f'
         pushed_here = transport (λ i. Pushed (long i) (er' i) (es' i) (get_or f (eu i) (pos 0)) f f') q
@@ -155,7 +155,7 @@ module _ {b : Board} {t : List ℤ} {o c : List ℕ} {f₀ f : List ℤ} {p : �
       (λ v l. G.cells v l ∙ ap (λ (q : ℕ). pushed k o F q v) e ∙ settled_is (graph_of_within n t) ranked settled v) G.rest
     where
       ranked : Ranked (graph_of n t)
-      ranked = order_ranked R.passable.order
+      ranked = order_ranked P.order
 
       settled : Settled (graph_of n t) F (pushed k o F n)
-      settled = settled_with ranked (walked_in_⊑ n t c) (walked_in_or C) (pushed_settled (walked_in_within n t c) (walked_in_order t c R.passable.order) F)
+      settled = settled_with ranked (walked_in_⊑ n t c) (walked_in_or C) (pushed_settled (walked_in_within n t c) (walked_in_order t c P.order) F)

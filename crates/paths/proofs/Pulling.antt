@@ -1,5 +1,6 @@
 -- A turn of `pull` and of `propagate_back`, and their ends. When the vertices from place p of the order on have pulled, each of them holds the latest of what
 -- starts there and what its arcs bring; at the end that is `propagated` in the reversed graph.
+use Rattle.std.proofs.Math.Logic.{∥∥₁_map}
 use mathlib.Core.Path.{◌≡◌, sym, ap, ap₂, ◌∙◌, subst, transport}
 use mathlib.Core.Logic.{◌≢◌, ◌⊎◌, inl, inr}
 use mathlib.Core.List.{List}
@@ -26,14 +27,16 @@ use Rattle.timing.proofs.Limits.{fits_span, span_fits}
 use Rattle.timing.proofs.Table.{graph_of_within}
 use Rattle.timing.proofs.Checks.{sound_fits}
 use Rattle.paths.specs.declared.board.Board.{Board}
+use Rattle.paths.specs.Checked.{Passable}
 use Rattle.paths.specs.Chain.{Chain, Beaten, chain_at, Chains}
-use Rattle.paths.specs.Arrivals.{inside_limit, reached_limit, filled, Started}
+use Rattle.paths.specs.Arrivals.{inside_limit, reached_limit, filled, Starts}
 use Rattle.paths.specs.Margins.{InReach, Pulled}
 use Rattle.paths.specs.Cells.{row_at}
 use Rattle.paths.proofs.Rows.{length-row_at}
 use Rattle.paths.proofs.Walked.{walked_span, settled_with}
 use Rattle.paths.proofs.Chaining.{walked_row, walked_in, walked_in_⊑, walked_in_within, walked_in_or}
 use Rattle.paths.proofs.Propagating.{filled_is}
+use Rattle.paths.specs.Order.{rank_of}
 
 -- ---- along one row: what the arcs before v bring is in, and v is an arc or the end
 pub record Gathered (n : ℕ) (row : ℕ → Delay) (start : Delay) (f : ℕ → Delay) (best : Delay) (v : ℕ) : Type 0 where
@@ -64,7 +67,7 @@ pub record Pulling (n : ℕ) (t : List ℤ) (o c : List ℕ) (f₀ f : List ℤ)
   pub rest : (v : ℕ) → n ≤ v → get_or f v (pos 0) ≡ get_or f₀ v (pos 0)
   pub span : (v : ℕ) → v < n → InSpan (inside_limit + (n - p) * delay_limit) (arrival_in f v)
 
-module _ {b : Board} {t : List ℤ} {o c : List ℕ} {f₀ : List ℤ} (R : Started b t o f₀) (C : Chains b.vertices t c) where
+module _ {b : Board} {t : List ℤ} {o c : List ℕ} {f₀ : List ℤ} (P : Passable b t o) (R : Starts b.vertices f₀) (C : Chains b.vertices t c) where
   abbrev n : ℕ
   n = b.vertices
 
@@ -75,14 +78,14 @@ module _ {b : Board} {t : List ℤ} {o c : List ℕ} {f₀ : List ℤ} (R : Star
   k = walked_in n t c
 
   abbrev rank : ℕ → ℕ
-  rank = R.passable.order.rank
+  rank = rank_of n o
 
   low : (v : ℕ) → v < n → rank v < n
-  low v h = (R.passable.order.place v h).0
+  low v h = (P.order.place v h).0
 
   -- along an arc, walked or not
   rise : (u v : ℕ) → T (present (graph_of n t u v)) → rank u < rank v
-  rise = R.passable.order.rise
+  rise = P.order.rise
 
   rise_walked : (u v : ℕ) → T (present (k u v)) → rank u < rank v
   rise_walked u v h = rise u v (present-⊑ (walked_in_⊑ n t c u v) h)
@@ -100,7 +103,7 @@ module _ {b : Board} {t : List ℤ} {o c : List ℕ} {f₀ : List ℤ} (R : Star
   -- signals that settle on the walked arcs, backwards, settle on all of them
   walked_all : (v : ℕ) → propagated n (reversed k) F v ≡ propagated n (reversed (graph_of n t)) F v
   walked_all = settled_is (within_reversed (graph_of_within n t)) ranked_back
-      (settled_with ranked_back (λ u v. walked_in_⊑ n t c v u) (λ u v. beaten_back u v (walked_in_or C v u)) (propagated-settled (within_reversed (walked_in_within n t c)) (ranked_acyclic ranked_walked) F))
+      (settled_with ranked_back (λ u v. walked_in_⊑ n t c v u) (λ u v. ∥∥₁_map (walked_in_or C v u) (beaten_back u v)) (propagated-settled (within_reversed (walked_in_within n t c)) (ranked_acyclic ranked_walked) F))
 
   module _ {f : List ℤ} (p : ℕ) (G : Pulling b.vertices t o c f₀ f (p + 1)) where
     abbrev x : ℕ
@@ -110,12 +113,12 @@ module _ {b : Board} {t : List ℤ} {o c : List ℕ} {f₀ : List ℤ} (R : Star
     p_in = omega (arith, G.upto)
 
     pub x_in : get_or o p 0 < b.vertices
-    x_in = (R.passable.order.vertex p p_in).0
+    x_in = (P.order.vertex p p_in).0
 
     pub in_reach : InReach b.vertices f
     in_reach = record {
       room = omega (arith, G.size, R.room);
-      near = λ v h. span_fits reached_limit (arrival_in f v) (span_le (inside_limit + (n - (p + 1)) * delay_limit) reached_limit (arrival_in f v) (omega (arith, R.passable.checked.lent.sized.few)) (G.span v h));
+      near = λ v h. span_fits reached_limit (arrival_in f v) (span_le (inside_limit + (n - (p + 1)) * delay_limit) reached_limit (arrival_in f v) (omega (arith, b.sized.few)) (G.span v h));
     }
 
     module _ (r : ℤ) (q : Pulled b.vertices (row_at b.vertices (get_or o p 0) t) (row_at b.vertices (get_or o p 0) c) (get_or f (get_or o p 0) (pos 0)) f r) where
@@ -129,7 +132,7 @@ module _ {b : Board} {t : List ℤ} {o c : List ℕ} {f₀ : List ℤ} (R : Star
       other v ne = ap (read_cell absent_wide) (get_or-set_other f x v r (pos 0) ne)
 
       at_place : (q : ℕ) → q < n → rank (get_or o q 0) ≡ q
-      at_place q l = (R.passable.order.vertex q l).1
+      at_place q l = (P.order.vertex q l).1
 
       apart : (q : ℕ) → q < n → q ≢ p → get_or o q 0 ≢ x
       apart q l ne e = ne (sym (at_place q l) ∙ ap rank e ∙ at_place p p_in)
@@ -155,7 +158,7 @@ module _ {b : Board} {t : List ℤ} {o c : List ℕ} {f₀ : List ℤ} (R : Star
           go (inr (u, l, e)) =
               let w : n - p ≡ n - (p + 1) + 1 = omega (arith, p_in) in
               subst (InSpan (inside_limit + (n - p) * delay_limit)) (sym e) (span_le (inside_limit + (n - (p + 1)) * delay_limit + delay_limit) (inside_limit + (n - p) * delay_limit) (arrival_in f u ⊕ k x u) (omega arith)
-              (span_⊕ (inside_limit + (n - (p + 1)) * delay_limit) delay_limit (arrival_in f u) (k x u) (G.span u l) (walked_span delay_limit (chain_at n c x) (graph_of n t x) u (fits_span delay_limit (graph_of n t x u) (sound_fits R.passable.checked.sound x u)))))
+              (span_⊕ (inside_limit + (n - (p + 1)) * delay_limit) delay_limit (arrival_in f u) (k x u) (G.span u l) (walked_span delay_limit (chain_at n c x) (graph_of n t x) u (fits_span delay_limit (graph_of n t x u) (sound_fits P.checked.sound x u)))))
 
       pub pulling_turn : Pulling b.vertices t o c f₀ (set f (get_or o p 0) r) p
       pulling_turn = record {
@@ -186,21 +189,21 @@ module _ {b : Board} {t : List ℤ} {o c : List ℕ} {f₀ : List ℤ} (R : Star
       (λ v h. equation_is (within_reversed (walked_in_within n t c)) ranked_walked F (arrival_in f) each v h ∙ walked_all v) G.rest
     where
       each : (v : ℕ) → v < n → arrival_in f v ≡ F v ⋓ greatest n (λ u. arrival_in f u ⊕ k v u)
-      each v h = subst (λ (z : ℕ). arrival_in f z ≡ F z ⋓ greatest n (λ u. arrival_in f u ⊕ k z u)) (R.passable.order.place v h).1 (G.done (rank v) (omega arith) (low v h))
+      each v h = subst (λ (z : ℕ). arrival_in f z ≡ F z ⋓ greatest n (λ u. arrival_in f u ⊕ k z u)) (P.order.place v h).1 (G.done (rank v) (omega arith) (low v h))
 
 -- a turn of the loop over the order backwards, by rows of N cells: r and s are the table's and the chains'
-module _ {b : Board} {t : List ℤ} {o c : List ℕ} {f₀ f : List ℤ} {p : ℕ} (R : Started b t o f₀) (C : Chains b.vertices t c) (G : Pulling b.vertices t o c f₀ f p) (some : 0 < p) where
+module _ {b : Board} {t : List ℤ} {o c : List ℕ} {f₀ f : List ℤ} {p : ℕ} (P : Passable b t o) (R : Starts b.vertices f₀) (C : Chains b.vertices t c) (G : Pulling b.vertices t o c f₀ f p) (some : 0 < p) where
   going : Pulling b.vertices t o c f₀ f (p - 1 + 1)
   going = let e : p ≡ p - 1 + 1 = omega arith in subst (λ (k : ℕ). Pulling b.vertices t o c f₀ f k) e G
 
   pub pull_reach : InReach b.vertices f
-  pull_reach = in_reach R C (p - 1) going
+  pull_reach = in_reach P R C (p - 1) going
 
   pub pull_vertex : get_or o (p - 1) 0 < b.vertices
-  pull_vertex = x_in R C (p - 1) going
+  pull_vertex = x_in P R C (p - 1) going
 
   pub pull_back : (u : ℕ) (r : List ℤ) (s : List ℕ) (z : ℤ) → u ≡ get_or o (p - 1) 0 → r ≡ row_at b.vertices u t → s ≡ row_at b.vertices u c → Pulled (length r) r s (get_or f u (pos 0)) f z → Pulling b.vertices t o c f₀ (set f u z) (p - 1)
-  pull_back u r s z eu er es q = subst (λ (y : ℕ). Pulling b.vertices t o c f₀ (set f y z) (p - 1)) (sym eu) (pulling_turn R C (p - 1) going z row_pulled)
+  pull_back u r s z eu er es q = subst (λ (y : ℕ). Pulling b.vertices t o c f₀ (set f y z) (p - 1)) (sym eu) (pulling_turn P R C (p - 1) going z row_pulled)
     where
       x : ℕ
       x = get_or o (p - 1) 0
@@ -212,7 +215,7 @@ module _ {b : Board} {t : List ℤ} {o c : List ℕ} {f₀ f : List ℤ} {p : �
       es' = es ∙ ap (λ (y : ℕ). row_at b.vertices y c) eu
 
       long : length r ≡ b.vertices
-      long = ap length er' ∙ length-row_at b.vertices t x R.passable.checked.lent.room pull_vertex
+      long = ap length er' ∙ length-row_at b.vertices t x P.checked.lent pull_vertex
 
       row_pulled : Pulled b.vertices (row_at b.vertices x t) (row_at b.vertices x c) (get_or f x (pos 0)) f z
       row_pulled = transport (λ i. Pulled (long i) (er' i) (es' i) (get_or f (eu i) (pos 0)) f z) q

@@ -15,7 +15,7 @@ use Rattle.graph.proofs.Presence.{absent_or}
 use Rattle.graph.proofs.Longest.{Within}
 use Rattle.graph.proofs.Span.{InSpan, span_⊕, span_le}
 use Rattle.graph.proofs.Propagation.{Settled}
-use Rattle.paths.specs.Order.{TopologicalOrder}
+use Rattle.paths.specs.Order.{TopologicalOrder, rank_of}
 
 unfoldable pub pushed : Graph → List ℕ → (ℕ → Delay) → ℕ → ℕ → Delay
 pushed g o F zero v = F v
@@ -37,7 +37,7 @@ module _ {n : ℕ} {g : Graph} {o : List ℕ} (w : Within n g) (s : TopologicalO
   -- the local equations, for the arcs of the vertices that have pushed
   record Pushing (G : ℕ → Delay) (p : ℕ) : Type 0 where
     start : (v : ℕ) → F v ⊑ G v
-    flow : (u v : ℕ) → s.rank u < p → G u ⊕ g u v ⊑ G v
+    flow : (u v : ℕ) → rank_of n o u < p → G u ⊕ g u v ⊑ G v
     last : (v : ℕ) → (G v ⊑ F v) ⊎ ((u : ℕ) × (G v ⊑ G u ⊕ g u v))
 
   module _ (G : ℕ → Delay) (p : ℕ) (k : p < n) (P : Pushing G p) where
@@ -48,7 +48,7 @@ module _ {n : ℕ} {g : Graph} {o : List ℕ} (w : Within n g) (s : TopologicalO
     new v = G v ⋓ (G x ⊕ g x v)
 
     -- x pushes nothing to itself or to an earlier vertex
-    same : (v : ℕ) → s.rank v ≤ p → new v ≡ G v
+    same : (v : ℕ) → rank_of n o v ≤ p → new v ≡ G v
     same v h = go (absent_or (g x v))
       where
         go : (g x v ≡ absent) ⊎ T (present (g x v)) → new v ≡ G v
@@ -58,7 +58,7 @@ module _ {n : ℕ} {g : Graph} {o : List ℕ} (w : Within n g) (s : TopologicalO
     push_step : Pushing new (suc p)
     push_step = record {
       start = λ v. ⊑_trans (P.start v) (⋓-l (G v) (G x ⊕ g x v));
-      flow = λ u v l. rw (same u (omega arith)) (flow' u v l (absent_or (g u v)) (ℕ_discrete (s.rank u) p));
+      flow = λ u v l. rw (same u (omega arith)) (flow' u v l (absent_or (g u v)) (ℕ_discrete (rank_of n o u) p));
       last = λ v. ⋓-elim (λ (d : Delay). (d ⊑ F v) ⊎ ((u : ℕ) × (d ⊑ new u ⊕ g u v))) (G v) (G x ⊕ g x v) (old v (P.last v)) (inr (x, ⊕-right (g x v) (⋓-l (G x) (G x ⊕ g x x))));
     }
       where
@@ -66,7 +66,7 @@ module _ {n : ℕ} {g : Graph} {o : List ℕ} (w : Within n g) (s : TopologicalO
         old v (inl h) = inl h
         old v (inr (u, h)) = inr (u, ⊑_trans h (⊕-right (g u v) (⋓-l (G u) (G x ⊕ g x u))))
 
-        flow' : (u v : ℕ) → s.rank u < suc p → (g u v ≡ absent) ⊎ T (present (g u v)) → Dec (s.rank u ≡ p) → G u ⊕ g u v ⊑ new v
+        flow' : (u v : ℕ) → rank_of n o u < suc p → (g u v ≡ absent) ⊎ T (present (g u v)) → Dec (rank_of n o u ≡ p) → G u ⊕ g u v ⊑ new v
         flow' u v l (inl e) _ = rw (e, ⊕-absent (G u)) (absent_⊑ (new v))
         flow' u v l (inr t) (yes e) =
             let q : x ≡ u = ap (λ (z : ℕ). get_or o z 0) (sym e) ∙ (s.place u (w.in_range u v t).0).1 in

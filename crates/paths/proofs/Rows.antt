@@ -8,8 +8,8 @@ use native.Mathlib.Omega.{arith}
 use lib.IntN.{ℤ, pos}
 use Rattle.laws.specs.Lists.{tabulate}
 use Rattle.laws.proofs.Lists.{is_tabulate}
-use Rattle.std.proofs.lemmas.List.{length-replicate, get_or-replicate, get_or-take}
-use lib.ListN.{replicate, length, get_or, take, drop, length-take, length-drop}
+use Rattle.std.proofs.lemmas.List.{length-replicate, get_or-replicate}
+use lib.ListN.{replicate, length, take, drop, length-take, length-drop}
 use native.Mathlib.Nat.{add_comm}
 use Rattle.laws.specs.Bounded.{every, sum}
 use Rattle.laws.proofs.Sums.{sum_eq, sum_bound}
@@ -74,9 +74,3 @@ column_counted n t v l =
 pub fan_out_few : (n : ℕ) (g : Graph) (u : ℕ) → fan_out n g u ≤ n
 unfolding fan_out
 fan_out_few n g u = sum_bound n (λ v. bit (g u v)) (λ v. bit_le (g u v))
-
--- a test of the first n cells of a row, lent as `&row[..n]`
-pub every_take : (f : ℤ → Bool) (n : ℕ) (row : List ℤ) → n ≤ length row → every (length (take n row)) (λ v. f (get_or (take n row) v (pos 0))) ≡ every n (λ v. f (get_or row v (pos 0)))
-every_take f n row h =
-    ap (λ (k : ℕ). every k (λ v. f (get_or (take n row) v (pos 0)))) (simp length-take (omega arith))
-    ∙ every_same n _ _ (λ v l. ap f (get_or-take n row v (pos 0) l))

@@ -1,6 +1,6 @@
 -- Why the order that the code finds is one: vertices are placed one at a time, each when it waits for no other. The rank of a vertex that is not yet
 -- placed is n.
-use mathlib.Core.Path.{◌≡◌, refl, ap, ◌∙◌, subst}
+use mathlib.Core.Path.{◌≡◌, refl, sym, ap, ◌∙◌, subst}
 use mathlib.Core.Logic.{◌≢◌, ◌⊎◌, inl, inr}
 use mathlib.Core.Bool.{Bool, true, false, cond}
 use mathlib.Core.List.{List}
@@ -8,11 +8,13 @@ use Prim.Native.Nat.{ℕ, zero, suc, ◌+◌, ◌*◌, ◌≤◌, ◌<◌}
 use native.Mathlib.Nat.{not-suc-le-zero}
 use native.Mathlib.Decide.{ℕ_discrete, dec_lt}
 use native.Mathlib.Omega.{arith}
-use lib.Dec.{T, ltb}
+use lib.Dec.{T, eqb, ltb, eqb→eq}
 use lib.ListN.{length, get_or, set, length-set}
 use lib.Seq.{get_or-set_same, get_or-set_other}
 use borrow.Author.Tests.{lt-ltb, le-ltb}
 use Rattle.laws.specs.Bounded.{sum}
+use Rattle.laws.proofs.Booleans.{eq→eqb}
+use Rattle.laws.proofs.Bounded.{first_holds, first_below}
 use Rattle.laws.proofs.Update.{update, update_same, update_other}
 use Rattle.laws.proofs.Sums.{sum_eq, sum_zero, sum-some, sum_bound, sum_but_one, sum_lt, sum_pick}
 use Rattle.graph.specs.Delay.{Delay, absent, present}
@@ -21,10 +23,10 @@ use Rattle.graph.specs.Count.{bit, fan_in}
 use Rattle.graph.proofs.Presence.{absent_or, bit_le, bit-present, bit_absent}
 use Rattle.graph.proofs.Longest.{Within}
 use Rattle.graph.proofs.Rank.{Ranked, acyclic_ranked}
-use Rattle.paths.specs.Order.{TopologicalOrder}
+use Rattle.paths.specs.Order.{TopologicalOrder, rank_of}
 
 unfoldable pub order_ranked : {n : ℕ} {g : Graph} {o : List ℕ} → TopologicalOrder n g o → Ranked g
-order_ranked s = record { rank = s.rank; rise = s.rise }
+order_ranked {n} {g} {o} s = record { rank = rank_of n o; rise = s.rise }
 
 -- ---- sums
 
@@ -219,12 +221,21 @@ module _ {n : ℕ} {g : Graph} {o f : List ℕ} {p : ℕ} (w : Within n g) (G : 
           go (yes h) = h
           go (no h) = absurd (omega (arith, G.count, sum_ones n, sum_lt n (λ x. one n (G.rank x)) (λ _. 1) v l (λ i _. one_le n (G.rank i)) (omega (arith, one_out n (G.rank v) (omega arith)))))
 
+      -- the place that a search finds is the rank
+      placed : (v : ℕ) → v < n → rank_of n o v < n
+      placed v l = first_below n (λ p. eqb (get_or o p 0) v) (G.rank v) (all v l) (eq→eqb (get_or o (G.rank v) 0) v (G.place v (all v l)).1)
+
+      there : (v : ℕ) → v < n → get_or o (rank_of n o v) 0 ≡ v
+      there v l = eqb→eq (get_or o (rank_of n o v) 0) v (first_holds n (λ p. eqb (get_or o p 0) v) (placed v l))
+
+      same : (v : ℕ) → v < n → rank_of n o v ≡ G.rank v
+      same v l = sym (subst (λ (x : ℕ). G.rank x ≡ rank_of n o v) (there v l) (G.vertex (rank_of n o v) (omega (arith, placed v l))).1)
+
       sorted : TopologicalOrder n g o
       sorted = record {
-        rank = G.rank;
-        place = λ v l. (all v l, (G.place v (all v l)).1);
-        vertex = λ q k. G.vertex q (omega arith);
-        rise = λ u v t. G.rise u v t (all v (w.in_range u v t).1);
+        place = λ v l. (placed v l, there v l);
+        vertex = λ q k. let r = G.vertex q (omega arith) in (r.0, same (get_or o q 0) r.0 ∙ r.1);
+        rise = λ u v t. let i = w.in_range u v t in omega (arith, same u i.0, same v i.1, G.rise u v t (all v i.1));
       }
 
   -- each vertex that is not placed waits for another

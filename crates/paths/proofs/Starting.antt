@@ -29,7 +29,7 @@ use Rattle.timing.proofs.Limits.{fits_absent}
 use Rattle.timing.proofs.Table.{read_absent, read_at}
 use Rattle.timing.proofs.Recursion.{arrival_propagated}
 use Rattle.paths.specs.declared.board.Board.{Board}
-use Rattle.paths.specs.Arrivals.{inside_limit, stored, filled, only_at, from_list, times_at, Started, Given}
+use Rattle.paths.specs.Arrivals.{inside_limit, stored, filled, only_at, from_list, times_at, Starts, Given}
 use Rattle.paths.specs.Checked.{Passable}
 
 -- ---- stored cells
@@ -148,8 +148,8 @@ module _ {b : Board} {t : List ℤ} {o : List ℕ} (p : Passable b t o) where
     elsewhere : (v : ℕ) → v ≢ i → read_cell absent_wide (only_at i v) ≡ absent
     elsewhere v ne = rw (eqb_other v i ne) (read_absent absent_wide absent_wide refl)
 
-    pub one_started : Started b t o (stored b.vertices (only_at i) f)
-    one_started = record { passable = p; room = omega (arith, stored-length n (only_at i) f room); near = λ v h. subst (λ (d : Delay). T (fits inside_limit d)) (sym (start v h)) (go v (ℕ_discrete v i)) }
+    pub one_started : Starts b.vertices (stored b.vertices (only_at i) f)
+    one_started = record { room = omega (arith, stored-length n (only_at i) f room); near = λ v h. subst (λ (d : Delay). T (fits inside_limit d)) (sym (start v h)) (go v (ℕ_discrete v i)) }
       where
         go : (v : ℕ) → Dec (v ≡ i) → T (fits inside_limit (read_cell absent_wide (only_at i v)))
         go v (yes e) = rw (e, at_i) tt
@@ -182,9 +182,9 @@ module _ {b : Board} {t : List ℤ} {o : List ℕ} (p : Passable b t o) where
         ap (read_cell absent_wide) (stored_cell n (from_list a) f v k ∙ ap (λ (c : Bool). cond c (get_or a v (pos 0)) absent_wide) (le-ltb v (length a) (omega (arith, given.long))))
         ∙ read_absent absent_wide absent_wide refl
 
-    pub inputs_started : Started b t o (stored b.vertices (from_list a) f)
+    pub inputs_started : Starts b.vertices (stored b.vertices (from_list a) f)
     unfolding F
-    inputs_started = record { passable = p; room = omega (arith, stored-length n (from_list a) f room); near = λ v h. go v h (dec_lt v m) }
+    inputs_started = record { room = omega (arith, stored-length n (from_list a) f room); near = λ v h. go v h (dec_lt v m) }
       where
         go : (v : ℕ) → v < n → Dec (v < m) → T (fits inside_limit (arrival_in (stored n (from_list a) f) v))
         go v h (yes q) = subst (λ (d : Delay). T (fits inside_limit d)) (sym (at_input v q)) (given.near v q)

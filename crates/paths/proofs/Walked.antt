@@ -1,4 +1,6 @@
 -- The arcs that a chain walks, and those that it leaves out: those are beaten, and signals that settle without them settle with them.
+use denote.Struct.Props.{props}
+use Rattle.std.proofs.Math.Logic.{∥∥₁_elim}
 use mathlib.Core.Path.{◌≡◌, refl, sym, ap, ap₂, ◌∙◌, subst}
 use mathlib.Core.Logic.{◌≢◌, ◌⊎◌, inl, inr}
 use mathlib.Core.Bool.{Bool, true, false, cond}
@@ -6,6 +8,7 @@ use mathlib.Core.List.{List}
 use Prim.Native.Nat.{ℕ, zero, suc, ◌+◌, ◌-◌, ◌≤◌, ◌<◌}
 use native.Mathlib.Decide.{ℕ_discrete}
 use native.Mathlib.Omega.{arith}
+use lib.Signed.{◌≤ℤ◌}
 use lib.Dec.{T, eqb}
 use lib.IntN.{ℤ, pos, ◌+ℤ◌, ℤ_discrete}
 use lib.ListN.{get_or}
@@ -42,7 +45,7 @@ unfolding walked
 walked_same row row' c c' v p q = ap₂ (λ (d : Delay) (x : ℕ). cond (eqb x v) d absent) p q
 
 pub chained_same : {n : ℕ} {g : Graph} {u : ℕ} {c c' : ℕ → ℕ} → ((v : ℕ) → v < n → c v ≡ c' v) → Chained n g u c → Chained n g u c'
-chained_same {n} {g} {u} {c} {c'} q C = record { chain = chain_same same q C.chain; rest = λ v l. subst (λ (d : Delay). (d ≡ g u v) ⊎ Beaten g u v) (same v l) (C.rest v l) }
+chained_same {n} {g} {u} {c} {c'} q C = record { chain = chain_same same q C.chain; rest = λ v l. subst (λ (d : Delay). ∥ (d ≡ g u v) ⊎ Beaten g u v ∥₁) (same v l) (C.rest v l) }
   where
     same : (v : ℕ) → v < n → walked c (g u) v ≡ walked c' (g u) v
     same v l = walked_same (g u) (g u) c c' v refl (q (v - 1) (omega arith))
@@ -104,7 +107,7 @@ module _ {n : ℕ} {kept : ℕ → Delay} {c : ℕ → ℕ} (C : Chain n kept c)
 pub chained : {n : ℕ} {g : Graph} {u : ℕ} {kept : ℕ → Delay} {c : ℕ → ℕ} → Chain n kept c → kept 0 ≡ absent → ((v : ℕ) → v < n → (kept v ≡ g u v) ⊎ ((kept v ≡ absent) × Beaten g u v)) → Chained n g u c
 chained {n} {g} {u} {kept} {c} C first some = record {
   chain = chain_same same (λ v l. refl) C;
-  rest = λ v l. split (some v l) (λ e. inl (sym (same v l) ∙ e)) (λ e. inr e.1);
+  rest = λ v l. ∣ split (some v l) (λ e. inl (sym (same v l) ∙ e)) (λ e. inr e.1) ∣₁;
 }
   where
     same : (v : ℕ) → v < n → kept v ≡ walked c (g u) v
@@ -167,17 +170,25 @@ module _ (row next : ℕ → Delay) (d : Delay) (v : ℕ) where
 
 -- ---- an arc that is beaten carries nothing that comes later
 
+≤ℤ-prop : (a b : ℤ) → IsProp (a ≤ℤ b)
+≤ℤ-prop a b = hlevel props
+
+⊑-prop : (x y : Delay) → IsProp (x ⊑ y)
+⊑-prop absent y = search props
+⊑-prop (at a) absent = λ p. absurd p.le
+⊑-prop (at a) (at b) = λ p q. ap (λ (h : a ≤ℤ b). record { le = h }) (≤ℤ-prop a b p.le q.le)
+
 pub beaten_⊑ : {g : Graph} {u v : ℕ} (B : Beaten g u v) → g u v ⊑ g u B.via ⊕ g B.via v
 beaten_⊑ {g} {u} {v} B = split (⋓-sel (g u v) (g u B.via ⊕ g B.via v)) (λ h. h.0) (λ h. absurd (B.longer h.0))
 
-module _ {g k : Graph} (r : Ranked g) (less : (u v : ℕ) → k u v ⊑ g u v) (rest : (u v : ℕ) → (k u v ≡ g u v) ⊎ Beaten g u v) {F G : ℕ → Delay} (s : Settled k F G) where
+module _ {g k : Graph} (r : Ranked g) (less : (u v : ℕ) → k u v ⊑ g u v) (rest : (u v : ℕ) → ∥ (k u v ≡ g u v) ⊎ Beaten g u v ∥₁) {F G : ℕ → Delay} (s : Settled k F G) where
   flow : (m u v : ℕ) → r.rank v ≤ r.rank u + m → G u ⊕ g u v ⊑ G v
   flow zero u v h = go (absent_or (g u v))
     where
       go : (g u v ≡ absent) ⊎ T (present (g u v)) → G u ⊕ g u v ⊑ G v
       go (inl e) = none_r (G u) e
       go (inr t) = absurd (omega (arith, r.rise u v t))
-  flow (suc m) u v h = go (flow m) (rest u v)
+  flow (suc m) u v h = ∥∥₁_elim (rest u v) (⊑-prop _ _) (go (flow m))
     where
       go : ((u v : ℕ) → r.rank v ≤ r.rank u + m → G u ⊕ g u v ⊑ G v) → (k u v ≡ g u v) ⊎ Beaten g u v → G u ⊕ g u v ⊑ G v
       go ih (inl e) = rw (← e) (s.flow u v)

@@ -12,7 +12,6 @@ use Rattle.paths.specs.declared.board.Board.{Board}
 use Rattle.paths.specs.Cells.{cell_at}
 use Rattle.paths.specs.Chain.{Chain, walked_at}
 use Rattle.paths.specs.Board.{graph_in}
-use Rattle.paths.specs.Checked.{Passable}
 
 -- inside, arrivals may start within ±2,000,000,000,000
 abbrev pub inside_limit : ℕ
@@ -34,9 +33,9 @@ filled N h f = stored N (λ v. write_cell absent_wide (h v)) f
 abbrev pub lane : ℕ → ℕ → List ℤ → List ℤ
 lane N l f = take N (drop (N * l) f)
 
--- something holds of each of four
-abbrev pub EachLane : (ℕ → Type 0) → Type 0
-EachLane P = (l : ℕ) → l < 4 → P l
+-- something holds of each lane
+abbrev pub EachLane : ℕ → (ℕ → Type 0) → Type 0
+EachLane lanes P = (l : ℕ) → l < lanes → P l
 
 -- a signal at i alone
 abbrev pub only_at : ℕ → ℕ → ℤ
@@ -60,24 +59,19 @@ delays_from b t i = walk (longest (graph_in b t) b.vertices) i
 abbrev pub arrivals_from : Board → List ℤ → List ℤ → ℕ → Delay
 arrivals_from b t a = arrival_at b.inputs b.vertices (graph_in b t) (arrival_in a)
 
--- the greatest delays from i to i + 3, in a lane each
-abbrev pub DelayLanes : Board → List ℤ → ℕ → List ℤ → List ℤ → Type 0
-DelayLanes b t i f₀ f = EachLane (λ l. lane b.vertices l f ≡ filled b.vertices (delays_from b t (i + l)) (lane b.vertices l f₀))
+-- the greatest delays from i and the vertices after it, in a lane each
+abbrev pub DelayLanes : Board → List ℤ → ℕ → ℕ → List ℤ → List ℤ → Type 0
+DelayLanes b t lanes i f₀ f = EachLane lanes (λ l. lane b.vertices l f ≡ filled b.vertices (delays_from b t (i + l)) (lane b.vertices l f₀))
 
--- a table that has passed its checks, with arrivals that start at its vertices
-pub record Started (b : Board) (t : List ℤ) (o : List ℕ) (f : List ℤ) : Type 0 where
-  pub passable : Passable b t o
-  pub room : b.vertices ≤ length f
-  pub near : (v : ℕ) → v < b.vertices → T (fits inside_limit (arrival_in f v))
+-- arrivals that start at n vertices
+pub record Starts (n : ℕ) (f : List ℤ) : Type 0 where
+  pub room : n ≤ length f
+  pub near : (v : ℕ) → v < n → T (fits inside_limit (arrival_in f v))
 
 -- an arrival that is present, and far from the ends of its 64 bits
 pub record Reached (a : ℤ) : Type 0 where
   pub there : a ≢ absent_wide
   pub near : T (fits reached_limit (at a))
-
--- where r is true, four arrivals are present
-abbrev pub AllThere : ℤ → ℤ → ℤ → ℤ → Bool → Type 0
-AllThere a b c d r = r ≡ true → (a ≢ absent_wide) × (b ≢ absent_wide) × (c ≢ absent_wide) × (d ≢ absent_wide)
 
 -- r says whether a and then the cell's delay is later than best; the sum then fits
 pub record Gains (best a cell : ℤ) (r : Bool) : Type 0 where
@@ -88,6 +82,11 @@ pub record Gains (best a cell : ℤ) (r : Bool) : Type 0 where
 pub record Offered (x : ℕ) (a cell : ℤ) (f₀ f : List ℤ) : Type 0 where
   pub here : arrival_in f x ≡ arrival_in f₀ x ⋓ (read_cell absent_wide a ⊕ read_cell absent_cell cell)
   pub others : (y : ℕ) → y ≢ x → get_or f y (pos 0) ≡ get_or f₀ y (pos 0)
+
+-- in each lane the cell of v is the later of what was there and what comes over an arc, a l in lane l
+pub record OfferedEach (lanes n v : ℕ) (a : ℕ → ℤ) (cell : ℤ) (f₀ f : List ℤ) : Type 0 where
+  pub here : EachLane lanes (λ l. arrival_in f (n * l + v) ≡ arrival_in f₀ (n * l + v) ⋓ (read_cell absent_wide (a l) ⊕ read_cell absent_cell cell))
+  pub others : (y : ℕ) → EachLane lanes (λ l. y ≢ n * l + v) → get_or f y (pos 0) ≡ get_or f₀ y (pos 0)
 
 -- a row with its chain, and room for the arrivals after it
 pub record Pushable (n : ℕ) (row : List ℤ) (c : List ℕ) (f : List ℤ) : Type 0 where

@@ -29,7 +29,7 @@ pub record Beaten (g : Graph) (u v : ℕ) : Type 0 where
 -- a chain of the arcs that leave u: those that it does not walk are beaten
 pub record Chained (n : ℕ) (g : Graph) (u : ℕ) (c : ℕ → ℕ) : Type 0 where
   pub chain : Chain n (walked c (g u)) c
-  pub rest : (v : ℕ) → v < n → (walked c (g u) v ≡ g u v) ⊎ Beaten g u v
+  pub rest : (v : ℕ) → v < n → ∥ (walked c (g u) v ≡ g u v) ⊎ Beaten g u v ∥₁
 
 -- a row's cells in the list of all chains
 abbrev pub chain_at : ℕ → List ℕ → ℕ → ℕ → ℕ

@@ -1,3 +1,4 @@
+pub mod Sizes
 pub mod Board
 pub mod Cells
 pub mod Chain
@@ -6,3 +7,4 @@ pub mod Checked
 pub mod Arrivals
 pub mod Queries
 pub mod Margins
+pub mod Tables

@@ -1,5 +1,5 @@
 -- Topological orders.
-use Rattle.std.specs.Prelude.{◌≡◌, ◌≢◌, Bool, List, ℕ, ◌+◌, ◌≤◌, ◌<◌, T, eqb, ltb, ℤ, length, get_or}
+use Rattle.std.specs.Prelude.{Option, Some, is_some, ◌≡◌, ◌≢◌, Bool, List, ℕ, ◌+◌, ◌≤◌, ◌<◌, T, eqb, ltb, ℤ, length, get_or}
 use Rattle.laws.specs.Bounded.{first}
 use Rattle.graph.specs.Delay.{present}
 use Rattle.graph.specs.Graph.{Graph}
@@ -8,22 +8,24 @@ use Rattle.timing.specs.Limits.{max_vertices}
 use Rattle.timing.specs.Checks.{no_cycle}
 use Rattle.paths.specs.Cells.{cell_at}
 
--- o lists the vertices below N, each once, so that every arc rises: `rank` is a vertex's place in it
-pub record TopologicalOrder (N : ℕ) (g : Graph) (o : List ℕ) : Type 0 where
-  pub rank : ℕ → ℕ
-  pub place : (v : ℕ) → v < N → (rank v < N) × (get_or o (rank v) 0 ≡ v)
-  pub vertex : (p : ℕ) → p < N → (get_or o p 0 < N) × (rank (get_or o p 0) ≡ p)
-  pub rise : (u v : ℕ) → T (present (g u v)) → rank u < rank v
+-- v's place among the first N of o; N where it is not there
+abbrev pub rank_of : ℕ → List ℕ → ℕ → ℕ
+rank_of N o v = first N (λ p. eqb (get_or o p 0) v)
 
--- r says whether check 6 passes, and o is then an order
-pub record Ordered (N : ℕ) (g : Graph) (o : List ℕ) (r : Bool) : Type 0 where
-  pub long : length o ≡ max_vertices
-  pub answer : r ≡ no_cycle N g
-  pub order : T r → TopologicalOrder N g o
+-- o lists the vertices below N, each once, so that every arc rises
+pub record TopologicalOrder (N : ℕ) (g : Graph) (o : List ℕ) : Type 0 where
+  pub place : (v : ℕ) → v < N → (rank_of N o v < N) × (get_or o (rank_of N o v) 0 ≡ v)
+  pub vertex : (p : ℕ) → p < N → (get_or o p 0 < N) × (rank_of N o (get_or o p 0) ≡ p)
+  pub rise : (u v : ℕ) → T (present (g u v)) → rank_of N o u < rank_of N o v
+
+-- r is an order where check 6 passes, and None where it does not
+pub record Ordered (N : ℕ) (g : Graph) (r : Option (List ℕ)) : Type 0 where
+  pub answer : is_some r ≡ no_cycle N g
+  pub order : (o : List ℕ) → r ≡ Some o → TopologicalOrder N g o
 
 -- a stands before b among the first n
 unfoldable pub stands_before : ℕ → List ℕ → ℕ → ℕ → Bool
-stands_before n o a b = ltb (first n (λ p. eqb (get_or o p 0) a)) (first n (λ p. eqb (get_or o p 0) b))
+stands_before n o a b = ltb (rank_of n o a) (rank_of n o b)
 
 -- how many arcs lead into each vertex of g, a byte each
 abbrev pub FansIn : ℕ → Graph → List ℕ → Type 0

@@ -1,8 +1,8 @@
 // The board's type, with document 01's limits and marks.
-ghost use Rattle.timing.specs.Refusal.{verdict};
 ghost use Rattle.std.specs.Prelude.{◌≡◌, ◌*◌};
 ghost use Rattle.timing.specs.Limits.{scratch_cells};
-ghost use Rattle.paths.specs.Board.{Sized, board_of};
+ghost use Rattle.timing.specs.Refusal.{verdict};
+ghost use Rattle.paths.specs.Sizes.{Sized};
 
 use timing::Refusal;
 
@@ -12,9 +12,13 @@ pub struct Board {
     pub inputs: usize,
     pub outputs: usize,
     pub vertices: usize,
+    pub ghost sized: { Sized inputs outputs vertices },
 }
 
 impl Board {
+    ghost use Rattle.timing.specs.Refusal.{on_value};
+    ghost use Rattle.paths.specs.Board.{sizes_of, board_of};
+
     pub const MAX_VERTICES: usize = 90;
 
     // The cells of a table of that many vertices.
@@ -38,8 +42,9 @@ impl Board {
     pub const ABSENT_WIDE: i64 = -9_223_372_036_854_775_808;
 
     // Check 1.
+    #[tactic(auto, unfolding(crate::specs::Board::board_of, timing::specs::Checks::sizes_fit))]
     pub fn new(inputs: usize, outputs: usize, vertices: usize) -> Result<Board, Refusal>
-        ensures { verdict result ≡ board_of inputs outputs vertices }
+        ensures { on_value sizes_of (verdict result) ≡ board_of inputs outputs vertices }
     {
         if inputs < 1 {
             return Err(Refusal::Sizes);
@@ -65,15 +70,13 @@ impl Board {
 
     // The table's cells.
     pub fn cells(self) -> usize
-        requires { Sized self }
         ensures { result ≡ self.vertices * self.vertices }
     {
         self.vertices * self.vertices
     }
 
-    // The scratch cells that a call may use.
+    // The scratch cells that a call may use: a number of document 01's own, which another document may change.
     pub fn scratch_cells(self) -> usize
-        requires { Sized self }
         ensures { result ≡ scratch_cells self.vertices }
     {
         self.vertices * self.vertices

@@ -3,14 +3,51 @@ ghost use Rattle.std.specs.Prelude.{◌≡◌, ◌*◌, ◌<◌, ◌≤◌, T, l
 ghost use Rattle.graph.specs.Delay.{present, ◌⊕◌};
 ghost use Rattle.timing.specs.Limits.{max_vertices, delay_limit, absent_cell, fits};
 ghost use Rattle.timing.specs.Table.{read_cell};
-ghost use Rattle.paths.specs.Board.{graph_in};
-ghost use Rattle.paths.specs.Checked.{Checked, Passable};
 ghost use Rattle.paths.specs.Cells.{cell_at};
+ghost use Rattle.paths.specs.Order.{TopologicalOrder};
 ghost use Rattle.paths.specs.Chain.{Chain, Chained, Chains, below, unbeaten, Near};
+ghost use Rattle.paths.specs.Tables.{timing_graph, IsSound};
 
 use crate::board::Board;
 use crate::cells;
 use crate::order::Order;
+use crate::sorted::Sorted;
+use crate::table::Table;
+
+// A sorted table with a chain for each row: what a pass over the arcs walks.
+#[derive(Clone, Copy)]
+pub struct Walk<'a> {
+    pub table: Table<'a>,
+    pub order: &'a Order,
+    pub chain: &'a [u8],
+    pub ghost sound: { IsSound table },
+    pub ghost rises: { TopologicalOrder table.board.vertices (timing_graph table) order.now },
+    pub ghost chains: { Chains table.board.vertices table.cells.now chain.now },
+}
+
+impl<'a> Walk<'a> {
+    ghost use Rattle.paths.specs.Cells.{row_at};
+
+    // Over a sorted table, with its chains made in lent bytes.
+    pub fn over(sorted: &'a Sorted<'a>, chain: &'a mut [u8; Board::MAX_CELLS]) -> Walk<'a>
+        ensures { result.table ≡ sorted.now.table }
+    {
+        chains(sorted, chain);
+        Walk {
+            table: sorted.table,
+            order: &sorted.order,
+            chain,
+        }
+    }
+
+    // The links of row u.
+    pub fn links(&self, u: usize) -> &'a [u8]
+        requires { u < self.now.table.board.vertices }
+        ensures { result.now ≡ row_at self.now.table.board.vertices u self.now.chain.now }
+    {
+        cells::row(self.chain, self.table.board.vertices, u)
+    }
+}
 
 // Whether an arc is beaten by one of delay `d` and then `next`. Absent is so low that a sum with it beats none.
 fn beaten(cell: i32, next: i32, d: i32) -> bool
@@ -33,6 +70,7 @@ fn chain_row(row: &[i32], next: &[i32], d: i32, chain: &mut [u8])
 {
     let mut after = chain.len();
     for v in (0..chain.len()).rev() {
+        // At most 90: a `try_from` would want an answer where it is more.
         chain[v] = after as u8;
         if cells::is_arc(row[v]) && !beaten(row[v], next[v], d) {
             after = v;
@@ -41,31 +79,30 @@ fn chain_row(row: &[i32], next: &[i32], d: i32, chain: &mut [u8])
 }
 
 // The chain of vertex u, without the arcs that are beaten by way of w.
-fn chain_from(board: Board, table: &[i32], u: usize, w: usize, chain: &mut [u8])
-    requires checked { Checked board table.now }
-    requires u_lt_vertices { u < board.vertices }
-    requires w_lt_vertices { w < board.vertices }
-    requires chain_len { length chain.old ≡ board.vertices }
-    ensures { Chained board.vertices (graph_in board table.now) u (λ v. get_or chain.new v 0) }
+fn chain_from(table: &Table, u: usize, w: usize, chain: &mut [u8])
+    requires sound { IsSound table.now }
+    requires u_lt_vertices { u < table.now.board.vertices }
+    requires w_lt_vertices { w < table.now.board.vertices }
+    requires chain_len { length chain.old ≡ table.now.board.vertices }
+    ensures { Chained table.now.board.vertices (timing_graph table.now) u (λ v. get_or chain.new v 0) }
 {
-    let row = cells::row(board, table, u);
-    let next = cells::row(board, table, w);
+    let row = table.row(u);
+    let next = table.row(w);
     chain_row(row, next, row[w], chain);
 }
 
 // The chains of all rows, in lent bytes: returned, they would stand twice on the stack. From each vertex w is the next in the order; after the last
 // it is 0, an input, to which there is no arc.
-pub fn chains(board: Board, table: &[i32], order: &Order, chain: &mut [u8])
-    requires passable { Passable board table.now order.now }
-    requires vertices_in_bounds { board.vertices * board.vertices ≤ length chain.old }
-    ensures { Chains board.vertices table.now chain.new }
+pub fn chains(sorted: &Sorted, chain: &mut [u8])
+    requires { sorted.now.table.board.vertices * sorted.now.table.board.vertices ≤ length chain.old }
+    ensures { Chains sorted.now.table.board.vertices sorted.now.table.cells.now chain.new }
 {
-    let n = board.vertices;
+    let n = sorted.table.board.vertices;
     let mut w = 0;
     for p in (0..n).rev() {
-        let u = usize::from(order[p]);
+        let u = usize::from(sorted.order[p]);
         let at = n * u;
-        chain_from(board, table, u, w, &mut chain[at..at + n]);
+        chain_from(&sorted.table, u, w, &mut chain[at..at + n]);
         w = u;
     }
 }

@@ -9,6 +9,9 @@ pub mod checks;
 pub mod margins;
 pub mod order;
 pub mod queries;
-pub mod room;
+pub mod sorted;
+pub mod table;
 
 pub use board::Board;
+pub use sorted::Sorted;
+pub use table::Table;

@@ -6,21 +6,21 @@ ghost use Rattle.timing.specs.Limits.{delay_limit, absent_cell, absent_wide, fit
 ghost use Rattle.timing.specs.Table.{read_cell, write_cell};
 ghost use Rattle.timing.specs.Delays.{arrival_in};
 ghost use Rattle.timing.specs.Margins.{cells};
-ghost use Rattle.paths.specs.Chain.{Chains};
-ghost use Rattle.paths.specs.Arrivals.{reached_limit, filled, Started, Given, Pushable};
-ghost use Rattle.paths.specs.Checked.{Passable};
-ghost use Rattle.paths.specs.Margins.{InReach, Pulled, latest_back, required_from, lists, lists_fit, margins_on, margins, Timed};
+ghost use Rattle.paths.specs.Tables.{of_table};
+ghost use Rattle.paths.specs.Arrivals.{reached_limit, filled, Starts, Given, Pushable};
+ghost use Rattle.paths.specs.Margins.{InReach, Pulled, lists, lists_fit, margins, Timed, latest_back, required_from, margins_on};
 
 use crate::board::Board;
-use crate::order::Order;
-use crate::{arrivals, cells, chain, checks, queries, room};
+use crate::chain::Walk;
+use crate::sorted::Sorted;
+use crate::{arrivals, checks, queries};
 use timing::Refusal;
 
 // The later of what is there and, where a is present, what comes over an arc.
 fn later(best: i64, a: i64, cell: i32) -> i64
-    requires t { T (fits reached_limit (read_cell absent_wide a)) }
+    requires a_fits { T (fits reached_limit (read_cell absent_wide a)) }
     requires cell_nonzero { cell ≢ absent_cell }
-    requires t_2 { T (fits delay_limit (read_cell absent_cell cell)) }
+    requires cell_fits { T (fits delay_limit (read_cell absent_cell cell)) }
     ensures { read_cell absent_wide result ≡ read_cell absent_wide best ⋓ (read_cell absent_wide a ⊕ read_cell absent_cell cell) }
 {
     let missing = a == Board::ABSENT_WIDE;
@@ -30,7 +30,7 @@ fn later(best: i64, a: i64, cell: i32) -> i64
     best.max(a + i64::from(cell))
 }
 
-// The latest of what is there and what comes back over the arcs that a row's chain walks.
+// The latest of what is there and what comes back over the arcs that a row's chain walks, from link to link.
 fn pull(row: &[i32], chain: &[u8], start: i64, f: &[i64]) -> i64
     requires pushable { Pushable (length row.now) row.now chain.now f.now }
     requires in_reach { InReach (length row.now) f.now }
@@ -46,19 +46,13 @@ fn pull(row: &[i32], chain: &[u8], start: i64, f: &[i64]) -> i64
 }
 
 // The latest that comes back to each vertex, where the first N cells of f have what starts there.
-fn propagate_back(board: Board, table: &[i32], order: &Order, chain: &[u8], f: &mut [i64])
-    requires started { Started board table.now order.now f.old }
-    requires chains { Chains board.vertices table.now chain.now }
-    ensures { f.new ≡ filled board.vertices (latest_back board table.now f.old) f.old }
+fn propagate_back(walk: &Walk, f: &mut [i64])
+    requires { Starts walk.now.table.board.vertices f.old }
+    ensures { f.new ≡ filled walk.now.table.board.vertices (of_table latest_back walk.now.table f.old) f.old }
 {
-    for p in (0..board.vertices).rev() {
-        let u = usize::from(order[p]);
-        f[u] = pull(
-            cells::row(board, table, u),
-            cells::row(board, chain, u),
-            f[u],
-            f,
-        );
+    for p in (0..walk.table.board.vertices).rev() {
+        let u = usize::from(walk.order[p]);
+        f[u] = pull(walk.table.row(u), walk.links(u), f[u], f);
     }
 }
 
@@ -84,30 +78,26 @@ fn mirror_all(f: &mut [i64])
 }
 
 // The required times at every vertex, in one pass.
-fn required_times(
-    board: Board,
-    table: &[i32],
-    order: &Order,
-    chain: &[u8],
-    due: &[i64],
-    required: &mut [i64],
-)
-    requires passable { Passable board table.now order.now }
-    requires chains { Chains board.vertices table.now chain.now }
-    requires given { Given board.outputs due.now }
-    requires required_len { length required.old ≡ board.vertices }
-    ensures { required.new ≡ cells board.vertices (required_from board table.now due.now) }
+fn required_times(walk: &Walk, due: &[i64], required: &mut [i64])
+    requires given { Given walk.now.table.board.outputs due.now }
+    requires required_len { length required.old ≡ walk.now.table.board.vertices }
+    ensures { required.new ≡ cells walk.now.table.board.vertices (of_table required_from walk.now.table due.now) }
 {
-    arrivals::start(required, board.vertices, board.inputs, due);
+    arrivals::start(
+        required,
+        walk.table.board.vertices,
+        walk.table.board.inputs,
+        due,
+    );
     mirror_all(required);
-    propagate_back(board, table, order, chain, required);
+    propagate_back(walk, required);
     mirror_all(required);
 }
 
 // Required time less arrival, absent where either is.
 fn margin_of(required: i64, arrival: i64) -> i64
-    requires t { T (fits reached_limit (read_cell absent_wide required)) }
-    requires t_2 { T (fits reached_limit (read_cell absent_wide arrival)) }
+    requires required_fits { T (fits reached_limit (read_cell absent_wide required)) }
+    requires arrival_fits { T (fits reached_limit (read_cell absent_wide arrival)) }
     ensures { result ≡ write_cell absent_wide (read_cell absent_wide required ⊖ read_cell absent_wide arrival) }
 {
     if required == Board::ABSENT_WIDE || arrival == Board::ABSENT_WIDE {
@@ -119,13 +109,15 @@ fn margin_of(required: i64, arrival: i64) -> i64
 // The margins at every vertex.
 fn fill_margins(required: &[i64], arrival: &[i64], margin: &mut [i64])
     requires in_reach { InReach (length margin.old) required.now }
-    requires in_reach_2 { InReach (length margin.old) arrival.now }
+    requires arrival_in_reach { InReach (length margin.old) arrival.now }
     ensures { margin.new ≡ cells (length margin.old) (λ v. arrival_in required.now v ⊖ arrival_in arrival.now v) }
 {
     for (v, x) in margin.iter_mut().enumerate() {
         *x = margin_of(required[v], arrival[v]);
     }
 }
+
+// Document 02's call lends its five lists one by one: they stay parameters side by side.
 
 // Whether the given times and the places for the answers fit the board.
 fn lists_fit(
@@ -146,27 +138,24 @@ fn lists_fit(
         && margin.len() == n
 }
 
-// The times of a board that has passed its checks; 22 where a list does not fit.
+// The times of a table that has passed its checks; 22 where a list does not fit.
 fn margins_answer(
-    board: Board,
-    table: &[i32],
-    order: &Order,
+    sorted: &Sorted,
     given: &[i64],
     due: &[i64],
     arrival: &mut [i64],
     required: &mut [i64],
     margin: &mut [i64],
 ) -> Result<(), Refusal>
-    requires { Passable board table.now order.now }
-    ensures { Timed (margins_on board table.now given.now due.now) (lists arrival.old required.old margin.old) (lists arrival.new required.new margin.new) result }
+    ensures { Timed (of_table margins_on sorted.now.table given.now due.now) (lists arrival.old required.old margin.old) (lists arrival.new required.new margin.new) result }
 {
-    if !lists_fit(board, given, due, arrival, required, margin) {
+    if !lists_fit(sorted.table.board, given, due, arrival, required, margin) {
         return Err(Refusal::ArrivalLists);
     }
-    let mut chain = room::cell_bytes();
-    chain::chains(board, table, order, &mut chain);
-    arrivals::arrivals(board, table, order, &chain, given, arrival);
-    required_times(board, table, order, &chain, due, required);
+    let mut chain = [0; Board::MAX_CELLS];
+    let walk = Walk::over(sorted, &mut chain);
+    arrivals::arrivals(&walk, given, arrival);
+    required_times(&walk, due, required);
     fill_margins(required, arrival, margin);
     Ok(())
 }
@@ -187,7 +176,6 @@ pub fn margins(
 ) -> Result<(), Refusal>
     ensures { Timed (margins inputs outputs vertices table.now scratch.now given.now due.now) (lists arrival.old required.old margin.old) (lists arrival.new required.new margin.new) result }
 {
-    let mut order = room::vertex_bytes();
-    let board = checks::checked(inputs, outputs, vertices, table, scratch.len(), &mut order)?;
-    margins_answer(board, table, &order, given, due, arrival, required, margin)
+    let sorted = checks::checked(inputs, outputs, vertices, table, scratch.len())?;
+    margins_answer(&sorted, given, due, arrival, required, margin)
 }

@@ -1,16 +1,17 @@
 // Topological order: check 6. Each vertex waits for its arcs in; the smallest that waits for none is placed next. O(N²).
 ghost use Rattle.std.specs.Prelude.{◌≡◌, cond, ◌+◌, ◌<◌, ◌≤◌, eqb, length, get_or, MatchOption};
 ghost use Rattle.timing.specs.Limits.{max_vertices};
-ghost use Rattle.paths.specs.Board.{Lent, graph_in};
+ghost use Rattle.paths.specs.Tables.{timing_graph};
 ghost use Rattle.paths.specs.Order.{Ordered, stands_before, FansIn, Raisable, Raised, Lowerable, Lowered, NoZero};
 
 use crate::board::Board;
 use crate::cells;
+use crate::table::Table;
 
 // The vertices, a byte each, so that every arc rises.
 pub type Order = [u8; Board::MAX_VERTICES];
 
-// Adds a row's arcs to the counts of their targets.
+// Adds a row's arcs to the counts of their targets. What is asked of the counts, and what is left of them, tells this from `lower`: one function over the sign would say both.
 fn raise(row: &[i32], fan: &mut [u8; Board::MAX_VERTICES])
     requires row_few { length row.now ≤ max_vertices }
     requires fan_len { length fan.old ≡ max_vertices }
@@ -35,18 +36,17 @@ fn lower(row: &[i32], fan: &mut [u8; Board::MAX_VERTICES])
 }
 
 // How many arcs lead into each vertex, by rows.
-fn fans(board: Board, table: &[i32]) -> [u8; Board::MAX_VERTICES]
-    requires { Lent board table.now }
-    ensures { FansIn board.vertices (graph_in board table.now) result }
+fn fans(table: &Table) -> [u8; Board::MAX_VERTICES]
+    ensures { FansIn table.now.board.vertices (timing_graph table.now) result }
 {
     let mut fan = [0u8; Board::MAX_VERTICES];
-    for u in 0..board.vertices {
-        raise(cells::row(board, table, u), &mut fan);
+    for u in 0..table.board.vertices {
+        raise(table.row(u), &mut fan);
     }
     fan
 }
 
-// The first of n vertices, from `from` on, whose count is 0.
+// The first of n vertices, from `from` on, whose count is 0: n of the counts are in use.
 fn ready(fan: &[u8; Board::MAX_VERTICES], from: usize, n: usize) -> Option<usize>
     requires n_le_max_vertices { n ≤ max_vertices }
     requires from_le_n { from ≤ n }
@@ -71,26 +71,25 @@ fn past(from: usize, u: usize) -> usize
     from
 }
 
-// Check 6: whether there is no cycle, with a topological order in the first N bytes of `order` if so. A placed vertex's count is 100, which it never
-// loses: no more than 90 arcs lead into a vertex.
-pub fn topological_order(board: Board, table: &[i32], order: &mut Order) -> bool
-    requires lent { Lent board table.now }
-    requires order_len { length order.old ≡ max_vertices }
-    ensures { Ordered board.vertices (graph_in board table.now) order.new result }
+// Check 6: a topological order, where there is no cycle. A placed vertex's count is 100, which it never loses: no more than 90 arcs lead into a vertex.
+pub fn topological_order(table: &Table) -> Option<Order>
+    ensures { Ordered table.now.board.vertices (timing_graph table.now) result }
 {
-    let n = board.vertices;
-    let mut fan = fans(board, table);
+    let n = table.board.vertices;
+    let mut order = [0u8; Board::MAX_VERTICES];
+    let mut fan = fans(table);
     let mut from = 0;
     for p in 0..n {
         let Some(u) = ready(&fan, from, n) else {
-            return false;
+            return None;
         };
-        lower(cells::row(board, table, u), &mut fan);
+        lower(table.row(u), &mut fan);
         fan[u] = 100;
+        // A vertex is less than 90: a `try_from` would want an answer where it is not.
         order[p] = u as u8;
         from = past(from, u);
     }
-    true
+    Some(order)
 }
 
 // Whether a stands before b among the first n bytes of `order`.

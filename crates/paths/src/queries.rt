@@ -6,15 +6,18 @@ ghost use Rattle.timing.specs.Limits.{arrival_limit, absent_wide, fits};
 ghost use Rattle.timing.specs.Table.{read_cell};
 ghost use Rattle.timing.specs.Delays.{arrivals_fit};
 ghost use Rattle.timing.specs.Queries.{matrix_call, arrival_call};
-ghost use Rattle.paths.specs.Chain.{Chains};
-ghost use Rattle.paths.specs.Checked.{Passable};
-ghost use Rattle.paths.specs.Queries.{ScratchAfter, Fills, matrix_on, arrivals_on, with_matrix, RowsMade};
+ghost use Rattle.paths.specs.Tables.{of_table};
+ghost use Rattle.paths.specs.Queries.{ScratchAfter, Fills, RowsMade, with_matrix, matrix_on, arrivals_on};
 ghost use Rattle.paths.specs.Board.{ScratchRoom, PastScratch};
 
 use crate::board::Board;
-use crate::order::Order;
-use crate::{arrivals, chain, checks, room};
+use crate::chain::Walk;
+use crate::sorted::Sorted;
+use crate::{arrivals, checks};
 use timing::Refusal;
+
+// That the scratch has room is a clause beside the table: the scratch is lent, each contract states its cells afterwards, and a struct would hold the board
+// again.
 
 // The outputs' cells: they stand in f from m on.
 fn copy_out(row: &mut [i64], f: &[i64], m: usize)
@@ -24,28 +27,25 @@ fn copy_out(row: &mut [i64], f: &[i64], m: usize)
     row.copy_from_slice(&f[m..m + row.len()]);
 }
 
-// The rows of inputs i to i + 3.
-fn fill_four(
-    board: Board,
-    table: &[i32],
-    order: &Order,
-    chain: &[u8],
+// The rows of input i and those after it, as many as there are lanes.
+fn fill_rows<const LANES: usize>(
+    walk: &Walk,
     i: usize,
     scratch: &mut [i64],
     destination: &mut [i64],
 )
-    requires passable { Passable board table.now order.now }
-    requires chains { Chains board.vertices table.now chain.now }
-    requires i_bound { i + 4 ≤ board.inputs }
-    requires vertices_in_bounds { board.vertices * 4 ≤ length scratch.old }
-    requires inputs_in_bounds { board.outputs * board.inputs ≤ length destination.old }
-    ensures rows_made { RowsMade board table.now i (i + 4) destination.old destination.new }
-    ensures past { Past (board.vertices * 4) scratch.old scratch.new }
+    requires some { 1 ≤ LANES }
+    requires i_bound { i + LANES ≤ walk.now.table.board.inputs }
+    requires room { walk.now.table.board.vertices * LANES ≤ length scratch.old }
+    requires destination_room { walk.now.table.board.outputs * walk.now.table.board.inputs ≤ length destination.old }
+    ensures rows_made { of_table RowsMade walk.now.table i (i + LANES) destination.old destination.new }
+    ensures past { Past (walk.now.table.board.vertices * LANES) scratch.old scratch.new }
 {
-    arrivals::delays_from_four(board, table, order, chain, i, scratch);
+    arrivals::delays_from_each::<LANES>(walk, i, scratch);
+    let board = walk.table.board;
     let n = board.outputs;
     let v = board.vertices;
-    for l in 0..4 {
+    for l in 0..LANES {
         let from = v * l;
         let at = n * (i + l);
         copy_out(
@@ -57,50 +57,38 @@ fn fill_four(
 }
 
 // The matrix, one pass over the arcs for each four inputs, and for each that is left.
-pub fn fill_matrix(
-    board: Board,
-    table: &[i32],
-    order: &Order,
-    scratch: &mut [i64],
-    destination: &mut [i64],
-)
-    requires passable { Passable board table.now order.now }
-    requires scratch_room { ScratchRoom board scratch.old }
-    requires inputs_in_bounds { board.outputs * board.inputs ≤ length destination.old }
-    ensures destination_after { destination.new ≡ with_matrix board table.now destination.old }
-    ensures past_scratch { PastScratch board scratch.old scratch.new }
+pub fn fill_matrix(sorted: &Sorted, scratch: &mut [i64], destination: &mut [i64])
+    requires scratch_room { ScratchRoom sorted.now.table.board scratch.old }
+    requires inputs_in_bounds { sorted.now.table.board.outputs * sorted.now.table.board.inputs ≤ length destination.old }
+    ensures destination_after { destination.new ≡ of_table with_matrix sorted.now.table destination.old }
+    ensures past_scratch { PastScratch sorted.now.table.board scratch.old scratch.new }
 {
-    let mut chain = room::cell_bytes();
-    chain::chains(board, table, order, &mut chain);
-    let m = board.inputs;
-    let n = board.outputs;
+    let mut chain = [0; Board::MAX_CELLS];
+    let walk = Walk::over(sorted, &mut chain);
+    let m = walk.table.board.inputs;
     for four in 0..m / 4 {
-        fill_four(board, table, order, &chain, 4 * four, scratch, destination);
+        fill_rows::<4>(&walk, 4 * four, scratch, destination);
     }
     for i in m / 4 * 4..m {
-        arrivals::delays_from(board, table, order, &chain, i, scratch);
-        let at = n * i;
-        copy_out(&mut destination[at..at + n], scratch, m);
+        fill_rows::<1>(&walk, i, scratch, destination);
     }
 }
 
-// The matrix of a board that has passed its checks; 21 where the destination is short.
+// The matrix of a table that has passed its checks; 21 where the destination is short.
 fn matrix_answer(
-    board: Board,
-    table: &[i32],
-    order: &Order,
+    sorted: &Sorted,
     scratch: &mut [i64],
     destination: &mut [i64],
 ) -> Result<(), Refusal>
-    requires passable { Passable board table.now order.now }
-    requires scratch_room { ScratchRoom board scratch.old }
-    ensures fills { Fills (matrix_on board table.now destination.old) destination.old destination.new result }
-    ensures past_scratch { PastScratch board scratch.old scratch.new }
+    requires { ScratchRoom sorted.now.table.board scratch.old }
+    ensures fills { Fills (of_table matrix_on sorted.now.table destination.old) destination.old destination.new result }
+    ensures past_scratch { PastScratch sorted.now.table.board scratch.old scratch.new }
 {
+    let board = sorted.table.board;
     if destination.len() < board.outputs * board.inputs {
         return Err(Refusal::DestinationShort);
     }
-    fill_matrix(board, table, order, scratch, destination);
+    fill_matrix(sorted, scratch, destination);
     Ok(())
 }
 
@@ -116,9 +104,8 @@ pub fn delay_matrix(
     ensures fills { Fills (matrix_call inputs outputs vertices (length scratch.old) table.now destination.old) destination.old destination.new result }
     ensures scratch_after { ScratchAfter inputs outputs vertices table.now scratch.old scratch.new }
 {
-    let mut order = room::vertex_bytes();
-    let board = checks::checked(inputs, outputs, vertices, table, scratch.len(), &mut order)?;
-    matrix_answer(board, table, &order, scratch, destination)
+    let sorted = checks::checked(inputs, outputs, vertices, table, scratch.len())?;
+    matrix_answer(&sorted, scratch, destination)
 }
 
 // Whether an arrival is absent or within the limits.
@@ -128,7 +115,7 @@ fn arrival_fits(x: i64) -> bool
     x == Board::ABSENT_WIDE || Board::MIN_ARRIVAL <= x && x <= Board::MAX_ARRIVAL
 }
 
-// Whether there are so many times, each absent or within the limits.
+// Whether there are so many times, each absent or within the limits: that the list is as long is what is asked.
 pub fn times_fit(given: &[i64], count: usize) -> bool
     ensures { result ≡ arrivals_fit count given.now }
 {
@@ -143,29 +130,26 @@ pub fn times_fit(given: &[i64], count: usize) -> bool
     true
 }
 
-// The output arrivals of a board that has passed its checks; 22 where a list does not fit.
+// The output arrivals of a table that has passed its checks; 22 where a list does not fit.
 fn arrivals_answer(
-    board: Board,
-    table: &[i32],
-    order: &Order,
+    sorted: &Sorted,
     scratch: &mut [i64],
     given: &[i64],
     answers: &mut [i64],
 ) -> Result<(), Refusal>
-    requires passable { Passable board table.now order.now }
-    requires scratch_room { ScratchRoom board scratch.old }
-    ensures fills { Fills (arrivals_on board table.now given.now answers.old) answers.old answers.new result }
-    ensures past_scratch { PastScratch board scratch.old scratch.new }
+    requires { ScratchRoom sorted.now.table.board scratch.old }
+    ensures fills { Fills (of_table arrivals_on sorted.now.table given.now answers.old) answers.old answers.new result }
+    ensures past_scratch { PastScratch sorted.now.table.board scratch.old scratch.new }
 {
+    let board = sorted.table.board;
     if !times_fit(given, board.inputs) {
         return Err(Refusal::ArrivalLists);
     }
     if answers.len() != board.outputs {
         return Err(Refusal::ArrivalLists);
     }
-    let mut chain = room::cell_bytes();
-    chain::chains(board, table, order, &mut chain);
-    arrivals::arrivals(board, table, order, &chain, given, scratch);
+    let mut chain = [0; Board::MAX_CELLS];
+    arrivals::arrivals(&Walk::over(sorted, &mut chain), given, scratch);
     copy_out(answers, scratch, board.inputs);
     Ok(())
 }
@@ -183,7 +167,6 @@ pub fn output_arrivals(
     ensures fills { Fills (arrival_call inputs outputs vertices (length scratch.old) table.now given.now answers.old) answers.old answers.new result }
     ensures scratch_after { ScratchAfter inputs outputs vertices table.now scratch.old scratch.new }
 {
-    let mut order = room::vertex_bytes();
-    let board = checks::checked(inputs, outputs, vertices, table, scratch.len(), &mut order)?;
-    arrivals_answer(board, table, &order, scratch, given, answers)
+    let sorted = checks::checked(inputs, outputs, vertices, table, scratch.len())?;
+    arrivals_answer(&sorted, scratch, given, answers)
 }

@@ -1,4 +1,5 @@
 -- The difference of two delays in 64-bit cells of the code.
+use Rattle.std.specs.Prelude.{Ok, Option, None, Some}
 use mathlib.Core.Path.{◌≡◌, refl, subst}
 use mathlib.Core.Logic.{◌≢◌}
 use mathlib.Core.Bool.{true, false}
@@ -16,8 +17,6 @@ use Rattle.timing.specs.Limits.{arrival_limit, absent_wide, fits}
 use Rattle.timing.specs.Table.{read_cell}
 use Rattle.timing.proofs.Limits.{fits_bounds}
 use Rattle.timing.proofs.Table.{read_at}
-use Rattle.plans.specs.declared.common.Seen.{Seen}
-use Rattle.plans.specs.declared.common.Seen.TheVariants.{Nothing, One, Clash}
 use Rattle.plans.specs.Comparing.{compared}
 
 pub eq_z_same : {a b : ℤ} → a ≡ b → eq_z a b ≡ true
@@ -26,10 +25,9 @@ eq_z_same {a} {b} e = is_true (eq_z a b) (subst (λ (z : ℤ). T (eq_z a z)) e (
 pub eq_z_other : {a b : ℤ} → a ≢ b → eq_z a b ≡ false
 eq_z_other {a} {b} h = is_false (eq_z a b) (λ t. h (eq_z→eq a b t))
 
-pub neither : (s : Seen) → s ≡ compared s absent absent
-neither Nothing = refl
-neither (One e) = refl
-neither Clash = refl
+pub neither : (s : Option ℤ) → Ok s ≡ compared s absent absent
+neither None = refl
+neither (Some e) = refl
 
 -- a cell with a number in it
 pub number_bounds : {z : ℤ} → T (fits arrival_limit (read_cell absent_wide z)) → z ≢ absent_wide → (neg_ℤ (pos arrival_limit) ≤ℤ z) × (z ≤ℤ pos arrival_limit)

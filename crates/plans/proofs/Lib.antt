@@ -10,7 +10,5 @@ pub mod MergedTable
 pub mod Differences
 pub mod DifferenceCells
 pub mod SharedRows
-pub mod RewrittenRows
-pub mod PassedRows
 pub mod ShareConditions
 pub mod Vectors

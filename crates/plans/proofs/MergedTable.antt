@@ -20,7 +20,8 @@ use Rattle.reduction.specs.MergeBack.{merge_fits, merged_back}
 use Rattle.paths.specs.Cells.{cell_at}
 use Rattle.plans.specs.MergedRow.{merged_cell, Mergeable, Drives}
 use Rattle.plans.proofs.LoweredSums.{lowered_same}
-use Rattle.plans.proofs.CopiedRow.{new_cell, Copied, row_size, row_at}
+use Rattle.plans.specs.Rewritten.{new_cell, Copied}
+use Rattle.plans.proofs.CopiedRow.{row_size, lent_at}
 
 -- x is row u
 module _ {N : ℕ} {t via : List ℤ} {v o : ℕ} {d : ℤ} (c : Copied N t via v) (a : Drives N t v o d) (u : ℕ) (l : u < N) (x : List ℤ) (e : x ≡ take N (drop (N * u) t)) where
@@ -32,7 +33,7 @@ module _ {N : ℕ} {t via : List ℤ} {v o : ℕ} {d : ℤ} (c : Copied N t via 
       from_inside = omega (arith, row_size c u l x e, a.from_below);
       to_inside = omega (arith, row_size c u l x e, a.to_below);
       legal = a.legal;
-      sum_fits = rw (row_at c u l x e v c.inside) (every_at N (λ u. fits delay_limit (graph_of N t u v ⊕ at d)) p.0 u l);
+      sum_fits = rw (lent_at c u l x e v c.inside) (every_at N (λ u. fits delay_limit (graph_of N t u v ⊕ at d)) p.0 u l);
     };
     lowered_fit = rw (row_size c u l x e) lowered;
   }
@@ -54,8 +55,8 @@ module _ {N : ℕ} {t via : List ℤ} {v o : ℕ} {d : ℤ} (c : Copied N t via 
       go : (w : ℕ) → w < N → Dec (u ≡ o) → merged_cell x via v o d u w ≡ new_cell (merged_back v o d (graph_of N t)) u w
       go w b (yes z) = simp (
         ap (λ (y : ℕ). eqb y o) z ∙ eqb_same o,
-        row_at c u l x e w b ∙ ap (λ (y : ℕ). graph_of N t y w) z,
-        row_at c u l x e v c.inside,
+        lent_at c u l x e w b ∙ ap (λ (y : ℕ). graph_of N t y w) z,
+        lent_at c u l x e v c.inside,
         c.same w b,
       )
-      go w b (no z) = simp (eqb_other u o z, row_at c u l x e w b, row_at c u l x e v c.inside)
+      go w b (no z) = simp (eqb_other u o z, lent_at c u l x e w b, lent_at c u l x e v c.inside)

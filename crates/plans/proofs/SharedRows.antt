@@ -21,7 +21,8 @@ use Rattle.reduction.specs.ShareInputs.{inputs_shared}
 use Rattle.reduction.specs.ShareOutputs.{outputs_shared}
 use Rattle.paths.specs.Cells.{cell_at}
 use Rattle.plans.specs.SharedRow.{inputs_cell, outputs_cell}
-use Rattle.plans.proofs.CopiedRow.{new_cell, Copied, row_size, row_at}
+use Rattle.plans.specs.Rewritten.{new_cell, Copied}
+use Rattle.plans.proofs.CopiedRow.{row_size, lent_at}
 
 -- a row known cell by cell, with one cell stored
 pub set_cell : (r : List ℤ) (n k : ℕ) (x : ℤ) (f : ℕ → ℤ) → length r ≡ n → k < n → ((t : ℕ) → t < n → get_or r t (pos 0) ≡ f t) → set r k x ≡ tabulate n (λ t. cond (eqb t k) x (f t))
@@ -59,7 +60,7 @@ module _ {N : ℕ} {t via : List ℤ} {a : ℕ} (c : Copied N t via a) (u : ℕ)
   written r v w q = sym (written_read absent_cell (get_or r v (pos 0))) ∙ ap (write_cell absent_cell) q
 
   row_reads : (v : ℕ) → v < N → get_or x v (pos 0) ≡ write_cell absent_cell (graph_of N t u v)
-  row_reads v h = written x v u (row_at c u l x e v h)
+  row_reads v h = written x v u (lent_at c u l x e v h)
 
   pub inputs_row : (b k : ℕ) (d : ℤ) {ys : List ℤ} → ys ≡ tabulate (length x) (inputs_cell x via a b k d u) → ys ≡ tabulate N (new_cell (inputs_shared a b k d (graph_of N t)) u)
   unfolding inputs_shared

@@ -16,7 +16,8 @@ use Rattle.timing.specs.Table.{graph_of}
 use Rattle.reduction.specs.Shrink.{shrunk}
 use Rattle.paths.specs.Cells.{cell_at}
 use Rattle.plans.specs.ShrunkRow.{shrunk_cell, Shrinkable}
-use Rattle.plans.proofs.CopiedRow.{new_cell, Copied, row_size, row_at}
+use Rattle.plans.specs.Rewritten.{new_cell, Copied}
+use Rattle.plans.proofs.CopiedRow.{row_size, lent_at}
 
 -- x is row u
 module _ {N : ℕ} {t via : List ℤ} {k : ℕ} (c : Copied N t via k) (u : ℕ) (l : u < N) (x : List ℤ) (e : x ≡ take N (drop (N * u) t)) where
@@ -27,9 +28,9 @@ module _ {N : ℕ} {t via : List ℤ} {k : ℕ} (c : Copied N t via k) (u : ℕ)
       sums = every_at N (λ u. every N (λ v. fits delay_limit (graph_of N t u k ⊕ graph_of N t k v))) h u l
 
       legal : T (every N (λ v. fits delay_limit (cell_at x k ⊕ cell_at via v)))
-      legal = every_all N _ (λ v b. rw (row_at c u l x e k c.inside, c.same v b) (every_at N (λ v. fits delay_limit (graph_of N t u k ⊕ graph_of N t k v)) sums v b))
+      legal = every_all N _ (λ v b. rw (lent_at c u l x e k c.inside, c.same v b) (every_at N (λ v. fits delay_limit (graph_of N t u k ⊕ graph_of N t k v)) sums v b))
 
   pub row_shrunk : {ys : List ℤ} → ys ≡ tabulate (length x) (shrunk_cell x via k u) → ys ≡ tabulate N (new_cell (shrunk k (graph_of N t)) u)
   unfolding shrunk
   row_shrunk q =
-      q ∙ rw (row_size c u l x e) (tabulate_same N (shrunk_cell x via k u) (new_cell (shrunk k (graph_of N t)) u) (λ v b. simp (row_at c u l x e v b, row_at c u l x e k c.inside, c.same v b)))
+      q ∙ rw (row_size c u l x e) (tabulate_same N (shrunk_cell x via k u) (new_cell (shrunk k (graph_of N t)) u) (λ v b. simp (lent_at c u l x e v b, lent_at c u l x e k c.inside, c.same v b)))

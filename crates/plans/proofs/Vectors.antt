@@ -83,7 +83,6 @@ module _ {b : Board} {t : List ℤ} {o : List ℕ} (p : Passable b t o) (i j : �
 
     pub both_vectors : TwoVectors b (put_mid b.vertices (length f₁ - b.vertices) f₁ y)
     both_vectors = record {
-      sized = p.checked.lent.sized;
       room = omega (arith, both_length);
       near = λ v l. (subst (λ (d : Delay). T (fits arrival_limit d)) (sym (first_vector v l)) (walk_near p i hi v l), subst (λ (d : Delay). T (fits arrival_limit d)) (sym (second_vector v l)) (walk_near p j hj v l));
     }
@@ -99,7 +98,7 @@ module _ {b : Board} {t : List ℤ} {o : List ℕ} (p : Passable b t o) (i j : �
         ≡ common_difference b.outputs (matrix b.inputs b.vertices (graph_of b.vertices t) i) (matrix b.inputs b.vertices (graph_of b.vertices t) j)
     unfolding matrix
     both_common li lj = common_same b.outputs _ _ _ _ (λ k l.
-        let below : m + k < N = omega (arith, p.checked.lent.sized.roles) in
+        let below : m + k < N = omega (arith, b.sized.roles) in
         (first_vector (m + k) below ∙ walk_other (longest g N) i (m + k) (λ c. omega arith), second_vector (m + k) below ∙ walk_other (longest g N) j (m + k) (λ c. omega arith)))
 
 -- ---- the outputs' cells of both
@@ -111,10 +110,10 @@ module _ (b : Board) (f : List ℤ) (w : TwoVectors b f) where
   outputs_second = take (b.vertices + b.inputs + b.outputs - (b.vertices + b.inputs)) (drop (b.vertices + b.inputs) f)
 
   size_first : length outputs_first ≡ b.outputs
-  size_first = simp (length-take, length-drop) (omega (arith, w.room, w.sized.roles))
+  size_first = simp (length-take, length-drop) (omega (arith, w.room, b.sized.roles))
 
   size_second : length outputs_second ≡ b.outputs
-  size_second = simp (length-take, length-drop) (omega (arith, w.room, w.sized.roles))
+  size_second = simp (length-take, length-drop) (omega (arith, w.room, b.sized.roles))
 
   at_first : (j : ℕ) → j < b.outputs → arrival_in outputs_first j ≡ arrival_in f (b.inputs + j)
   at_first j l = ap (read_cell absent_wide) (row_cell f b.inputs (b.inputs + b.outputs - b.inputs) j (pos 0) (omega arith))
@@ -127,8 +126,8 @@ module _ (b : Board) (f : List ℤ) (w : TwoVectors b f) where
   pub outputs_comparable : Comparable outputs_first outputs_second
   outputs_comparable = record {
     long = size_first ∙ sym size_second;
-    near_x = λ j l. let k : j < b.outputs = omega (arith, size_first) in subst (λ (d : Delay). T (fits arrival_limit d)) (sym (at_first j k)) (w.near (b.inputs + j) (omega (arith, w.sized.roles))).0;
-    near_y = λ j l. let k : j < b.outputs = omega (arith, size_second) in subst (λ (d : Delay). T (fits arrival_limit d)) (sym (at_second j k)) (w.near (b.inputs + j) (omega (arith, w.sized.roles))).1;
+    near_x = λ j l. let k : j < b.outputs = omega (arith, size_first) in subst (λ (d : Delay). T (fits arrival_limit d)) (sym (at_first j k)) (w.near (b.inputs + j) (omega (arith, b.sized.roles))).0;
+    near_y = λ j l. let k : j < b.outputs = omega (arith, size_second) in subst (λ (d : Delay). T (fits arrival_limit d)) (sym (at_second j k)) (w.near (b.inputs + j) (omega (arith, b.sized.roles))).1;
   }
 
   pub outputs_common : common_difference (length outputs_first) (arrival_in outputs_first) (arrival_in outputs_second) ≡ common_difference b.outputs (λ j. arrival_in f (b.inputs + j)) (λ j. arrival_in f (b.vertices + (b.inputs + j)))

@@ -1,32 +1,35 @@
 -- Two rows or columns of delays, compared place by place.
 use Rattle.timing.specs.declared.Refusal.{Refusal}
-use Rattle.std.specs.Prelude.{Err, Ok, Result, ◌≡◌, cond, List, ℕ, zero, suc, ◌<◌, T, ℤ, ◌-ℤ◌, length}
+use Rattle.std.specs.Prelude.{Err, Ok, Result, Option, None, Some, ◌≡◌, cond, List, ℕ, zero, suc, ◌<◌, T, ℤ, ◌-ℤ◌, length}
+use Rattle.std.specs.Option.{ok_or}
 use Rattle.laws.specs.Integers.{eq_z}
 use Rattle.graph.specs.Delay.{Delay, absent, at}
 use Rattle.timing.specs.Limits.{arrival_limit, fits}
 use Rattle.timing.specs.Delays.{arrival_in}
 use Rattle.timing.specs.declared.Refusal.TheVariants.{NoCommonDifference}
-use Rattle.plans.specs.declared.common.Seen.{Seen}
-use Rattle.plans.specs.declared.common.Seen.TheVariants.{Nothing, One, Clash}
 
--- one more place, x and y
-abbrev pub compared : Seen → Delay → Delay → Seen
-compared s absent absent = s
-compared s absent (at y) = Clash
-compared s (at x) absent = Clash
-compared Nothing (at x) (at y) = One (y -ℤ x)
-compared (One e) (at x) (at y) = cond (eq_z (y -ℤ x) e) (One e) Clash
-compared Clash (at x) (at y) = Clash
+-- one more place, x and y, after places that differ by s, or of which none is joined
+abbrev pub compared : Option ℤ → Delay → Delay → Result (Option ℤ) Refusal
+compared s absent absent = Ok s
+compared s absent (at y) = Err NoCommonDifference
+compared s (at x) absent = Err NoCommonDifference
+compared None (at x) (at y) = Ok (Some (y -ℤ x))
+compared (Some e) (at x) (at y) = cond (eq_z (y -ℤ x) e) (Ok (Some e)) (Err NoCommonDifference)
+
+-- the same, after a refusal too
+abbrev pub compared_on : Result (Option ℤ) Refusal → Delay → Delay → Result (Option ℤ) Refusal
+compared_on (Ok s) x y = compared s x y
+compared_on (Err r) x y = Err r
 
 -- what the first n places say
-unfoldable pub seen : ℕ → (ℕ → Delay) → (ℕ → Delay) → Seen
-seen zero a b = Nothing
-seen (suc n) a b = compared (seen n a b) (a n) (b n)
+unfoldable pub seen : ℕ → (ℕ → Delay) → (ℕ → Delay) → Result (Option ℤ) Refusal
+seen zero a b = Ok None
+seen (suc n) a b = compared_on (seen n a b) (a n) (b n)
 
-abbrev pub settled : Seen → Result ℤ Refusal
-settled Nothing = Err NoCommonDifference
-settled (One e) = Ok e
-settled Clash = Err NoCommonDifference
+-- the difference, where a place is joined and none refuses
+abbrev pub settled : Result (Option ℤ) Refusal → Result ℤ Refusal
+settled (Ok s) = ok_or s NoCommonDifference
+settled (Err r) = Err r
 
 -- two lists of one length, in which every number is far from the ends of its 64 bits
 pub record Comparable (xs ys : List ℤ) : Type 0 where

@@ -5,48 +5,29 @@ ghost use Rattle.timing.specs.Limits.{arrival_limit, absent_wide, fits};
 ghost use Rattle.timing.specs.Table.{read_cell};
 ghost use Rattle.timing.specs.Delays.{arrival_in};
 ghost use Rattle.reduction.specs.Common.{common_difference};
-ghost use Rattle.plans.specs.Comparing.{compared, settled, Comparable};
+ghost use Rattle.plans.specs.Comparing.{compared, Comparable};
 
 use paths::Board;
 use timing::Refusal;
 
-// What the places compared so far say: none is joined, all differ by one number, or not.
-#[derive(Clone, Copy)]
-pub enum Seen {
-    Nothing,
-    One(i64),
-    Clash,
-}
-
-// One more place.
-pub fn seen_next(seen: Seen, x: i64, y: i64) -> Seen
-    requires t { T (fits arrival_limit (read_cell absent_wide x)) }
-    requires t_2 { T (fits arrival_limit (read_cell absent_wide y)) }
+// One more place, after places that all differ by `seen`, or of which none is joined.
+#[inline(always)]
+pub fn seen_next(seen: Option<i64>, x: i64, y: i64) -> Result<Option<i64>, Refusal>
+    requires x_fits { T (fits arrival_limit (read_cell absent_wide x)) }
+    requires y_fits { T (fits arrival_limit (read_cell absent_wide y)) }
     ensures { result ≡ compared seen (read_cell absent_wide x) (read_cell absent_wide y) }
 {
-    if x == Board::ABSENT_WIDE {
-        if y == Board::ABSENT_WIDE {
-            return seen;
-        }
-        return Seen::Clash;
-    }
-    if y == Board::ABSENT_WIDE {
-        return Seen::Clash;
+    if x == Board::ABSENT_WIDE || y == Board::ABSENT_WIDE {
+        return if x == y {
+            Ok(seen)
+        } else {
+            Err(Refusal::NoCommonDifference)
+        };
     }
     let d = y - x;
     match seen {
-        Seen::Nothing => Seen::One(d),
-        Seen::One(e) => { if d == e { Seen::One(e) } else { Seen::Clash } }
-        Seen::Clash => Seen::Clash,
-    }
-}
-
-pub fn settle(seen: Seen) -> Result<i64, Refusal>
-    ensures { result ≡ settled seen }
-{
-    match seen {
-        Seen::One(e) => Ok(e),
-        Seen::Nothing | Seen::Clash => Err(Refusal::NoCommonDifference),
+        Some(e) if d != e => Err(Refusal::NoCommonDifference),
+        _ => Ok(Some(d)),
     }
 }
 
@@ -55,15 +36,15 @@ pub fn common_difference(xs: &[i64], ys: &[i64]) -> Result<i64, Refusal>
     requires { Comparable xs.now ys.now }
     ensures { verdict result ≡ common_difference (length xs.now) (arrival_in xs.now) (arrival_in ys.now) }
 {
-    let mut seen = Seen::Nothing;
+    let mut seen = None;
     let mut j = 0;
     'compare: loop {
         if j >= xs.len() {
-            break 'compare settle(seen);
+            break 'compare seen.ok_or(Refusal::NoCommonDifference);
         }
-        seen = seen_next(seen, xs[j], ys[j]);
-        if let Seen::Clash = seen {
-            break 'compare Err(Refusal::NoCommonDifference);
+        match seen_next(seen, xs[j], ys[j]) {
+            Ok(next) => seen = next,
+            Err(refusal) => break 'compare Err(refusal),
         }
         j += 1;
     }

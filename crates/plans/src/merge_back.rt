@@ -4,15 +4,17 @@ ghost use Rattle.std.specs.Prelude.{◌≡◌, ◌<◌, T, neg_ℤ};
 ghost use Rattle.laws.specs.Bounded.{every};
 ghost use Rattle.graph.specs.Delay.{at, ◌⊕◌};
 ghost use Rattle.timing.specs.Limits.{delay_limit, absent_cell, fits};
-ghost use Rattle.timing.specs.Table.{read_cell};
-ghost use Rattle.reduction.specs.MergeBack.{merge_fits};
-ghost use Rattle.paths.specs.Board.{Lent, graph_in};
+ghost use Rattle.graph.specs.Graph.{Graph};
+ghost use Rattle.timing.specs.Table.{read_cell, graph_of};
+ghost use Rattle.reduction.specs.MergeBack.{merge_fits, merged_back};
+ghost use Rattle.paths.specs.Tables.{timing_graph, of_table};
 ghost use Rattle.plans.specs.MergedRow.{redirected_cell, merged_cell, Redirectable, Mergeable, Drives};
 ghost use Rattle.plans.specs.OnBoards.{InRange, merge_back_on, remade};
 
+use crate::rewrite::Rewriting;
 use crate::rows::Row;
 use crate::{rows, shrink, sums};
-use paths::{Board, cells};
+use paths::{Board, Table, cells};
 use timing::Refusal;
 
 // What is added where d is taken off.
@@ -24,15 +26,13 @@ fn negated(d: i32) -> i32
 }
 
 // Whether the sums of the arcs into v and d fit.
-fn column_sums_fit(board: Board, table: &[i32], v: usize, d: i32) -> bool
-    requires lent { Lent board table.now }
-    requires v_lt_vertices { v < board.vertices }
-    requires t { T (fits delay_limit (at d)) }
-    ensures { result ≡ every board.vertices (λ u. fits delay_limit (graph_in board table.now u v ⊕ at d)) }
+fn column_sums_fit(table: &Table, v: usize, d: i32) -> bool
+    requires v_lt_vertices { v < table.now.board.vertices }
+    requires d_fits { T (fits delay_limit (at d)) }
+    ensures { result ≡ every table.now.board.vertices (λ u. fits delay_limit (timing_graph table.now u v ⊕ at d)) }
 {
-    let n = board.vertices;
-    for u in 0..n {
-        if !sums::sum_fits(table[n * u + v], d) {
+    for u in 0..table.board.vertices {
+        if !sums::sum_fits(table.cell(u, v), d) {
             return false;
         }
     }
@@ -40,37 +40,31 @@ fn column_sums_fit(board: Board, table: &[i32], v: usize, d: i32) -> bool
 }
 
 // The sums into v and the differences out of v. Of v→o itself 0 is left, which fits.
-fn merge_fits(board: Board, table: &[i32], v: usize, o: usize, d: i32) -> bool
-    requires lent { Lent board table.now }
-    requires in_range { InRange board table.now }
-    requires drives { Drives board.vertices table.now v o d }
-    ensures { result ≡ merge_fits board.vertices (graph_in board table.now) v o d }
+fn merge_fits(table: &Table, v: usize, o: usize, d: i32) -> bool
+    requires in_range { of_table InRange table.now }
+    requires drives { Drives table.now.board.vertices table.now.cells.now v o d }
+    ensures { result ≡ merge_fits table.now.board.vertices (timing_graph table.now) v o d }
 {
-    let n = board.vertices;
-    let from = n * v;
-    column_sums_fit(board, table, v, d) && shrink::row_sums_fit(negated(d), &table[from..], n)
+    column_sums_fit(table, v, d) && shrink::row_sums_fit(negated(d), table.row(v))
 }
 
 // The step's conditions, in document 01's order: the driver and its delay. A driver that will not do and a second arc get one refusal, so that the first found settles it.
-pub fn merge_back_verdict(board: Board, table: &[i32], o: usize) -> Result<(usize, i32), Refusal>
-    requires lent { Lent board table.now }
-    requires in_range { InRange board table.now }
-    ensures { verdict result ≡ merge_back_on board table.now o }
+pub fn merge_back_verdict(table: &Table, o: usize) -> Result<(usize, i32), Refusal>
+    requires { of_table InRange table.now }
+    ensures { verdict result ≡ of_table merge_back_on table.now o }
 {
-    if !rows::is_output(board, o) {
+    if !rows::is_output(table.board, o) {
         return Err(Refusal::WrongVertex);
     }
-    let v = cells::next_into(board, table, o, 0);
-    if !rows::is_inner(board, v) {
+    let v = table.next_into(o, 0);
+    if !rows::is_inner(table.board, v) {
         return Err(Refusal::WrongArcs);
     }
-    let n = board.vertices;
-    if cells::next_into(board, table, o, v + 1) != n {
+    if table.next_into(o, v + 1) != table.board.vertices {
         return Err(Refusal::WrongArcs);
     }
-    let at = n * v + o;
-    let d = table[at];
-    if !merge_fits(board, table, v, o, d) {
+    let d = table.cell(v, o);
+    if !merge_fits(table, v, o, d) {
         return Err(Refusal::DelayOutOfRange);
     }
     Ok((v, d))
@@ -99,4 +93,28 @@ pub fn merge_row(row: &mut [i32], via: &Row, v: usize, o: usize, d: i32, u: usiz
         shrink::join_row(row, via, negated(d));
     }
     redirect(row, into, v, o, d);
+}
+
+// Output o is merged with its driver v, from which an arc of delay d leads to it: o takes the arcs of v too, with d taken off.
+#[derive(Clone, Copy)]
+pub struct MergeBack {
+    pub v: usize,
+    pub o: usize,
+    pub d: i32,
+}
+
+impl Rewriting for MergeBack {
+    ghost rewritten = { λ x g. merged_back x.v x.o x.d g };
+
+    ghost rewritable = { λ x N t. Drives N t x.v x.o x.d × T (merge_fits N (graph_of N t) x.v x.o x.d) };
+
+    ghost origin = { λ x. x.v };
+
+    fn origin(&self) -> usize {
+        self.v
+    }
+
+    fn rewrite_row(&self, row: &mut [i32], via: &Row, u: usize) {
+        merge_row(row, via, self.v, self.o, self.d, u);
+    }
 }

@@ -1,19 +1,20 @@
 // Share inputs: the step's conditions, and a row of its new table.
 ghost use Rattle.timing.specs.Refusal.{verdict};
 ghost use Rattle.std.specs.Prelude.{◌≡◌, ◌&&◌, ◌+◌, ◌<◌, ◌≤◌, ltb, pos, length, get_or};
-ghost use Rattle.laws.specs.Lent.{Past};
 ghost use Rattle.timing.specs.Limits.{max_vertices};
-ghost use Rattle.reduction.specs.ShareInputs.{enough_out};
-ghost use Rattle.paths.specs.Board.{graph_in, Lent, ScratchRoom, PastScratch};
-ghost use Rattle.paths.specs.Checked.{Passable};
+ghost use Rattle.graph.specs.Graph.{Graph};
+ghost use Rattle.reduction.specs.ShareInputs.{enough_out, inputs_shared};
+ghost use Rattle.paths.specs.Board.{ScratchRoom, PastScratch};
+ghost use Rattle.paths.specs.Tables.{timing_graph, of_table};
 ghost use Rattle.plans.specs.SharedRow.{only_arc, inputs_cell};
 ghost use Rattle.plans.specs.Sharing.{TwoVectors};
 ghost use Rattle.plans.specs.OnBoards.{two_inputs, share_inputs_on, inputs_saved_on, rows_difference, vectors_difference, remade};
 
+use crate::rewrite::Rewriting;
 use crate::rows::Row;
 use crate::{common, rows};
-use paths::order::Order;
-use paths::{Board, arrivals, cells, chain, order, room};
+use paths::chain::Walk;
+use paths::{Board, Sorted, Table, arrivals, cells};
 use timing::Refusal;
 
 // One arc alone, to k.
@@ -49,6 +50,31 @@ pub fn share_inputs_row(row: &mut [i32], via: &Row, a: usize, b: usize, k: usize
     }
 }
 
+// Inputs a and b are shared by way of k: k takes over a's arcs, and a and b keep one to k, with delays 0 and e.
+#[derive(Clone, Copy)]
+pub struct ShareInputs {
+    pub a: usize,
+    pub b: usize,
+    pub k: usize,
+    pub e: i32,
+}
+
+impl Rewriting for ShareInputs {
+    ghost rewritten = { λ x g. inputs_shared x.a x.b x.k x.e g };
+
+    ghost rewritable = { λ x N t. (x.a < N) × (x.k < N) };
+
+    ghost origin = { λ x. x.a };
+
+    fn origin(&self) -> usize {
+        self.a
+    }
+
+    fn rewrite_row(&self, row: &mut [i32], via: &Row, u: usize) {
+        share_inputs_row(row, via, self.a, self.b, self.k, self.e, u);
+    }
+}
+
 fn two_inputs(board: Board, a: usize, b: usize, k: usize) -> bool
     ensures { result ≡ (two_inputs board a b && ltb k board.vertices) }
 {
@@ -71,45 +97,35 @@ fn outputs_difference(board: Board, delays: &[i64]) -> Result<i64, Refusal>
 }
 
 // Row b less row a.
-fn rows_difference(
-    board: Board,
-    table: &[i32],
-    order: &Order,
-    scratch: &mut [i64],
-    a: usize,
-    b: usize,
-) -> Result<i64, Refusal>
-    requires passable { Passable board table.now order.now }
-    requires vertices_in_bounds { board.vertices + board.vertices ≤ length scratch.old }
-    requires a_lt_inputs { a < board.inputs }
-    requires b_lt_inputs { b < board.inputs }
-    ensures result_value { verdict result ≡ rows_difference board table.now a b }
-    ensures past { Past (board.vertices + board.vertices) scratch.old scratch.new }
+fn rows_difference(sorted: &Sorted, scratch: &mut [i64], a: usize, b: usize) -> Result<i64, Refusal>
+    requires scratch_room { ScratchRoom sorted.now.table.board scratch.old }
+    requires a_lt_inputs { a < sorted.now.table.board.inputs }
+    requires b_lt_inputs { b < sorted.now.table.board.inputs }
+    ensures result_value { verdict result ≡ of_table rows_difference sorted.now.table a b }
+    ensures past_scratch { PastScratch sorted.now.table.board scratch.old scratch.new }
 {
-    let mut chain = room::cell_bytes();
-    chain::chains(board, table, order, &mut chain);
-    let n = board.vertices;
-    arrivals::delays_from(board, table, order, &chain, a, scratch);
-    arrivals::delays_from(board, table, order, &chain, b, &mut scratch[n..]);
-    outputs_difference(board, scratch)
+    let mut chain = [0; Board::MAX_CELLS];
+    let walk = Walk::over(sorted, &mut chain);
+    let n = walk.table.board.vertices;
+    arrivals::delays_from(&walk, a, scratch);
+    arrivals::delays_from(&walk, b, &mut scratch[n..]);
+    outputs_difference(walk.table.board, scratch)
 }
 
 // Whether b has arcs enough to share.
-pub fn enough_out(board: Board, table: &[i32], b: usize) -> bool
-    requires lent { Lent board table.now }
-    requires b_lt_vertices { b < board.vertices }
-    ensures { result ≡ enough_out board.vertices (graph_in board table.now) b }
+pub fn enough_out(table: &Table, b: usize) -> bool
+    requires { b < table.now.board.vertices }
+    ensures { result ≡ enough_out table.now.board.vertices (timing_graph table.now) b }
 {
-    cells::fan_out(board, table, b) >= 3
+    table.fan_out(b) >= 3
 }
 
 // What is left to ask where e is the common difference.
-pub fn inputs_saved(board: Board, table: &[i32], b: usize, e: i64) -> Result<i64, Refusal>
-    requires lent { Lent board table.now }
-    requires b_lt_vertices { b < board.vertices }
-    ensures { verdict result ≡ inputs_saved_on board table.now b e }
+pub fn inputs_saved(table: &Table, b: usize, e: i64) -> Result<i64, Refusal>
+    requires { b < table.now.board.vertices }
+    ensures { verdict result ≡ of_table inputs_saved_on table.now b e }
 {
-    if !enough_out(board, table, b) {
+    if !enough_out(table, b) {
         return Err(Refusal::NothingSaved);
     }
     if !cells::in_range(e) {
@@ -120,25 +136,22 @@ pub fn inputs_saved(board: Board, table: &[i32], b: usize, e: i64) -> Result<i64
 
 // The conditions of share inputs, in document 01's order.
 pub fn share_inputs_verdict(
-    board: Board,
-    table: &[i32],
-    order: &Order,
+    sorted: &Sorted,
     scratch: &mut [i64],
     a: usize,
     b: usize,
     k: usize,
 ) -> Result<i64, Refusal>
-    requires passable { Passable board table.now order.now }
-    requires scratch_room { ScratchRoom board scratch.old }
-    ensures result_value { verdict result ≡ share_inputs_on board table.now a b k }
-    ensures past_scratch { PastScratch board scratch.old scratch.new }
+    requires { ScratchRoom sorted.now.table.board scratch.old }
+    ensures result_value { verdict result ≡ of_table share_inputs_on sorted.now.table a b k }
+    ensures past_scratch { PastScratch sorted.now.table.board scratch.old scratch.new }
 {
-    if !two_inputs(board, a, b, k) {
+    if !two_inputs(sorted.table.board, a, b, k) {
         return Err(Refusal::WrongVertex);
     }
-    if !rows::is_free(board, table, k) {
+    if !rows::is_free(&sorted.table, k) {
         return Err(Refusal::NumberTaken);
     }
-    let e = rows_difference(board, table, order, scratch, a, b)?;
-    inputs_saved(board, table, b, e)
+    let e = rows_difference(sorted, scratch, a, b)?;
+    inputs_saved(&sorted.table, b, e)
 }

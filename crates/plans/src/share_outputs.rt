@@ -1,20 +1,22 @@
 // Share outputs: the step's conditions, and a row of its new table.
 ghost use Rattle.timing.specs.Refusal.{verdict};
-ghost use Rattle.std.specs.Prelude.{◌≡◌, true, ℕ, ◌<◌, ◌≤◌, T, length};
-ghost use Rattle.laws.specs.Lent.{Past};
+ghost use Rattle.std.specs.Prelude.{◌≡◌, true, false, ℕ, ◌<◌, ◌≤◌, length};
+ghost use Rattle.graph.specs.Graph.{Graph};
+ghost use Rattle.reduction.specs.ShareOutputs.{outputs_shared};
 ghost use Rattle.timing.specs.Limits.{max_vertices};
-ghost use Rattle.paths.specs.Board.{Sized, graph_in, ScratchRoom, PastScratch, Lent};
-ghost use Rattle.paths.specs.Order.{stands_before};
-ghost use Rattle.paths.specs.Checked.{Checked, Passable};
+ghost use Rattle.paths.specs.Board.{ScratchRoom, PastScratch};
+ghost use Rattle.paths.specs.Tables.{timing_graph, IsSound, of_table};
 ghost use Rattle.reach.specs.RowSets.{RowSets};
 ghost use Rattle.plans.specs.SharedRow.{outputs_cell};
-ghost use Rattle.plans.specs.Sharing.{TwoOutputs, Indexed, path_on};
+ghost use Rattle.plans.specs.Sharing.{TwoOutputs, Indexed, OrderOf, IsAhead, path_on};
 ghost use Rattle.plans.specs.OnBoards.{two_outputs, share_outputs_on, outputs_saved_on, columns_difference, remade};
 
-use crate::common::Seen;
+use crate::rewrite::Rewriting;
+use crate::rows::Row;
 use crate::{common, rows};
+use paths::chain::Walk;
 use paths::order::Order;
-use paths::{Board, arrivals, cells, chain, order, room};
+use paths::{Board, Sorted, Table, arrivals, cells, order};
 use sets::Set;
 use timing::Refusal;
 
@@ -26,8 +28,32 @@ pub fn share_outputs_row(row: &mut [i32], a: usize, b: usize, e: i32, u: usize)
     row[b] = if u == a { e } else { Board::ABSENT };
 }
 
+// Output b is driven from output a: of the arcs into b, a's is left, with delay e.
+#[derive(Clone, Copy)]
+pub struct ShareOutputs {
+    pub a: usize,
+    pub b: usize,
+    pub e: i32,
+}
+
+impl Rewriting for ShareOutputs {
+    ghost rewritten = { λ x g. outputs_shared x.a x.b x.e g };
+
+    ghost rewritable = { λ x N t. x.b < N };
+
+    ghost origin = { λ x. x.b };
+
+    // No arcs are taken: any row will do.
+    fn origin(&self) -> usize {
+        self.b
+    }
+
+    fn rewrite_row(&self, row: &mut [i32], _via: &Row, u: usize) {
+        share_outputs_row(row, self.a, self.b, self.e, u);
+    }
+}
+
 fn two_outputs(board: Board, a: usize, b: usize) -> bool
-    requires { Sized board }
     ensures { result ≡ two_outputs board a b }
 {
     rows::is_output(board, a) && rows::is_output(board, b) && a != b
@@ -35,111 +61,90 @@ fn two_outputs(board: Board, a: usize, b: usize) -> bool
 
 // Column b less column a. The first input at which the difference is another settles it, before the delays from the others are looked for. The labelled loop is document 01's form.
 fn columns_difference(
-    board: Board,
-    table: &[i32],
-    order: &Order,
+    sorted: &Sorted,
     scratch: &mut [i64],
     a: usize,
     b: usize,
 ) -> Result<i64, Refusal>
-    requires passable { Passable board table.now order.now }
-    requires vertices_in_bounds { board.vertices ≤ length scratch.old }
-    requires two_outputs { TwoOutputs board a b }
-    ensures result_value { verdict result ≡ columns_difference board table.now a b }
-    ensures past { Past board.vertices scratch.old scratch.new }
+    requires scratch_room { ScratchRoom sorted.now.table.board scratch.old }
+    requires two_outputs { TwoOutputs sorted.now.table.board a b }
+    ensures result_value { verdict result ≡ of_table columns_difference sorted.now.table a b }
+    ensures past_scratch { PastScratch sorted.now.table.board scratch.old scratch.new }
 {
-    let mut chain = room::cell_bytes();
-    chain::chains(board, table, order, &mut chain);
-    let m = board.inputs;
-    let mut seen = Seen::Nothing;
+    let mut chain = [0; Board::MAX_CELLS];
+    let walk = Walk::over(sorted, &mut chain);
+    let m = walk.table.board.inputs;
+    let mut seen = None;
     let mut i = 0;
     'compare: loop {
         if i >= m {
-            break 'compare common::settle(seen);
+            break 'compare seen.ok_or(Refusal::NoCommonDifference);
         }
-        arrivals::delays_from(board, table, order, &chain, i, scratch);
-        seen = common::seen_next(seen, scratch[a], scratch[b]);
-        if let Seen::Clash = seen {
-            break 'compare Err(Refusal::NoCommonDifference);
+        arrivals::delays_from(&walk, i, scratch);
+        match common::seen_next(seen, scratch[a], scratch[b]) {
+            Ok(next) => seen = next,
+            Err(refusal) => break 'compare Err(refusal),
         }
         i += 1;
     }
 }
 
-// The table's row sets, made where they are not there.
-fn index(board: Board, table: &[i32], words: &mut [Set], made: bool)
-    requires lent { Lent board table.now }
-    requires indexed { Indexed board table.now words.old made }
-    ensures { RowSets board.vertices (graph_in board table.now) words.new }
-{
-    if !made {
-        reach::row_sets(board, table, words);
-    }
-}
-
-// Whether a path is found, and whether the row sets are there now.
-#[derive(Clone, Copy)]
-pub struct Looked {
-    pub found: bool,
-    pub made: bool,
-}
-
-// Whether an order, where it is one of the table's, has a before b.
-fn is_ahead(order: &Order, sorted: bool, n: usize, a: usize, b: usize) -> bool
+// Whether an order of the table, where there is one, has a before b.
+fn is_ahead(order: Option<&Order>, n: usize, a: usize, b: usize) -> bool
     requires { n ≤ max_vertices }
-    ensures { result ≡ true → (sorted ≡ true) × T (stands_before n order.now a b) }
+    ensures { result ≡ true → IsAhead n order.entry a b }
 {
-    sorted && order::stands_before(order, n, a, b)
+    order.is_some_and(|order| order::stands_before(order, n, a, b))
 }
 
-// Looks for a path from b to a. Where a is ahead of b, and where b→a is an arc, the row sets are not asked for. `sorted`: the order is one of the
-// table's.
+// The sets of the table's rows.
+fn row_sets(table: &Table) -> [Set; Board::MAX_VERTICES]
+    ensures { RowSets table.now.board.vertices (timing_graph table.now) result }
+{
+    let mut rows = [Set::empty(); Board::MAX_VERTICES];
+    reach::row_sets(table, &mut rows);
+    rows
+}
+
+// Looks for a path from b to a. Where a is ahead of b in an order of the table, and where b→a is an arc, the sets of the table's rows are not asked for; they
+// are made when they first are, in this call's frame, and kept in `rows`.
+#[inline(never)]
 pub fn path_back(
-    board: Board,
-    table: &[i32],
-    order: &Order,
-    sorted: bool,
-    words: &mut [Set],
-    made: bool,
+    table: &Table,
+    order: Option<&Order>,
+    rows: &mut Option<[Set; Board::MAX_VERTICES]>,
     a: usize,
     b: usize,
-) -> Looked
-    requires checked { Checked board table.now }
-    requires passable { sorted ≡ true → Passable board table.now order.now }
-    requires two_outputs { TwoOutputs board a b }
-    requires indexed { Indexed board table.now words.old made }
-    ensures found_value { result.found ≡ path_on board table.now b a }
-    ensures indexed_2 { Indexed board table.now words.new result.made }
+) -> bool
+    requires sound { IsSound table.now }
+    requires order_of { of_table OrderOf table.now order }
+    requires two_outputs { TwoOutputs table.now.board a b }
+    requires indexed { of_table Indexed table.now rows.old }
+    ensures found_value { result ≡ of_table path_on table.now b a }
+    ensures still_indexed { of_table Indexed table.now rows.new }
 {
-    let n = board.vertices;
-    if is_ahead(order, sorted, n, a, b) {
-        return Looked { found: false, made };
+    let n = table.board.vertices;
+    if is_ahead(order, n, a, b) {
+        return false;
     }
-    let at = n * b + a;
-    if cells::is_arc(table[at]) {
-        return Looked { found: true, made };
+    if cells::is_arc(table.cell(b, a)) {
+        return true;
     }
-    index(board, table, words, made);
-    let found = reach::leads(&words[..n], b, a);
-    Looked { found, made: true }
+    if rows.is_none() {
+        *rows = Some(row_sets(table));
+    }
+    match &*rows {
+        Some(made) => reach::leads(&made[..n], b, a),
+        None => false,
+    }
 }
 
-// What is left to ask where e is the common difference, and `back` says whether a path leads back.
-pub fn outputs_saved(
-    board: Board,
-    table: &[i32],
-    back: bool,
-    b: usize,
-    e: i64,
-) -> Result<i64, Refusal>
-    requires lent { Lent board table.now }
-    requires b_lt_vertices { b < board.vertices }
-    ensures { (a : ℕ) → back ≡ path_on board table.now b a → verdict result ≡ outputs_saved_on board table.now a b e }
+// What is left to ask where e is the common difference, and no path leads from b to a.
+pub fn saved_without_path(table: &Table, b: usize, e: i64) -> Result<i64, Refusal>
+    requires { b < table.now.board.vertices }
+    ensures { (a : ℕ) → of_table path_on table.now b a ≡ false → verdict result ≡ of_table outputs_saved_on table.now a b e }
 {
-    if back {
-        return Err(Refusal::PathBack);
-    }
-    if cells::fan_in(board, table, b) < 2 {
+    if table.fan_in(b) < 2 {
         return Err(Refusal::NothingSaved);
     }
     if !cells::in_range(e) {
@@ -150,23 +155,21 @@ pub fn outputs_saved(
 
 // The conditions of share outputs, in document 01's order.
 pub fn share_outputs_verdict(
-    board: Board,
-    table: &[i32],
-    order: &Order,
+    sorted: &Sorted,
     scratch: &mut [i64],
     a: usize,
     b: usize,
 ) -> Result<i64, Refusal>
-    requires passable { Passable board table.now order.now }
-    requires scratch_room { ScratchRoom board scratch.old }
-    ensures result_value { verdict result ≡ share_outputs_on board table.now a b }
-    ensures past_scratch { PastScratch board scratch.old scratch.new }
+    requires { ScratchRoom sorted.now.table.board scratch.old }
+    ensures result_value { verdict result ≡ of_table share_outputs_on sorted.now.table a b }
+    ensures past_scratch { PastScratch sorted.now.table.board scratch.old scratch.new }
 {
-    if !two_outputs(board, a, b) {
+    if !two_outputs(sorted.table.board, a, b) {
         return Err(Refusal::WrongVertex);
     }
-    let e = columns_difference(board, table, order, scratch, a, b)?;
-    let mut words = reach::sets();
-    let looked = path_back(board, table, order, true, &mut words, false, a, b);
-    outputs_saved(board, table, looked.found, b, e)
+    let e = columns_difference(sorted, scratch, a, b)?;
+    if path_back(&sorted.table, Some(&sorted.order), &mut None, a, b) {
+        return Err(Refusal::PathBack);
+    }
+    saved_without_path(&sorted.table, b, e)
 }

@@ -4,3 +4,4 @@ pub mod AliveSweep
 pub mod Marking
 pub mod MarkedRows
 pub mod PruneOutcome
+mod TightMarks

@@ -29,9 +29,9 @@ AlsoMarked N f marks₀ marks = (u v : ℕ) → u < N → v < N → get_or marks
 abbrev pub MarkedFrom : Board → ℕ → List ℤ → List Bool → List Bool → Type 0
 MarkedFrom b i t = AlsoMarked b.vertices (decides_from b.inputs b.outputs (longest (graph_of b.vertices t) b.vertices) (graph_of b.vertices t) i)
 
--- those that decide one from an input from i to i + 3
-abbrev pub MarkedFour : Board → ℕ → List ℤ → List Bool → List Bool → Type 0
-MarkedFour b i t = AlsoMarked b.vertices (λ u v. some 4 (λ l. decides_from b.inputs b.outputs (longest (graph_of b.vertices t) b.vertices) (graph_of b.vertices t) (i + l) u v))
+-- those that decide one from an input from i on, as many as there are lanes
+abbrev pub MarkedEach : ℕ → ℕ → Board → List ℤ → List Bool → List Bool → Type 0
+MarkedEach lanes i b t = AlsoMarked b.vertices (λ u v. some lanes (λ l. decides_from b.inputs b.outputs (longest (graph_of b.vertices t) b.vertices) (graph_of b.vertices t) (i + l) u v))
 
 -- f has the greatest delays from input i
 pub record DelaysIn (b : Board) (t : List ℤ) (i : ℕ) (f : List ℤ) : Type 0 where

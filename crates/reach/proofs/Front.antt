@@ -1,11 +1,10 @@
 -- The first sets of a longer list.
-use Rattle.std.proofs.Common.{◌≡◌, sym, ap, ◌∙◌, subst, List, ℕ, ◌≤◌, length, take, cond, eqb, arith}
-use Rattle.std.proofs.lemmas.List.{places, get_or-take, get_or_append_left}
-use borrow.Rule.Slice.PartMut.{put_mid}
+use Rattle.std.proofs.Common.{◌≡◌, sym, ap, ◌∙◌, subst, List, ℕ, length, take, arith}
+use Rattle.std.proofs.lemmas.List.{places, get_or-take}
 use Rattle.graph.specs.Graph.{Graph}
 use Rattle.sets.specs.declared.Set.{Set}
 use Rattle.sets.specs.Sets.{holds}
-use Rattle.reach.specs.RowSets.{RowSets, Rowed, OneSource}
+use Rattle.reach.specs.RowSets.{RowSets, Rowed}
 
 -- the sets of a graph alone, where more are lent
 pub front_long : {N : ℕ} {g : Graph} {sets : List Set} → RowSets N g sets → length (take N sets) ≡ N
@@ -18,15 +17,3 @@ rowed_front {N} {g} {sets} r =
       rows = record { long = omega (arith, front_long r.rows); row = λ u l v. ap (λ (s : Set). holds s v) (get_or-take N sets u _ l) ∙ r.rows.row u l v };
       inside = r.inside;
     })
-
--- after a change of those alone
-pub one_source_front : (N a b : ℕ) (sets front : List Set) → N ≤ length sets → OneSource (length (take N sets)) a b (take N sets) front → OneSource N a b sets (put_mid 0 N sets front)
-one_source_front N a b sets front h one = record {
-  long = grind (arith, places, one.long);
-  rows = λ u v l.
-      ap (λ (s : Set). holds s v) (get_or_append_left front _ _ u (omega (arith, one.long, whole)))
-      ∙ one.rows u v (omega (arith, whole)) ∙ ap (λ (s : Set). cond (eqb v b) (eqb u a) (holds s v)) (get_or-take N sets u _ l);
-}
-  where
-    whole : length (take N sets) ≡ N
-    whole = grind (arith, places)

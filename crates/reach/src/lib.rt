@@ -5,20 +5,13 @@ ghost use Rattle.std.specs.Prelude.{◌≡◌, ◌&&◌, ℕ, ◌<◌, ◌≤◌
 ghost use Rattle.graph.specs.Delay.{present};
 ghost use Rattle.graph.specs.Graph.{Graph, longest};
 ghost use Rattle.timing.specs.Limits.{max_vertices};
-ghost use Rattle.paths.specs.Board.{Lent, graph_in};
 ghost use Rattle.paths.specs.Cells.{cell_at};
+ghost use Rattle.paths.specs.Tables.{timing_graph};
 ghost use Rattle.sets.specs.Sets.{holds};
 ghost use Rattle.reach.specs.RowSets.{Targets, RowSets, Rowed, OneSource};
 
-use paths::{Board, cells};
+use paths::{Board, Table, cells};
 use sets::Set;
-
-// Local memory for the sets of any board.
-pub fn sets() -> [Set; Board::MAX_VERTICES]
-    ensures { length result ≡ max_vertices }
-{
-    [Set::empty(); Board::MAX_VERTICES]
-}
 
 // The targets of a row.
 fn row_set(row: &[i32]) -> Set
@@ -35,23 +28,20 @@ fn row_set(row: &[i32]) -> Set
 }
 
 // The targets of vertex u.
-fn targets(board: Board, table: &[i32], u: usize) -> Set
-    requires lent { Lent board table.now }
-    requires u_lt_vertices { u < board.vertices }
-    ensures { Targets (graph_in board table.now) u result }
+fn targets(table: &Table, u: usize) -> Set
+    requires { u < table.now.board.vertices }
+    ensures { Targets (timing_graph table.now) u result }
 {
-    let n = board.vertices;
-    row_set(&table[n * u..n * u + n])
+    row_set(table.row(u))
 }
 
 // The targets of every vertex.
-pub fn row_sets(board: Board, table: &[i32], sets: &mut [Set])
-    requires lent { Lent board table.now }
-    requires vertices_in_bounds { board.vertices ≤ length sets.old }
-    ensures { RowSets board.vertices (graph_in board table.now) sets.new }
+pub fn row_sets(table: &Table, sets: &mut [Set])
+    requires { table.now.board.vertices ≤ length sets.old }
+    ensures { RowSets table.now.board.vertices (timing_graph table.now) sets.new }
 {
-    for u in 0..board.vertices {
-        sets[u] = targets(board, table, u);
+    for u in 0..table.board.vertices {
+        sets[u] = targets(table, u);
     }
 }
 

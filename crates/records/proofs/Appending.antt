@@ -1,15 +1,17 @@
 -- Appending piece by piece.
 use mathlib.Core.Path.{◌≡◌, refl, sym, ap, ◌∙◌, subst}
 use mathlib.Core.List.{List, [], ◌∷◌, ◌++◌, append_assoc}
-use Prim.Native.Nat.{ℕ, zero, suc, ◌+◌}
+use Prim.Native.Nat.{ℕ, suc, ◌+◌, ◌≤◌, ◌<◌}
 use native.Mathlib.Omega.{arith}
-use lib.ListN.{length, set, length-append}
+use lib.ListN.{length, set, length-append, length-take, length-drop}
 use lib.ListN.{take, drop}
 use lib.Seq.{sets, length-sets, drop-drop}
 use borrow.Rule.Slice.PartMut.{put_mid}
 use Rattle.std.proofs.lemmas.List.Edits.{sets-eq}
 use Rattle.laws.specs.Lists.{tabulate}
-use Rattle.codec.specs.Bytes.{byte_of, with_number}
+use Rattle.laws.proofs.Lists.{length-tabulate}
+use Rattle.codec.specs.Bytes.{byte_of}
+use Rattle.codec.proofs.Bytes.{byte_first}
 use Rattle.records.specs.declared.put.Writer.{Writer}
 use Rattle.records.specs.Appending.{RoomFor, Appends}
 use Rattle.records.specs.Writing.{Puts}
@@ -35,15 +37,6 @@ appends_same {s = s} {s'} {p} {q} e a = subst (λ (l : List ℕ). Appends l s p 
 pub appends_length : {xs s s' : List ℕ} {p q : ℕ} → Appends xs s p s' q → length s' ≡ length s
 appends_length {xs} {s} {p = p} a = ap length a.bytes ∙ length-sets s p xs
 
-number_more : (s : List ℕ) (p w x : ℕ) → Appends (tabulate w (byte_of x)) s p (with_number w s p x) (p + w)
-unfolding tabulate with_number
-number_more s p zero x = record { bytes = refl; end = refl }
-number_more s p (suc w) x = appends_more (number_more s p w x) (record { bytes = refl; end = omega arith })
-
--- a number that `codec` wrote
-pub appends_number : (s : List ℕ) (p w x : ℕ) (after : List ℕ) → after ≡ with_number w s p x → Appends (tabulate w (byte_of x)) s p after (p + w)
-appends_number s p w x after e = let n = number_more s p w x in record { bytes = e ∙ n.bytes; end = n.end }
-
 -- a part of the run that was overwritten
 pub appends_part : (xs s : List ℕ) (p k : ℕ) → RoomFor xs s p → k ≡ length xs → Appends xs s p (put_mid p k s xs) (p + length xs)
 appends_part xs s p k room e = record {
@@ -52,6 +45,15 @@ appends_part xs s p k room e = record {
       ap (λ (l : List ℕ). take p s ++ (xs ++ l)) d ∙ sym (append_assoc (take p s) xs (drop (p + length xs) s)) ∙ sym (sets-eq xs s p room);
   end = refl;
 }
+
+-- w bytes that were written as f says
+pub appends_bytes : (s : List ℕ) (p w k : ℕ) (f : ℕ → ℕ) (part : List ℕ) → p + w ≤ length s → k ≡ w → part ≡ tabulate (length (take k (drop p s))) f → Appends (tabulate w f) s p (put_mid p k s part) (p + w)
+appends_bytes s p w k f part h q e =
+    let long : length (take k (drop p s)) ≡ w = simp (length-take, length-drop) (omega arith) in
+    let is : part ≡ tabulate w f = e ∙ ap (λ (n : ℕ). tabulate n f) long in
+    let size : length (tabulate w f) ≡ w = length-tabulate f w in
+    let a = appends_part (tabulate w f) s p k (omega arith) (q ∙ sym size) in
+    record { bytes = ap (put_mid p k s) is ∙ a.bytes; end = omega (arith, size) }
 
 -- ---- writers
 
@@ -74,3 +76,8 @@ puts_by e w = record { same_run = e; same_len = appends_length w; appends = w }
 -- what a run holds that was lent to a writer
 pub appends_by : {xs s after : List ℕ} {a w : Writer} → Puts xs a w → a.out.now ≡ s → a.at ≡ 0 → after ≡ w.out.now → Appends xs s 0 after w.at
 appends_by {xs} {w = w} p e z q = record { bytes = q ∙ p.appends.bytes ∙ (λ i. sets (e i) (z i) xs); end = omega (arith, p.appends.end, z) }
+
+-- a number of one byte
+pub byte_alone : (x : ℕ) → x < 256 → tabulate 1 (byte_of x) ≡ x ∷ []
+unfolding tabulate
+byte_alone x h = let e : byte_of x 0 ≡ x = byte_first x ∙ omega arith in ap (λ (y : ℕ). y ∷ []) e

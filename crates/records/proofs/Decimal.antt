@@ -25,15 +25,6 @@ use Rattle.records.specs.Lines.{DelayInRange}
 abbrev pub Longer : ℕ → ℕ → Type 0
 Longer x k = (j : ℕ) → j < k → 10 ^ suc j ≤ x
 
-pub longer_more : (x k p : ℕ) → p ≡ 10 ^ k → p ≤ x / 10 → Longer x k → Longer x (suc k)
-longer_more x k p e l h j b = split (eq-or-lt_of_le (below b)) (λ q. ap_le q) (λ c. h j c)
-  where
-    below : j < suc k → j ≤ k
-    below b = omega arith
-
-    ap_le : j ≡ k → 10 ^ suc j ≤ x
-    ap_le q = omega (arith, ap (λ (i : ℕ). 10 ^ suc i) q, pow-suc 10 k, e, l)
-
 pub digits_are : (x k p : ℕ) → p ≡ 10 ^ k → x / 10 < p → k ≤ 9 → Longer x k → digits_of x ≡ suc k
 unfolding digits_of
 digits_are x k p e l few h = ap suc (split (eq-or-lt_of_le few)

@@ -1,5 +1,5 @@
 -- The two ends of an arc's record: what the code asks of them first, and what follows.
-use mathlib.Core.Path.{◌≡◌, refl, ap, ◌∙◌, subst}
+use mathlib.Core.Path.{◌≡◌, refl, sym, ap, ◌∙◌, subst}
 use mathlib.Core.Bool.{Bool, true, false, ◌&&◌}
 use mathlib.Core.List.{List}
 use Prim.Native.Nat.{ℕ, ◌+◌, ◌≤◌, ◌<◌}
@@ -11,17 +11,25 @@ use Rattle.timing.specs.declared.Refusal.TheVariants.{FileEnds, WrongField}
 use Rattle.timing.specs.Limits.{delay_limit, fits}
 use Rattle.timing.specs.Refusal.{Verdict, accepted, require, ◌then◌}
 use Rattle.timing.proofs.Verdict.{require_accepted, same_accepted}
-use Rattle.codec.specs.Bytes.{signed_at}
+use Rattle.codec.specs.Bytes.{unsigned_at, signed_at}
 use Rattle.format.specs.declared.Mark.TheVariants as M
 use Rattle.format.specs.declared.Record.{Record}
 use Rattle.format.specs.declared.Record.TheVariants as R
 use Rattle.format.specs.Records.{byte_at, from, to, body}
-use Rattle.records.specs.Records.{ends_of}
+use Rattle.records.specs.Records.{ends_of, count_of}
 
 then_more : {A B : Type 0} (b c : Bool) (a : A) (f : A → Verdict B) {v : Verdict A} → require b FileEnds (require c WrongField (accepted a)) ≡ v → require b FileEnds (require c WrongField (f a)) ≡ (v then f)
 then_more false c a f e = ap (λ x. x then f) e
 then_more true false a f e = ap (λ x. x then f) e
 then_more true true a f e = ap (λ x. x then f) e
+
+-- the record of a count
+pub count_is : {A : Type 0} (f : ℕ → A) (s : List ℕ) (p : ℕ) {v : Verdict ℕ} → v ≡ count_of s p → require (leb (p + 4) (length s)) FileEnds (accepted (f (unsigned_at 2 s (p + 2)))) ≡ (v then λ k. accepted (f k))
+count_is f s p e = go (leb (p + 4) (length s)) ∙ ap (λ v. v then λ k. accepted (f k)) (sym e)
+  where
+    go : (b : Bool) → require b FileEnds (accepted (f (unsigned_at 2 s (p + 2)))) ≡ (require b FileEnds (accepted (unsigned_at 2 s (p + 2))) then λ k. accepted (f k))
+    go true = refl
+    go false = refl
 
 both_fields : {A : Type 0} (c d : Bool) (x : Verdict A) → require (c && d) WrongField x ≡ require c WrongField (require d WrongField x)
 both_fields false d x = refl

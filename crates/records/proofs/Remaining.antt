@@ -6,15 +6,12 @@ use native.Mathlib.Omega.{arith}
 use lib.ListN.{length, length-append}
 use Rattle.records.specs.declared.put.Writer.{Writer}
 use Rattle.records.specs.Writing.{HasRoom, Puts}
-use Rattle.records.proofs.Appending.{puts_none, puts_more, puts_same}
+use Rattle.records.proofs.Appending.{puts_more, puts_same}
 
 pub record Remains (whole : List ℕ) (a : Writer) (rest : List ℕ) (w : Writer) : Type 0 where
   pub done : List ℕ
   pub puts : Puts done a w
   pub parts : done ++ rest ≡ whole
-
-pub remains_all : {whole rest : List ℕ} {a : Writer} → rest ≡ whole → Remains whole a rest a
-remains_all e = record { done = []; puts = puts_none; parts = e }
 
 module _ {whole rest : List ℕ} {a w : Writer} (r : Remains whole a rest w) where
   -- there is room for the next part

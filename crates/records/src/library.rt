@@ -1,12 +1,12 @@
-// What stands at an offset of a library file.
+// What stands at an offset of a library file, which is told by offset as in `parse`.
 ghost use Rattle.timing.specs.Refusal.{verdict};
 ghost use Rattle.std.specs.Prelude.{◌≡◌, ◌+◌, ◌≤◌, length};
-ghost use Rattle.format.specs.declared.Mark.TheVariants.{End, Library};
+ghost use Rattle.format.specs.declared.Mark.TheVariants.{Library};
 ghost use Rattle.format.specs.Library.{ticks_fit};
 ghost use Rattle.format.specs.LibraryFile.{entry_body, entry_at};
 
 use crate::parse;
-use codec::{signed, unsigned};
+use codec::signed;
 use format::{Entry, Mark};
 use paths::cells;
 use timing::Refusal;
@@ -15,13 +15,13 @@ use timing::Refusal;
 pub const CODES: usize = 32;
 
 // The most ticks of a code.
-pub const MAX_TICKS: i64 = 1_000_000;
+pub const MAX_TICKS: i32 = 1_000_000;
 
 // Whether a code may have so many ticks.
 fn ticks_fit(x: i64) -> bool
     ensures { result ≡ ticks_fit x }
 {
-    (0..=MAX_TICKS).contains(&x)
+    (0..=i64::from(MAX_TICKS)).contains(&x)
 }
 
 fn ticks_at(bytes: &[u8], at: usize) -> Result<Entry, Refusal>
@@ -35,21 +35,11 @@ fn ticks_at(bytes: &[u8], at: usize) -> Result<Entry, Refusal>
     if code >= CODES {
         return Err(Refusal::WrongField);
     }
-    let ticks = signed::decode(bytes, at + 3, 4);
+    let ticks = signed::decode(&bytes[at + 3..at + 7]);
     if !ticks_fit(ticks) {
         return Err(Refusal::WrongLibrary);
     }
     Ok(Entry::Ticks(code, cells::narrow(ticks)))
-}
-
-fn count_at(bytes: &[u8], at: usize) -> Result<Entry, Refusal>
-    requires { at + 2 ≤ length bytes.now }
-    ensures { verdict result ≡ entry_body bytes.now at End }
-{
-    if bytes.len() - at < 4 {
-        return Err(Refusal::FileEnds);
-    }
-    Ok(Entry::End(unsigned::number(bytes, at + 2, 2) as usize))
 }
 
 // The record at `at`.
@@ -63,7 +53,7 @@ pub fn entry_at(bytes: &[u8], at: usize) -> Result<Entry, Refusal>
     }
     match parse::mark_at(bytes, at) {
         Mark::Library => ticks_at(bytes, at),
-        Mark::End => count_at(bytes, at),
+        Mark::End => Ok(Entry::End(parse::count_at(bytes, at)?)),
         Mark::Board | Mark::Arc | Mark::Cell | Mark::Other => Err(Refusal::WrongMark),
     }
 }

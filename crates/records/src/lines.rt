@@ -1,7 +1,7 @@
 // Lines of text: words with a space between two, numbers in decimal, and a newline.
 ghost use Rattle.std.specs.Prelude.{◌≡◌, [], ◌∷◌, ◌<◌, ◌^◌};
 ghost use Rattle.std.specs.Fmt.{decimal};
-ghost use Rattle.format.specs.Reading.{sizes};
+ghost use Rattle.timing.specs.Checks.{sizes};
 ghost use Rattle.format.specs.Text.{line, board_line, arc_line, counts_line, refused_line};
 ghost use Rattle.records.specs.Lines.{DelayInRange};
 ghost use Rattle.records.specs.Writing.{HasRoom, Puts};

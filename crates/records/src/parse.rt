@@ -1,11 +1,11 @@
-// What stands at an offset of a file.
+// What stands at an offset of a file. The whole file and the offset are given, not the rest of it: what is found is said, and a refusal told, by offset.
 ghost use Rattle.timing.specs.Refusal.{verdict};
-ghost use Rattle.std.specs.Prelude.{◌≡◌, ◌&&◌, ℕ, ◌+◌, ◌*◌, ◌<◌, ◌≤◌, ltb, length};
+ghost use Rattle.std.specs.Prelude.{◌≡◌, ◌&&◌, ◌+◌, ◌*◌, ◌<◌, ◌≤◌, ltb, length};
 ghost use Rattle.timing.specs.Limits.{max_vertices};
-ghost use Rattle.format.specs.declared.Mark.TheVariants.{Arc, Cell, End};
+ghost use Rattle.format.specs.declared.Mark.TheVariants.{Arc, Cell};
 ghost use Rattle.format.specs.Library.{ticks_of};
 ghost use Rattle.format.specs.Records.{byte_at, letters, mark_at, body, record_at};
-ghost use Rattle.records.specs.Records.{ends_of};
+ghost use Rattle.records.specs.Records.{ends_of, count_of};
 
 use codec::{signed, unsigned};
 use format::{Mark, Record};
@@ -84,7 +84,7 @@ fn arc_at(bytes: &[u8], n: usize, at: usize) -> Result<Record, Refusal>
     ensures { verdict result ≡ body n bytes.now at Arc }
 {
     let (u, v) = ends_at(bytes, n, at, 8)?;
-    let d = signed::decode(bytes, at + 4, 4);
+    let d = signed::decode(&bytes[at + 4..at + 8]);
     if !cells::in_range(d) {
         return Err(Refusal::WrongField);
     }
@@ -99,14 +99,15 @@ fn cell_at(bytes: &[u8], n: usize, at: usize) -> Result<Record, Refusal>
     Ok(Record::Cell(u, v, bytes[at + 4]))
 }
 
-fn end_at(bytes: &[u8], at: usize) -> Result<Record, Refusal>
+// The count in a last record; 15 where it is not all there.
+pub fn count_at(bytes: &[u8], at: usize) -> Result<usize, Refusal>
     requires { at + 2 ≤ length bytes.now }
-    ensures { (n : ℕ) → verdict result ≡ body n bytes.now at End }
+    ensures { verdict result ≡ count_of bytes.now at }
 {
     if bytes.len() - at < 4 {
         return Err(Refusal::FileEnds);
     }
-    Ok(Record::End(unsigned::number(bytes, at + 2, 2) as usize))
+    Ok(unsigned::number(&bytes[at + 2..at + 4]))
 }
 
 // The record at `at`, in a file of n vertices.
@@ -121,7 +122,7 @@ pub fn record_at(bytes: &[u8], n: usize, at: usize) -> Result<Record, Refusal>
     match mark_at(bytes, at) {
         Mark::Arc => arc_at(bytes, n, at),
         Mark::Cell => cell_at(bytes, n, at),
-        Mark::End => end_at(bytes, at),
+        Mark::End => Ok(Record::End(count_at(bytes, at)?)),
         Mark::Board | Mark::Library | Mark::Other => Err(Refusal::WrongMark),
     }
 }

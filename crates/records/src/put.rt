@@ -1,5 +1,5 @@
 // Appending to a lent run of bytes.
-ghost use Rattle.std.specs.Prelude.{◌≡◌, [], ◌∷◌, ◌<◌, ◌^◌, T, length};
+ghost use Rattle.std.specs.Prelude.{◌≡◌, [], ◌∷◌, ◌<◌, ◌^◌, T};
 ghost use Rattle.laws.specs.Lists.{tabulate};
 ghost use Rattle.codec.specs.Bytes.{Room, byte_of, pattern, in_width};
 
@@ -32,7 +32,7 @@ impl<'a> Writer<'a> {
         let at = self.at;
         let end = at + text.len();
         self.out[at..end].copy_from_slice(text);
-        self.at = end;
+        self.at += text.len();
     }
 
     pub fn byte(&mut self, b: u8)
@@ -44,24 +44,37 @@ impl<'a> Writer<'a> {
         self.at = at + 1;
     }
 
-    pub fn unsigned(&mut self, width: usize, x: u64)
+    // A number's bytes, low byte first.
+    pub fn unsigned(&mut self, width: usize, x: usize)
         requires room { Room self.old.out.now self.old.at width }
         requires x_bound { x < 256 ^ width }
         ensures { Puts (tabulate width (byte_of x)) self.old self.new }
     {
         let at = self.at;
-        unsigned::put_number(self.out, at, width, x);
-        self.at = at + width;
+        let end = at + width;
+        unsigned::put_number(&mut self.out[at..end], x);
+        self.at = end;
     }
 
+    // A number below 256, as a byte.
+    pub fn small(&mut self, x: usize)
+        requires x_bound { x < 256 }
+        requires room { HasRoom (x ∷ []) self.old }
+        ensures { Puts (x ∷ []) self.old self.new }
+    {
+        self.unsigned(1, x);
+    }
+
+    // Not one generic function with `unsigned`: which numbers have so many bytes, and what the bytes are, differs.
     pub fn signed(&mut self, width: usize, x: i64)
         requires room { Room self.old.out.now self.old.at width }
-        requires t { T (in_width width x) }
+        requires fits_width { T (in_width width x) }
         ensures { Puts (tabulate width (byte_of (pattern width x))) self.old self.new }
     {
         let at = self.at;
-        signed::encode(self.out, at, width, x);
-        self.at = at + width;
+        let end = at + width;
+        signed::encode(&mut self.out[at..end], x);
+        self.at = end;
     }
 
     // A number after another word, in decimal.

@@ -10,7 +10,7 @@ use lib.Dec.{T, eqb, ltb, ltb→lt}
 use Rattle.laws.specs.Bounded.{sum, member, each}
 use Rattle.laws.proofs.Booleans.{eqb_same, eqb_other, cond_elim}
 use Rattle.laws.proofs.Sums.{sum_le, sum_add, sum_zero, sum_but_one, sum_single}
-use Rattle.graph.specs.Delay.{Delay, absent, at, present, ◌⋓◌, ◌⊕◌, ◌⊑◌, ◌⊖◌, least}
+use Rattle.graph.specs.Delay.{Delay, absent, present, ◌⋓◌, ◌⊕◌, ◌⊑◌, ◌⊖◌, least}
 use Rattle.graph.specs.Graph.{Graph}
 use Rattle.graph.specs.Count.{bit, fan_in, fan_out, arcs}
 use Rattle.graph.proofs.Delay.{absent_⊑, ⊑_refl, ⊑_trans, ⊑-antisym, ⊕-absent, ⊕-right, ⋓-l, ⋓-lub, ⊖-⊕, least-⊑}

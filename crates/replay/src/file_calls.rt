@@ -42,6 +42,7 @@ pub fn write(lent: &Lent, page: &mut Page) -> Option<()> {
 pub fn read(lent: &mut Lent, library: &Library, page: &mut Page) -> Option<()> {
     let mut file = [0; memory::FILE];
     let file = input::file(&mut file)?;
+    // By hand: the borrow checker has no rule yet for two fields lent behind one reference.
     let table = &mut *lent.table;
     let scratch = &mut *lent.scratch;
     let answer = read::read(file, table, scratch, &library.cells[..library.held]);
@@ -53,6 +54,7 @@ pub fn read(lent: &mut Lent, library: &Library, page: &mut Page) -> Option<()> {
 pub fn read_library(lent: &Lent, library: &mut Library, page: &mut Page) -> Option<()> {
     let mut file = [0; memory::FILE];
     let file = input::file(&mut file)?;
+    // A copy: the borrow checker has no rule yet that lends a field of a struct with an invariant.
     let mut cells = library.cells;
     let answer = read_library::read_library(file, &mut cells[..library.held]);
     library.cells = cells;

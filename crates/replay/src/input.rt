@@ -1,7 +1,7 @@
 // Standard input, piece by piece. A failed read counts as the end.
 ghost use Rattle.std.specs.Prelude.{◌≤◌, length, IfSome};
 
-// A number whose low byte comes first.
+// A number whose low byte comes first. The impls are alike, for `rt ci` takes none that a macro of this repository writes.
 pub trait Number {
     fn next() -> Option<Self>;
 }

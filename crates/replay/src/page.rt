@@ -22,6 +22,7 @@ impl Page {
     }
 
     pub fn print<D: fmt::Display + Drop>(&mut self, text: D) {
+        // A page takes all text; only a `Display` that fails could answer `Err`, and none here does.
         let _ = fmt::Write::write_fmt(self, text);
     }
 

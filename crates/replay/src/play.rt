@@ -26,6 +26,8 @@ fn call(kind: Kind, lent: &mut Lent, library: &mut Library, page: &mut Page) -> 
     Some(())
 }
 
+// Lent memory, library and page stay parameters: a call borrows them apart, and of a struct that holds them it could not.
+
 // The next call, with a scratch of `room` cells.
 fn turn(
     sizes: Sizes,

@@ -19,6 +19,7 @@ fn queried(
 }
 
 pub fn delay_matrix(lent: &mut Lent, page: &mut Page) -> Option<()> {
+    // By hand: the borrow checker has no rule yet for two fields lent behind one reference.
     let table = &mut *lent.table;
     let scratch = &mut *lent.scratch;
     let Sizes {
@@ -34,6 +35,7 @@ pub fn delay_matrix(lent: &mut Lent, page: &mut Page) -> Option<()> {
 }
 
 pub fn output_arrivals(lent: &mut Lent, page: &mut Page) -> Option<()> {
+    // By hand: the borrow checker has no rule yet for two fields lent behind one reference.
     let table = &mut *lent.table;
     let scratch = &mut *lent.scratch;
     let Sizes {

@@ -19,6 +19,7 @@ fn make<S: FnOnce(usize, usize, usize, &mut [i32], &mut [i64]) -> Result<usize, 
         outputs,
         vertices,
     } = lent.sizes;
+    // By hand: the borrow checker has no rule yet for two fields lent behind one reference.
     let table = &mut *lent.table;
     let scratch = &mut *lent.scratch;
     let answer = step(inputs, outputs, vertices, table, scratch);
@@ -83,6 +84,7 @@ pub fn run(lent: &mut Lent, page: &mut Page) {
         outputs,
         vertices,
     } = lent.sizes;
+    // By hand: the borrow checker has no rule yet for two fields lent behind one reference.
     let table = &mut *lent.table;
     let scratch = &mut *lent.scratch;
     let answer = run::calls::run(inputs, outputs, vertices, table, scratch);

@@ -20,13 +20,12 @@ use Rattle.reduction.specs.ShareOutputs.{outputs_shared}
 use Rattle.reduction.specs.Run.{fresh_number}
 use Rattle.paths.specs.declared.board.Board.{Board}
 use Rattle.paths.specs.Checked.{Checked}
-use Rattle.run.specs.declared.side.Side.{Side}
-use Rattle.run.specs.declared.side.Side.TheVariants.{Inputs, Outputs}
+use Rattle.run.specs.Sides.{Side, Inputs, Outputs}
 use Rattle.run.specs.Sides.{OnSide, is_rich}
 use Rattle.run.specs.Pairs.{Pair}
-use Rattle.run.specs.Running.{Ready, Counted}
+use Rattle.run.specs.Running.{Counted, TriesShare, fresh_on}
 use Rattle.run.proofs.Lines.{side_fits}
-use Rattle.run.proofs.TriedShares.{shared, Trying, share_graph}
+use Rattle.run.proofs.TriedShares.{shared, share_graph}
 
 module _ (N : ℕ) (g : Graph) (a b : ℕ) (e : ℤ) (v : ℕ) (v-a : v ≢ a) (v-b : v ≢ b) where
   -- share inputs changes the rows a, b and k alone
@@ -39,18 +38,18 @@ module _ (N : ℕ) (g : Graph) (a b : ℕ) (e : ℤ) (v : ℕ) (v-a : v ≢ a) (
   unfolding fan_in outputs_shared
   column-stays = sum_eq N _ _ (λ u _. rw (eqb_other v b v-b) refl)
 
-module _ {board : Board} {t : List ℤ} {o : List ℕ} {a b k : ℕ} {sorted : Bool} where
-  others_stay : (side : Side) → Ready side board t o k sorted → (e : ℤ) (v : ℕ) → OnSide board side v → v ≢ a → v ≢ b
-      → is_rich side board.vertices (shared side a b k (graph_of board.vertices t) e) v ≡ is_rich side board.vertices (graph_of board.vertices t) v
+module _ (board : Board) (t : List ℤ) (a b : ℕ) where
+  others_stay : (side : Side) (e : ℤ) (v : ℕ) → OnSide board side v → v ≢ a → v ≢ b
+      → is_rich side board.vertices (shared side a b (fresh_on board t) (graph_of board.vertices t) e) v ≡ is_rich side board.vertices (graph_of board.vertices t) v
   unfolding fresh_number
-  others_stay Inputs ready e v on v-a v-b = ap (leb 3) (row_stays board.vertices (graph_of board.vertices t) a b e v v-a v-b k (λ q. omega (arith, q, on.below, ready.fresh refl)))
-  others_stay Outputs ready e v on v-a v-b = ap (leb 2) (column-stays board.vertices (graph_of board.vertices t) a b e v v-a v-b)
+  others_stay Inputs e v on v-a v-b = ap (leb 3) (row_stays board.vertices (graph_of board.vertices t) a b e v v-a v-b (fresh_on board t) (λ q. omega (arith, q, on.below)))
+  others_stay Outputs e v on v-a v-b = ap (leb 2) (column-stays board.vertices (graph_of board.vertices t) a b e v v-a v-b)
 
   -- x and y are the new counts of a and b
-  pub counted_again : (side : Side) → Checked board t → Ready side board t o k sorted → Pair side board a b → (rich : List Bool) → Counted side board t rich
-      → (after : List ℤ) → Trying board t side a b k after true → (x y : Bool) → x ≡ is_rich side board.vertices (graph_of board.vertices after) a → y ≡ is_rich side board.vertices (graph_of board.vertices after) b
+  pub counted_again : (side : Side) → Checked board t → Pair side board a b → (rich : List Bool) → Counted side board t rich
+      → (after : List ℤ) → TriesShare side board a b t after true → (x y : Bool) → x ≡ is_rich side board.vertices (graph_of board.vertices after) a → y ≡ is_rich side board.vertices (graph_of board.vertices after) b
       → Counted side board after (set (set rich a x) b y)
-  counted_again side ok ready pair rich h after tried x y x-is y-is = record {
+  counted_again side ok pair rich h after tried x y x-is y-is = record {
     long = length-set (set rich a x) b y ∙ length-set rich a x ∙ h.long;
     each = λ v on. go v on (ℕ_discrete v b) (ℕ_discrete v a);
   }
@@ -59,12 +58,12 @@ module _ {board : Board} {t : List ℤ} {o : List ℕ} {a b k : ℕ} {sorted : B
       now v = is_rich side board.vertices (graph_of board.vertices after) v
 
       inside : (v : ℕ) → OnSide board side v → v < length rich
-      inside v on = omega (arith, on.below, side_fits side board ok.lent.sized, h.long)
+      inside v on = omega (arith, on.below, side_fits side board, h.long)
 
       go : (v : ℕ) → OnSide board side v → Dec (v ≡ b) → Dec (v ≡ a) → get_or (set (set rich a x) b y) v false ≡ now v
       go v on (yes q) _ = rw q (get_or-set_same (set rich a x) b y false (omega (arith, inside b pair.other, length-set rich a x)) ∙ y-is)
       go v on (no v-b) (yes q) = get_or-set_other (set rich a x) b v y false v-b ∙ rw q (get_or-set_same rich a x false (inside a pair.one) ∙ x-is)
       go v on (no v-b) (no v-a) =
-          let made = share_graph board t side a b k ok after tried in
+          let made = share_graph board t side a b (fresh_on board t) ok after tried in
           get_or-set_other (set rich a x) b v y false v-b ∙ get_or-set_other rich a v x false v-a ∙ h.each v on
-          ∙ sym (others_stay side ready made.0 v on v-a v-b) ∙ ap (λ (f : Graph). is_rich side board.vertices f v) (sym made.1)
+          ∙ sym (others_stay side made.0 v on v-a v-b) ∙ ap (λ (f : Graph). is_rich side board.vertices f v) (sym made.1)

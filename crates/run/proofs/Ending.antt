@@ -13,12 +13,11 @@ use Rattle.laws.proofs.Booleans.{cases, true_is, eqb_same, eqb_other, neqb→ne}
 use Rattle.graph.specs.Count.{arcs}
 use Rattle.timing.specs.Table.{graph_of}
 use Rattle.timing.specs.declared.Refusal.{Refusal}
-use Rattle.timing.specs.Refusal.{Verdict, accepted}
-use Rattle.reduction.specs.Outcome.{Reduced}
+use Rattle.timing.specs.Refusal.{accepted}
 use Rattle.reduction.specs.Run.{Progress, round, rounds, tries, reduce, whole_run, run_call}
 use Rattle.reduction.proofs.Rounds.{round_less, fuel_enough}
 use Rattle.reduction.proofs.Run.{tries_gain}
-use Rattle.paths.specs.declared.board.Board.{Board}
+use Rattle.paths.specs.declared.sorted.Sorted.{Sorted}
 use Rattle.paths.specs.Checked.{Checking}
 use Rattle.paths.proofs.Answering.{answers_on, answers_refused}
 use Rattle.run.specs.Running.{progress}
@@ -76,11 +75,11 @@ runs_done m n N s t after c a whole count = record {
 }
 
 -- the call, from its checks and its rounds
-module _ {m n N s : ℕ} {t : List ℤ} {o : List ℕ} {made : Result Board Refusal} (c : Checking m n N s t o made) where
-  pub run_done : (b : Board) → made ≡ Ok b → (after : List ℤ) (r : Result Ran Refusal) → Runs (run_on b s t) t after r → Runs (run_call m n N s t) t after r
+module _ {m n N s : ℕ} {t : List ℤ} where
+  pub run_done : (x : Sorted) → Checking m n N s t (Ok x) → (after : List ℤ) (r : Result Ran Refusal) → Runs (run_on x.table.board s t) t after r → Runs (run_call m n N s t) t after r
   unfolding run_call
-  run_done b e after r h = answers_on c b e (λ m n N _. accepted (whole_run m n N s t)) t after r h
+  run_done x c after r h = answers_on x c (λ m n N _. accepted (whole_run m n N s t)) t after r h
 
-  pub run_refused : (x : Refusal) → made ≡ Err x → Runs (run_call m n N s t) t t (Err x)
+  pub run_refused : (x : Refusal) → Checking m n N s t (Err x) → Runs (run_call m n N s t) t t (Err x)
   unfolding run_call
-  run_refused x e = answers_refused c x e (λ _. accepted (whole_run m n N s t)) t (Err x) refl
+  run_refused x c = answers_refused x c (λ _. accepted (whole_run m n N s t)) t (Err x) refl

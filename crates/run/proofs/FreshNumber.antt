@@ -1,11 +1,10 @@
 -- The smallest free number, by the numbers passed.
-use mathlib.Core.Path.{◌≡◌, sym, ap, ◌∙◌, subst}
+use mathlib.Core.Path.{◌≡◌, sym, ap, ◌∙◌}
 use mathlib.Core.Bool.{true, false, ◌&&◌}
 use Prim.Native.Nat.{ℕ, ◌+◌, ◌-◌, ◌≤◌, ◌<◌}
-use native.Mathlib.Nat.{eq-or-lt_of_le}
 use native.Mathlib.Omega.{arith}
 use lib.Dec.{T, leb, ltb, le→leb, lt→ltb}
-use Rattle.laws.proofs.Booleans.{and_i, and_e, split, is_true, is_false, true_is}
+use Rattle.laws.proofs.Booleans.{and_i, and_e, is_true, true_is}
 use Rattle.laws.proofs.Bounded.{first_none, first_found}
 use Rattle.graph.specs.Graph.{Graph}
 use Rattle.reduction.specs.Outcome.{is_inner, unused}
@@ -28,15 +27,6 @@ module _ (m n N : ℕ) (g : Graph) where
     fresh_found none free =
         let here : unused N g (m + n + (k - (m + n))) ≡ true = ap (unused N g) place ∙ is_true (unused N g k) (and_e (is_inner m n N k) (unused N g k) (true_is (sym free))).1 in
         sym place ∙ ap (λ (x : ℕ). m + n + x) (sym (first_found (N - (m + n)) (λ x. unused N g (m + n + x)) (k - (m + n)) (omega arith) (λ j l. none j (omega arith)) here))
-
-    pub none_more : NoneBelow k → false ≡ (is_inner m n N k && unused N g k) → NoneBelow (k + 1)
-    none_more none taken x l = split (eq-or-lt_of_le under) (λ e. ap (unused N g) e ∙ here) (λ below. none x below)
-      where
-        under : m + n + x ≤ k
-        under = omega (arith, l)
-
-        here : unused N g k ≡ false
-        here = is_false (unused N g k) (λ free. subst T (sym taken) (and_i (is_inner m n N k) (unused N g k) inner free))
 
   pub fresh_none : m + n ≤ N → NoneBelow N → N ≡ fresh_number m n N g
   unfolding fresh_number

@@ -7,13 +7,11 @@ use lib.Dec.{T}
 use lib.IntN.{ℤ, pos}
 use lib.ListN.{length, length-append}
 use Rattle.laws.specs.Lists.{rows}
-use Rattle.laws.proofs.Grid.{area}
 use Rattle.laws.proofs.Lists.{length-rows, cell_rows}
 use Rattle.graph.specs.Delay.{Delay}
 use Rattle.graph.specs.Graph.{longest, walk}
-use Rattle.graph.proofs.Presence.{arcs_few}
 use Rattle.graph.proofs.Closure.{walk_other}
-use Rattle.timing.specs.Limits.{max_vertices, arrival_limit, absent_wide, fits}
+use Rattle.timing.specs.Limits.{arrival_limit, absent_wide, fits}
 use Rattle.timing.specs.Table.{read_cell, write_cell, graph_of}
 use Rattle.timing.specs.Delays.{matrix, matrix_cells, arrival_in}
 use Rattle.paths.specs.declared.board.Board.{Board}
@@ -21,7 +19,7 @@ use Rattle.paths.specs.Arrivals.{reached_limit}
 use Rattle.paths.specs.Checked.{Passable}
 use Rattle.paths.proofs.PathDelays.{walk_near}
 use Rattle.paths.proofs.WalkBounds.{walk_far, read_far}
-use Rattle.run.specs.Running.{progress, Running, Held}
+use Rattle.run.specs.Running.{Held}
 
 module _ {b : Board} {t : List ℤ} {o : List ℕ} (p : Passable b t o) where
   abbrev entry : ℕ → ℕ → Delay
@@ -45,10 +43,7 @@ module _ {b : Board} {t : List ℤ} {o : List ℕ} (p : Passable b t o) where
     }
       where
         below : (i : ℕ) → i < b.inputs → i < b.vertices
-        below i h = omega (arith, p.checked.lent.sized.roles)
+        below i h = omega (arith, b.sized.roles)
 
         output : (j : ℕ) → j < b.outputs → b.inputs + j < b.vertices
-        output j h = omega (arith, p.checked.lent.sized.roles)
-
-  pub running_start : Running b (progress t 0)
-  running_start = record { checked = p.checked; bound = omega (arith, arcs_few b.vertices (graph_of b.vertices t), area b.vertices max_vertices p.checked.lent.sized.few) }
+        output j h = omega (arith, b.sized.roles)

@@ -2,7 +2,7 @@
 use mathlib.Core.Path.{◌≡◌, refl, sym, subst}
 use mathlib.Core.Bool.{true, false, not}
 use mathlib.Core.List.{List, [], ◌∷◌}
-use Prim.Native.Nat.{ℕ, ◌≤◌}
+use Prim.Native.Nat.{ℕ}
 use native.Mathlib.Omega.{arith}
 use lib.Dec.{T, le→leb}
 use lib.IntN.{ℤ}
@@ -17,8 +17,7 @@ use Rattle.reduction.proofs.LeanSteps.{sink_refused}
 use Rattle.reduction.proofs.LeanRun.{prune_idle, prune_leaves, steps_lean, shrinks_lean, merges_lean}
 use Rattle.paths.specs.declared.board.Board.{Board}
 use Rattle.paths.specs.Checked.{Checked}
-use Rattle.run.specs.declared.vertex_tries.VertexStep.{VertexStep}
-use Rattle.run.specs.declared.vertex_tries.VertexStep.TheVariants.{Shrink, MergeBack}
+use Rattle.run.specs.VertexSteps.{VertexStep, Shrink, MergeBack}
 use Rattle.run.specs.VertexSteps.{vertex_step, first_vertex, vertex_count, kind_tries}
 use Rattle.run.specs.Running.{Running, LeanOn, TriesStep, Reaches, prune_try}
 use Rattle.run.proofs.Moving.{checked-passes}

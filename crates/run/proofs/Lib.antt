@@ -16,3 +16,4 @@ pub mod HeldMatrix
 pub mod OrderKept
 pub mod RowsShared
 pub mod NoNumber
+pub mod KnownTables

@@ -1,19 +1,18 @@
 -- Tries on a table that has passed its checks, and what a run keeps.
 use mathlib.Core.Path.{◌≡◌, refl, sym, ap, ◌∙◌, subst}
-use mathlib.Core.Bool.{Bool, true, false, not, ◌&&◌}
+use mathlib.Core.Bool.{Bool, true, false, not}
 use mathlib.Core.List.{List, [], ◌∷◌, ◌++◌}
 use Prim.Native.Nat.{ℕ, ◌+◌, ◌*◌, ◌≤◌, ◌<◌}
 use native.Mathlib.Omega.{arith}
-use lib.Dec.{T, T_not, leb, ltb, le→leb, leb→le, lt→ltb}
+use lib.Dec.{T, T_not, ltb, le→leb, leb→le, lt→ltb}
 use lib.IntN.{ℤ}
 use lib.ListN.{length}
-use Rattle.laws.proofs.Booleans.{and_i, cond_elim}
+use Rattle.laws.proofs.Booleans.{cond_elim}
 use Rattle.graph.specs.Delay.{Delay}
 use Rattle.graph.specs.Graph.{Graph}
-use Rattle.timing.specs.Limits.{max_vertices, arrival_limit, scratch_cells, fits}
+use Rattle.timing.specs.Limits.{arrival_limit, scratch_cells, fits}
 use Rattle.timing.specs.Refusal.{Verdict, refused, accepted, ◌then◌}
 use Rattle.timing.specs.Table.{graph_of, with_graph}
-use Rattle.timing.specs.Checks.{sizes_fit}
 use Rattle.timing.proofs.Verdict.{then_accepted, same_accepted}
 use Rattle.timing.proofs.Checks.{Passed, checked-passed}
 use Rattle.reduction.specs.Outcome.{Reduced, one_step}
@@ -26,8 +25,8 @@ use Rattle.reduction.proofs.Rounds.{All, Gains}
 use Rattle.paths.specs.declared.board.Board.{Board}
 use Rattle.plans.specs.OnBoards.{table_by}
 use Rattle.paths.specs.Checked.{Checked}
-use Rattle.run.specs.declared.side.Side.{Side}
-use Rattle.run.specs.declared.side.Side.TheVariants.{Inputs, Outputs}
+use Rattle.paths.proofs.Sizes.{board_fits}
+use Rattle.run.specs.Sides.{Side, Inputs, Outputs}
 use Rattle.run.specs.Sides.{share_step, try_share}
 use Rattle.run.specs.Running.{progress, Running, Held, Tries, Reaches}
 
@@ -49,12 +48,7 @@ module _ {b : Board} {t : List ℤ} (ok : Checked b t) where
   N = b.vertices
 
   pub checked-passes : Passed b.inputs b.outputs b.vertices t
-  unfolding sizes_fit
-  checked-passes = let z = ok.lent.sized in record {
-    sizes = and_i (leb 1 m && leb 1 n && leb (m + n) N) (leb N max_vertices) (and_i (leb 1 m && leb 1 n) (leb (m + n) N) (and_i (leb 1 m) (leb 1 n) (le→leb 1 m z.some_inputs) (le→leb 1 n z.some_outputs)) (le→leb (m + n) N z.roles)) (le→leb N max_vertices z.few);
-    table = le→leb (N * N) (length t) ok.lent.room;
-    sound = ok.sound;
-  }
+  checked-passes = record { sizes = board_fits b; table = le→leb (N * N) (length t) ok.lent; sound = ok.sound }
 
   -- the checks of a step's call pass again
   call_is_step : (s : ℕ) → scratch_cells N ≤ s → (q : Step) → step_call m n N s q t ≡ (plan m n N q (graph_of N t) then λ g'. accepted (one_step N t g'))
@@ -127,7 +121,7 @@ module _ (b : Board) (qs : ℕ → List Try) (p q : Progress) (gain : (s : ℕ) 
     where
       go : (p : Progress) (r : Reduced) → Running b p → Gain b.inputs b.outputs b.vertices p.table r → Running b (progress r.table (p.steps + r.steps))
       go p r h k = record {
-        checked = record { lent = record { sized = h.checked.lent.sized; room = leb→le (b.vertices * b.vertices) (length r.table) k.kept.passed.table }; sound = k.kept.passed.sound };
+        checked = record { lent = leb→le (b.vertices * b.vertices) (length r.table) k.kept.passed.table; sound = k.kept.passed.sound };
         bound = omega (arith, h.bound, k.kept.fewer);
       }
 
@@ -150,9 +144,6 @@ module _ (b : Board) (qs : ℕ → List Try) (p q : Progress) (gain : (s : ℕ) 
 
   pub steps_grow : p.steps ≤ q.steps
   steps_grow = subst (λ (x : Progress). p.steps ≤ x.steps) (way (scratch_cells b.vertices) (omega arith)) (round_keeps b.inputs b.outputs b.vertices (λ x. p.steps ≤ x.steps) (λ x r h k. omega (arith, h)) (qs (scratch_cells b.vertices)) (gain (scratch_cells b.vertices)) p (omega arith))
-
-  pub same_length_on : length q.table ≡ length p.table
-  same_length_on = subst (λ (x : Progress). length x.table ≡ length p.table) (way (scratch_cells b.vertices) (omega arith)) (round_keeps b.inputs b.outputs b.vertices (λ x. length x.table ≡ length p.table) (λ x r h k. k.kept.same_length ∙ h) (qs (scratch_cells b.vertices)) (gain (scratch_cells b.vertices)) p refl)
 
 -- one list of tries after another
 pub round-append : (xs ys : List Try) (p : Progress) → round (xs ++ ys) p ≡ round ys (round xs p)

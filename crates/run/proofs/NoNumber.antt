@@ -1,18 +1,15 @@
 -- No number is free: the tries of a round's share inputs change nothing.
 use mathlib.Core.Path.{◌≡◌, refl, ap, ◌∙◌}
-use mathlib.Core.Bool.{Bool}
 use mathlib.Core.List.{List, [], ◌∷◌}
-use Prim.Native.Nat.{ℕ, ◌≤◌}
-use native.Mathlib.Omega.{arith}
+use Prim.Native.Nat.{ℕ}
 use lib.IntN.{ℤ, pos}
 use Rattle.reduction.specs.Run.{Progress, Try, round, numbers}
 use Rattle.reduction.proofs.Rounds.{All}
 use Rattle.reduction.proofs.Run.{all_pairs}
 use Rattle.paths.specs.declared.board.Board.{Board}
-use Rattle.run.specs.declared.side.Side.{Side}
-use Rattle.run.specs.declared.side.Side.TheVariants.{Inputs, Outputs}
-use Rattle.run.specs.Sides.{first_of, count_of, try_share, side_tries}
-use Rattle.run.specs.Running.{progress, Running, Ready, Reaches}
+use Rattle.run.specs.Sides.{Side, Inputs, Outputs}
+use Rattle.run.specs.Sides.{first_of, count_of, try_share, pair_try, side_tries}
+use Rattle.run.specs.Running.{progress, Running, Full, Reaches, fresh_on}
 use Rattle.run.proofs.ShareVerdicts.{rows_full}
 use Rattle.run.proofs.TriedShares.{share_left, share_stays}
 
@@ -23,18 +20,14 @@ all_stay p [] _ = refl
 all_stay p (q ∷ qs) h = ap (round qs) h.0 ∙ all_stay p qs h.1
 
 -- one of them
-pub full_passed : (board : Board) (t : List ℤ) (o : List ℕ) (side : Side) (a b k c : ℕ) {sorted : Bool} → Running board (progress t c) → Ready side board t o k sorted → side ≡ Inputs → board.vertices ≤ k
-    → Reaches board.vertices (λ s. try_share board.inputs board.outputs board.vertices side s a b ∷ []) (progress t c) (progress t c)
-full_passed board t o Inputs a b k c run ready is high = (share_stays board t o Inputs a b k c run ready t (share_left board t Inputs a b k (rows_full board t a b (pos 0) k high))).0
-full_passed board t o Outputs a b k c run ready is high = absurd (let z : ◌≡◌ {A = ℕ} 0 1 = cc in omega arith)
+pub full_passed : (board : Board) (t : List ℤ) (side : Side) (a b c : ℕ) → Running board (progress t c) → Full side board t
+    → Reaches board.vertices (pair_try board side a b) (progress t c) (progress t c)
+full_passed board t Inputs a b c run full = share_stays board t Inputs a b c run t (share_left board t Inputs a b (fresh_on board t) (rows_full board t a b (pos 0) (fresh_on board t) full.1))
+full_passed board t Outputs a b c run full = absurd (let e : Outputs ≡ Inputs = full.0 in cc)
 
-none_free : (board : Board) (t : List ℤ) (o : List ℕ) (k c : ℕ) {sorted : Bool} → Running board (progress t c) → Ready Inputs board t o k sorted → board.vertices ≤ k → Reaches board.vertices (side_tries board Inputs) (progress t c) (progress t c)
-none_free board t o k c run ready high s room =
-    all_stay (progress t c) (side_tries board Inputs s)
-    (all_pairs (λ q. round (q ∷ []) (progress t c) ≡ progress t c) (try_share board.inputs board.outputs board.vertices Inputs s) (numbers (first_of Inputs board.inputs) (count_of Inputs board.inputs board.outputs)) (numbers (first_of Inputs board.inputs) (count_of Inputs board.inputs board.outputs))
-    (λ a b. full_passed board t o Inputs a b k c run ready refl high s room))
-
--- of the side that is known to be inputs
-pub full_stays : (board : Board) (t : List ℤ) (o : List ℕ) (side : Side) (k c : ℕ) {sorted : Bool} → Running board (progress t c) → Ready side board t o k sorted → side ≡ Inputs → board.vertices ≤ k → Reaches board.vertices (side_tries board side) (progress t c) (progress t c)
-full_stays board t o Inputs k c run ready is high = none_free board t o k c run ready high
-full_stays board t o Outputs k c run ready is high = absurd (let z : ◌≡◌ {A = ℕ} 0 1 = cc in omega arith)
+-- all of them
+pub full_stays : (board : Board) (t : List ℤ) (side : Side) (c : ℕ) → Running board (progress t c) → Full side board t → Reaches board.vertices (side_tries board side) (progress t c) (progress t c)
+full_stays board t side c run full s room =
+    all_stay (progress t c) (side_tries board side s)
+    (all_pairs (λ q. round (q ∷ []) (progress t c) ≡ progress t c) (try_share board.inputs board.outputs board.vertices side s) (numbers (first_of side board.inputs) (count_of side board.inputs board.outputs)) (numbers (first_of side board.inputs) (count_of side board.inputs board.outputs))
+    (λ a b. full_passed board t side a b c run full s room))

@@ -27,9 +27,6 @@ module _ (f : ℕ → ℕ → Try) (from count : ℕ) where
   none : (x : ℕ) → from + count ≤ x → numbers x (from + count - x) ≡ []
   none x l = let e : from + count - x ≡ 0 = omega arith in ap (numbers x) e
 
-  pub firsts_all : pairs f (numbers from count) (numbers from count) ≡ firsts_left from
-  firsts_all = let e : count ≡ from + count - from = omega arith in ap (λ (c : ℕ). pairs f (numbers from c) (numbers from count)) e
-
   pub firsts_done : (a : ℕ) → from + count ≤ a → firsts_left a ≡ []
   firsts_done a l = ap (λ (xs : List ℕ). pairs f xs (numbers from count)) (none a l)
 

@@ -6,9 +6,8 @@ use Rattle.reduction.specs.Steps.{prune}
 use Rattle.reduction.specs.Run.{Progress, Try, round, numbers, try_step, tries}
 use Rattle.reduction.proofs.Rounds.{All, Gains}
 use Rattle.reduction.proofs.Run.{all_map, step_gains}
-use Rattle.run.specs.declared.side.Side.TheVariants.{Inputs, Outputs}
-use Rattle.run.specs.declared.vertex_tries.VertexStep.{VertexStep}
-use Rattle.run.specs.declared.vertex_tries.VertexStep.TheVariants.{Shrink, MergeBack}
+use Rattle.run.specs.Sides.{Inputs, Outputs}
+use Rattle.run.specs.VertexSteps.{VertexStep, Shrink, MergeBack}
 use Rattle.run.specs.Sides.{share_tries}
 use Rattle.run.specs.VertexSteps.{vertex_step, first_vertex, vertex_count, vertex_tries}
 use Rattle.run.specs.Running.{Reaches}

@@ -20,10 +20,7 @@ use Rattle.reduction.specs.ShareOutputs.{enough_in, outputs_saved, share_outputs
 use Rattle.reduction.specs.Run.{fresh_number}
 use Rattle.reduction.proofs.Accepted.{share_inputs_accepted, inputs_asked, share_outputs_accepted, outputs_asked}
 use Rattle.paths.specs.declared.board.Board.{Board}
-use Rattle.paths.specs.Board.{Sized}
-use Rattle.plans.specs.Sharing.{TwoOutputs}
-use Rattle.run.specs.declared.side.Side.{Side}
-use Rattle.run.specs.declared.side.Side.TheVariants.{Inputs, Outputs}
+use Rattle.run.specs.Sides.{Side, Inputs, Outputs}
 use Rattle.run.specs.Sides.{is_rich}
 use Rattle.run.specs.Pairs.{Pair, compared_by, Compared}
 
@@ -91,11 +88,7 @@ module _ (board : Board) (t : List ℤ) (a b : ℕ) (e : ℤ) where
       go true true false far = tt
       go true true true far = absurd (let w : ◌≡◌ {A = ℕ} 0 1 = cc in omega arith)
 
-pub pair_outputs : {board : Board} {a b : ℕ} → Sized board → Pair Outputs board a b → TwoOutputs board a b
-pair_outputs s p = record {
-  no_input_a = p.one.from;
-  no_input_b = p.other.from;
-  below_a = omega (arith, p.one.below, s.roles);
-  below_b = omega (arith, p.other.below, s.roles);
-  two = p.two;
-}
+  -- a path leads back
+  pub columns_back : Pair Outputs board a b → Compared Outputs board t a b e → present (longest (graph_of board.vertices t) board.vertices b a) ≡ true
+      → T (not (is_accepted (share_outputs_verdict board.inputs board.outputs board.vertices a b (graph_of board.vertices t))))
+  columns_back p q back = subst (λ (v : Verdict ℤ). T (not (is_accepted v))) (sym (columns_saved p q)) (rw back tt)

@@ -16,9 +16,6 @@ module _ (N : ℕ) (f : ℕ → ℕ → Try) (a c : ℕ) (p : Progress) where
   abbrev onward : ℕ → ℕ → Progress → ℕ → Progress
   onward v k q s = round (map (f s) (numbers v k)) q
 
-  pub swept_none : Swept a p
-  swept_none s room = let e : a + c - a ≡ c = omega arith in ap (λ (k : ℕ). onward a k p s) e
-
   pub swept_next : (v : ℕ) (q r : Progress) → v < a + c → Reaches N (λ s. f s v ∷ []) q r → Swept v q → Swept (v + 1) r
   unfolding round
   swept_next v q r l way h s room =

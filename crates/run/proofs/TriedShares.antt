@@ -1,7 +1,7 @@
 -- The try of a share: from its verdict, and as the one try of a round.
 use mathlib.Core.Path.{◌≡◌, refl, sym, ap, ◌∙◌, subst}
 use mathlib.Core.Bool.{Bool, true, false, not}
-use mathlib.Core.List.{List, [], ◌∷◌}
+use mathlib.Core.List.{List}
 use Prim.Native.Nat.{ℕ, ◌+◌}
 use native.Mathlib.Omega.{arith}
 use lib.Dec.{T}
@@ -12,20 +12,17 @@ use Rattle.timing.specs.Table.{graph_of, with_graph}
 use Rattle.timing.proofs.Verdict.{then_accepted, same_accepted}
 use Rattle.reduction.specs.ShareInputs.{inputs_shared}
 use Rattle.reduction.specs.ShareOutputs.{outputs_shared}
-use Rattle.reduction.specs.Steps.{Step, share_inputs, plan}
-use Rattle.reduction.specs.Run.{attempt, round, fresh_number, try_step}
+use Rattle.reduction.specs.Steps.{plan}
+use Rattle.reduction.specs.Run.{round}
 use Rattle.reduction.proofs.Steps.{plan_better}
 use Rattle.reduction.proofs.Kept.{put_back}
-use Rattle.reduction.proofs.Rounds.{All, Gains}
 use Rattle.paths.specs.declared.board.Board.{Board}
 use Rattle.plans.specs.OnBoards.{table_by}
 use Rattle.paths.specs.Checked.{Checked}
-use Rattle.run.specs.declared.side.Side.{Side}
-use Rattle.run.specs.declared.side.Side.TheVariants.{Inputs, Outputs}
-use Rattle.run.specs.Sides.{share_step, is_rich, try_share}
-use Rattle.run.specs.Running.{progress, Running, Ready, Tries, Reaches}
-use Rattle.run.proofs.Moving.{gained, moves, try_share_lem, running_on}
-use Rattle.run.proofs.Sharing.{share_try_gains}
+use Rattle.run.specs.Sides.{Side, Inputs, Outputs}
+use Rattle.run.specs.Sides.{share_step, is_rich, pair_try}
+use Rattle.run.specs.Running.{progress, Running, Tries, TriesShare, Reaches, fresh_on}
+use Rattle.run.proofs.Moving.{gained, moves, try_share_lem}
 use Rattle.run.proofs.ShareVerdicts.{share_verdict, share_poor}
 
 -- ---- from its verdict
@@ -89,35 +86,23 @@ module _ (board : Board) (t : List ℤ) (side : Side) (a b k : ℕ) where
       let made = then_accepted verdict _ put.0 (sym (share_plan m n N side a b k g) ∙ put.1) in
       (made.0, ap (graph_of N) (sym (same_accepted put.2)) ∙ put_back m n N t put.0 (plan_better ok.sound (share_step side a b k) put.0 put.1) ∙ sym (same_accepted made.2))
 
--- ---- as the one try of a round
+-- ---- as the one try of a round, by the smallest free number
 
--- with the smallest free number, or a number that is not used
-share_fresh : (board : Board) (t : List ℤ) (o : List ℕ) (side : Side) (a b k : ℕ) {sorted : Bool} → Ready side board t o k sorted → share_step side a b k ≡ share_step side a b (fresh_number board.inputs board.outputs board.vertices (graph_of board.vertices t))
-share_fresh board t o Inputs a b k h = ap (share_inputs a b) (h.fresh refl)
-share_fresh board t o Outputs a b k h = refl
-
-module _ (board : Board) (t : List ℤ) (o : List ℕ) (side : Side) (a b k c : ℕ) {sorted : Bool} (run : Running board (progress t c)) (ready : Ready side board t o k sorted) where
+module _ (board : Board) (t : List ℤ) (side : Side) (a b c : ℕ) (run : Running board (progress t c)) where
   abbrev pub Tried : List ℤ → ℕ → Type 0
-  Tried after d = Reaches board.vertices (λ s. try_share board.inputs board.outputs board.vertices side s a b ∷ []) (progress t c) (progress after d)
+  Tried after d = Reaches board.vertices (pair_try board side a b) (progress t c) (progress after d)
 
-  share_reaches : (after : List ℤ) (r : Bool) → Trying board t side a b k after r → Tried after (c + gained r)
+  pub share_reaches : (after : List ℤ) (r : Bool) → TriesShare side board a b t after r → (d : ℕ) → d ≡ c + gained r → Tried after d
   unfolding round
-  share_reaches after r h s room =
+  share_reaches after r h d e s room =
       try_share_lem board.inputs board.outputs board.vertices s side a b (progress t c)
-      ∙ ap (λ (q : Step). attempt (try_step board.inputs board.outputs board.vertices s q t) (progress t c)) (sym (share_fresh board t o side a b k ready))
-      ∙ moves run.checked (share_step side a b k) after r h s c room
+      ∙ moves run.checked (share_step side a b (fresh_on board t)) after r h s c room
+      ∙ sym (ap (progress after) e)
 
-  pub share_goes : (after : List ℤ) → Trying board t side a b k after true → Tried after (c + 1) × Checked board after
-  share_goes after h =
-      let way = share_reaches after true h in
-      let gain : (s : ℕ) → All (Gains board.inputs board.outputs board.vertices) (try_share board.inputs board.outputs board.vertices side s a b ∷ []) = λ s. (share_try_gains board.inputs board.outputs board.vertices side s a b, tt) in
-      (way, (running_on board (λ s. try_share board.inputs board.outputs board.vertices side s a b ∷ []) (progress t c) (progress after (c + 1)) gain way run).checked)
-
-  pub share_stays : (after : List ℤ) → Trying board t side a b k after false → Tried after c × Ready side board after o k sorted
-  share_stays after h =
-      let same : c + 0 ≡ c = omega arith in
-      (λ s room. share_reaches after false h s room ∙ ap (progress after) same, subst (λ (x : List ℤ). Ready side board x o k sorted) (sym (h.refused refl).1) ready)
+  -- a refused one
+  pub share_stays : (after : List ℤ) → TriesShare side board a b t after false → Tried after c
+  share_stays after h = share_reaches after false h c (omega arith)
 
   -- b has too few arcs
   pub share_passed : is_rich side board.vertices (graph_of board.vertices t) b ≡ false → Tried t c
-  share_passed low = (share_stays t (share_left board t side a b k (share_poor board.inputs board.outputs board.vertices a b k (graph_of board.vertices t) side low))).0
+  share_passed low = share_stays t (share_left board t side a b (fresh_on board t) (share_poor board.inputs board.outputs board.vertices a b (fresh_on board t) (graph_of board.vertices t) side low))

@@ -3,3 +3,5 @@ pub mod Pairs
 pub mod Running
 pub mod VertexSteps
 pub mod Runs
+pub mod Known
+pub mod Outputs

@@ -4,8 +4,7 @@ use Rattle.timing.specs.Refusal.{Verdict, accepted}
 use Rattle.timing.specs.Table.{graph_of}
 use Rattle.reduction.specs.Common.{common_difference}
 use Rattle.paths.specs.declared.board.Board.{Board}
-use Rattle.run.specs.declared.side.Side.{Side}
-use Rattle.run.specs.Sides.{OnSide, across_of, line_of}
+use Rattle.run.specs.Sides.{Side, OnSide, across_of, line_of}
 
 -- two vertices of a side
 pub record Pair (side : Side) (board : Board) (a b : ℕ) : Type 0 where

@@ -1,5 +1,6 @@
 -- A run under way.
-use Rattle.std.specs.Prelude.{◌≡◌, Bool, true, false, not, List, [], ◌∷◌, ℕ, ◌+◌, ◌*◌, ◌≤◌, ◌<◌, T, ℤ, length, get_or}
+use Rattle.std.specs.Option.{MatchOption}
+use Rattle.std.specs.Prelude.{◌≡◌, Bool, Option, true, false, not, List, [], ◌∷◌, ℕ, ◌+◌, ◌*◌, ◌≤◌, ◌<◌, T, ℤ, length, get_or}
 use Rattle.graph.specs.Count.{arcs}
 use Rattle.timing.specs.Limits.{max_vertices, arrival_limit, scratch_cells, fits}
 use Rattle.timing.specs.Refusal.{Verdict, accepted, is_accepted}
@@ -10,13 +11,9 @@ use Rattle.reduction.specs.Steps.{Step, prune}
 use Rattle.reduction.specs.Lean.{LeanTable}
 use Rattle.paths.specs.declared.board.Board.{Board}
 use Rattle.paths.specs.Board.{graph_in}
-use Rattle.paths.specs.Checked.{Checked, Passable}
-use Rattle.sets.specs.declared.Set.{Set}
-use Rattle.reach.specs.RowSets.{RowSets}
+use Rattle.paths.specs.Checked.{Checked}
 use Rattle.plans.specs.OnBoards.{table_by}
-use Rattle.run.specs.declared.side.Side.{Side}
-use Rattle.run.specs.declared.side.Side.TheVariants.{Inputs, Outputs}
-use Rattle.run.specs.Sides.{OnSide, is_rich}
+use Rattle.run.specs.Sides.{Side, Inputs, OnSide, is_rich, share_step}
 
 abbrev pub progress : List ℤ → ℕ → Progress
 progress t c = record { table = t; steps = c }
@@ -32,21 +29,10 @@ pub record Held (b : Board) (M t : List ℤ) : Type 0 where
   pub cells : (i j : ℕ) → i < b.inputs → j < b.outputs → arrival_in M (b.outputs * i + j) ≡ matrix b.inputs b.vertices (graph_of b.vertices t) i j
   pub near : (i j : ℕ) → i < b.inputs → j < b.outputs → T (fits arrival_limit (matrix b.inputs b.vertices (graph_of b.vertices t) i j))
 
--- what a side's tries need of the table as it is: inputs the smallest free number k; where `sorted`, o is a topological order of it
-pub record Ready (side : Side) (b : Board) (t : List ℤ) (o : List ℕ) (k : ℕ) (sorted : Bool) : Type 0 where
-  pub fresh : side ≡ Inputs → k ≡ fresh_number b.inputs b.outputs b.vertices (graph_of b.vertices t)
-  pub order : sorted ≡ true → Passable b t o
-
 -- what is known of the side's vertices before they are compared: which have arcs enough to be the second of a share
 pub record Counted (side : Side) (b : Board) (t : List ℤ) (rich : List Bool) : Type 0 where
   pub long : length rich ≡ max_vertices
   pub each : (v : ℕ) → OnSide b side v → get_or rich v false ≡ is_rich side b.vertices (graph_of b.vertices t) v
-
--- room for the table's row sets: where `made`, these are there, and outputs are shared
-pub record RowsKept (side : Side) (b : Board) (t : List ℤ) (words : List Set) (made : Bool) : Type 0 where
-  pub long : length words ≡ max_vertices
-  pub outputs : made ≡ true → side ≡ Outputs
-  pub sets : made ≡ true → RowSets b.vertices (graph_in b t) words
 
 -- r says whether v is accepted, and the table is then v's; a refused try changes no cell
 pub record Tries (v : Verdict (List ℤ)) (before after : List ℤ) (r : Bool) : Type 0 where
@@ -60,6 +46,18 @@ TriesStep b q before after r = Tries (table_by b q before) before after r
 -- the smallest free number of a board's table
 abbrev pub fresh_on : Board → List ℤ → ℕ
 fresh_on b t = fresh_number b.inputs b.outputs b.vertices (graph_in b t)
+
+-- the smallest free number, where there is one
+abbrev pub Free : Board → List ℤ → Option ℕ → Type 0
+Free b t free = MatchOption free (b.vertices ≤ fresh_on b t) (λ k. (k ≡ fresh_on b t) × (k < b.vertices))
+
+-- no share of the side can be accepted: inputs are shared, and no number is free
+abbrev pub Full : Side → Board → List ℤ → Type 0
+Full side b t = (side ≡ Inputs) × (b.vertices ≤ fresh_on b t)
+
+-- the try of a share, by the smallest free number where inputs are shared
+abbrev pub TriesShare : Side → Board → ℕ → ℕ → List ℤ → List ℤ → Bool → Type 0
+TriesShare side b x y before after r = TriesStep b (share_step side x y (fresh_on b before)) before after r
 
 -- the tries qs lead from p to q, with any scratch that is long enough
 abbrev pub Reaches : ℕ → (ℕ → List Try) → Progress → Progress → Type 0

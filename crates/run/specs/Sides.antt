@@ -9,8 +9,10 @@ use Rattle.reduction.specs.Steps.{Step, share_inputs, share_outputs}
 use Rattle.reduction.specs.Run.{Try, numbers, pairs, try_step, try_share_inputs}
 use Rattle.paths.specs.declared.board.Board.{Board}
 use Rattle.paths.specs.Board.{graph_in}
-use Rattle.run.specs.declared.side.Side.{Side}
-use Rattle.run.specs.declared.side.Side.TheVariants.{Inputs, Outputs}
+
+pub data Side : Type 0 where
+  Inputs : Side
+  Outputs : Side
 
 -- of m inputs and n outputs: the side's first vertex, how many it has, and how many entries of the matrix each has
 abbrev pub first_of : Side → ℕ → ℕ
@@ -37,11 +39,6 @@ line_of Outputs m N g v j = column N g v j
 abbrev pub place_of : Side → ℕ → ℕ → ℕ → ℕ → ℕ
 place_of Inputs m n v j = n * v + j
 place_of Outputs m n v j = n * j + (v - m)
-
--- from an entry to the next
-abbrev pub stride_of : Side → ℕ → ℕ
-stride_of Inputs n = 1
-stride_of Outputs n = n
 
 -- a share of the side, k its new number
 abbrev pub share_step : Side → ℕ → ℕ → ℕ → Step

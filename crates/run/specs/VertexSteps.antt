@@ -3,8 +3,10 @@ use Rattle.std.specs.Prelude.{List, map, ℕ, ◌+◌, ◌-◌}
 use Rattle.reduction.specs.Steps.{Step, shrink, merge_back}
 use Rattle.reduction.specs.Run.{Try, numbers, try_step}
 use Rattle.paths.specs.declared.board.Board.{Board}
-use Rattle.run.specs.declared.vertex_tries.VertexStep.{VertexStep}
-use Rattle.run.specs.declared.vertex_tries.VertexStep.TheVariants.{Shrink, MergeBack}
+
+pub data VertexStep : Type 0 where
+  Shrink : VertexStep
+  MergeBack : VertexStep
 
 abbrev pub vertex_step : VertexStep → ℕ → Step
 vertex_step Shrink k = shrink k

@@ -1,35 +1,17 @@
-// Whether a vertex has arcs enough to be the second of a share.
-ghost use Rattle.std.specs.Prelude.{◌≡◌, ◌<◌};
-ghost use Rattle.paths.specs.Board.{Lent};
+// Which vertices have arcs enough to be the second of a share.
+ghost use Rattle.paths.specs.Tables.{of_table};
 ghost use Rattle.run.specs.Running.{Counted};
-ghost use Rattle.run.specs.Sides.{rich_on};
 
-use crate::side;
 use crate::side::Side;
-use paths::{Board, cells, room};
-use plans::share_inputs;
-
-pub fn is_rich(board: Board, table: &[i32], side: Side, v: usize) -> bool
-    requires lent { Lent board table.now }
-    requires v_lt_vertices { v < board.vertices }
-    ensures { result ≡ rich_on board side table.now v }
-{
-    match side {
-        Side::Inputs => share_inputs::enough_out(board, table, v),
-        Side::Outputs => cells::fan_in(board, table, v) >= 2,
-    }
-}
+use paths::{Board, Table};
 
 // Each vertex of the side is counted.
-pub fn rich_ones(board: Board, table: &[i32], side: Side) -> [bool; Board::MAX_VERTICES]
-    requires { Lent board table.now }
-    ensures { Counted side board table.now result }
+pub fn rich_ones<S: Side>(table: &Table) -> [bool; Board::MAX_VERTICES]
+    ensures { of_table (Counted S.side) table.now result }
 {
-    let first = side::first(board, side);
-    let end = side::end(board, side);
-    let mut rich = room::vertex_flags();
-    for v in first..end {
-        rich[v] = is_rich(board, table, side, v);
+    let mut rich = [false; Board::MAX_VERTICES];
+    for v in S::first(table.board)..S::end(table.board) {
+        rich[v] = S::is_rich(table, v);
     }
     rich
 }

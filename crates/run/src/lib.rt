@@ -5,6 +5,8 @@ pub mod answer;
 pub mod calls;
 pub mod counts;
 pub mod fresh;
+pub mod inputs;
+pub mod outputs;
 pub mod round;
 pub mod share_tries;
 pub mod shares;

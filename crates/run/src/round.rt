@@ -1,103 +1,117 @@
 // A round of the automatic run.
-ghost use Rattle.std.specs.Prelude.{◌≡◌, true, false, length};
-ghost use Rattle.timing.specs.Limits.{max_vertices};
-ghost use Rattle.paths.specs.Checked.{Checked, Passable};
+// The table and the steps stay two parameters, and the order of a table stays beside it: they are what changes, and `plans::rewrite` says why no struct holds them.
+ghost use Rattle.std.specs.Prelude.{◌≡◌, true, IfSome};
 ghost use Rattle.paths.specs.Board.{ScratchRoom, PastScratch};
+ghost use Rattle.paths.specs.Checked.{Checked, Passable};
+ghost use Rattle.paths.specs.Tables.{of_table};
+ghost use Rattle.run.specs.declared.round.Known.TheVariants.{Sorted, Lean};
+ghost use Rattle.run.specs.Known.{KnownOf};
 ghost use Rattle.run.specs.Running.{progress, Running, Held, Leads, LeanOn, tries_on, prune_try};
 
-use crate::side::Side;
-use crate::vertex_tries::VertexStep;
-use crate::{shares, vertex_tries};
+use crate::inputs::Inputs;
+use crate::outputs::Outputs;
+use crate::vertex_tries::{MergeBack, Shrink};
+use crate::{fresh, shares, vertex_tries};
 use paths::order::Order;
-use paths::{Board, order};
+use paths::{Board, Table, order};
 use pruning::prune;
 
-// Prune, unless the table is known to be lean: then it would be refused. `sorted`: the order is one of the table's.
+// What is known of the table when a round begins.
+#[derive(Clone, Copy)]
+pub enum Known {
+    // One of its orders.
+    Sorted(Order),
+    // Prune would take no arc: the round before has left it so.
+    Lean,
+}
+
+// The order that is known of the table, where no step has been accepted since.
+fn known_order(known: Known, before: usize, after: usize) -> Option<Order>
+    ensures { IfSome result (λ order. (known ≡ Sorted order) × (after ≡ before)) }
+{
+    match known {
+        Known::Sorted(order) if after == before => Some(order),
+        _ => None,
+    }
+}
+
+// Prune, in an order that is known, or in one that is made for it.
 fn try_prune(
     board: Board,
     table: &mut [i32],
-    order: &mut Order,
+    order: Option<Order>,
     scratch: &mut [i64],
-    sorted: bool,
-    lean: bool,
     steps: usize,
 ) -> usize
     requires running { Running board (progress table.old steps) }
-    requires order_len { length order.old ≡ max_vertices }
-    requires passable { sorted ≡ true → Passable board table.old order.old }
-    requires lean_on { lean ≡ true → LeanOn board table.old }
+    requires passable { IfSome order (Passable board table.old) }
     requires scratch_room { ScratchRoom board scratch.old }
     ensures leads { Leads board (prune_try board) table.old steps table.new result }
-    ensures order_len_2 { length order.new ≡ max_vertices }
     ensures past_scratch { PastScratch board scratch.old scratch.new }
 {
-    if lean {
-        return steps;
-    }
-    sort(board, table, order, sorted);
-    if prune::prune_step(board, table, order, scratch).is_ok() {
-        return steps + 1;
-    }
-    steps
+    let order = order_of(
+        &Table {
+            board,
+            cells: table,
+        },
+        order,
+    );
+    steps + usize::from(prune::prune_step(board, table, &order, scratch).is_ok())
 }
 
-// Makes the order one of the table's, where it is not.
-fn sort(board: Board, table: &[i32], order: &mut Order, sorted: bool)
-    requires checked { Checked board table.now }
-    requires order_len { length order.old ≡ max_vertices }
-    requires passable { sorted ≡ true → Passable board table.now order.old }
-    ensures passable_2 { Passable board table.now order.new }
-    ensures order_len_2 { length order.new ≡ max_vertices }
+// An order of the table: the one that is known, or a new one.
+fn order_of(table: &Table, known: Option<Order>) -> Order
+    requires checked { of_table Checked table.now }
+    requires passable { IfSome known (of_table Passable table.now) }
+    ensures { of_table Passable table.now result }
 {
-    if !sorted {
-        order::topological_order(board, table, order);
+    match known {
+        Some(order) => order,
+        None => order::topological_order(table).unwrap(),
     }
 }
 
-// Whether the table is as a round before this one left it, and so lean: no step has been accepted since.
-fn is_lean(first: bool, before: usize, after: usize) -> bool
-    ensures { result ≡ true → (first ≡ false) × (after ≡ before) }
+// Whether the table is as the round before left it, and so lean: no step has been accepted since.
+fn is_lean(known: Known, before: usize, after: usize) -> bool
+    ensures { result ≡ true → (known ≡ Lean) × (after ≡ before) }
 {
-    if first {
-        return false;
-    }
-    after == before
+    matches!(known, Known::Lean) && after == before
 }
 
-// The tries of a round, each on the table as it then is. `matrix` is the table's delay matrix. Before the first round the order is one of the table's,
-// and each round leaves a lean table: after prune, shrink and merge back leave it so.
+// The tries of a round, each on the table as it then is. `matrix` is the table's delay matrix. Prune, shrink and merge back leave a lean table; on one prune
+// would be refused.
 pub fn round(
     board: Board,
     table: &mut [i32],
-    order: &mut Order,
     scratch: &mut [i64],
     matrix: &[i64],
-    first: bool,
+    known: Known,
     steps: usize,
 ) -> usize
     requires running { Running board (progress table.old steps) }
     requires held { Held board matrix.now table.old }
-    requires order_len { length order.old ≡ max_vertices }
-    requires passable { first ≡ true → Passable board table.old order.old }
-    requires lean_on { first ≡ false → LeanOn board table.old }
+    requires known_of { KnownOf board table.old known }
     requires scratch_room { ScratchRoom board scratch.old }
     ensures leads { Leads board (tries_on board) table.old steps table.new result }
-    ensures lean_on_2 { LeanOn board table.new }
-    ensures order_len_2 { length order.new ≡ max_vertices }
+    ensures lean_on { LeanOn board table.new }
     ensures past_scratch { PastScratch board scratch.old scratch.new }
 {
-    let one = shares::shares(board, table, order, matrix, Side::Inputs, first, steps);
-    let two = shares::shares(
+    let free = fresh::fresh_number(&Table {
         board,
-        table,
-        order,
-        matrix,
-        Side::Outputs,
-        one.sorted,
-        one.steps,
-    );
-    let lean = is_lean(first, steps, two.steps);
-    let three = try_prune(board, table, order, scratch, two.sorted, lean, two.steps);
-    let four = vertex_tries::vertex_tries(board, table, VertexStep::Shrink, three);
-    vertex_tries::vertex_tries(board, table, VertexStep::MergeBack, four)
+        cells: table,
+    });
+    let mut inputs = Inputs { free };
+    let one = shares::shares(board, table, matrix, &mut inputs, steps);
+    let mut outputs = Outputs {
+        order: known_order(known, steps, one),
+        rows: None,
+    };
+    let two = shares::shares(board, table, matrix, &mut outputs, one);
+    let three = if is_lean(known, steps, two) {
+        two
+    } else {
+        try_prune(board, table, outputs.order, scratch, two)
+    };
+    let four = vertex_tries::vertex_tries::<Shrink>(board, table, three);
+    vertex_tries::vertex_tries::<MergeBack>(board, table, four)
 }

@@ -1,68 +1,53 @@
 // The two sides of the delay matrix: share inputs compares its rows, share outputs its columns.
-ghost use Rattle.std.specs.Prelude.{◌≡◌, ◌<◌};
-ghost use Rattle.paths.specs.Board.{Sized};
-ghost use Rattle.run.specs.Sides.{OnSide, first_of, across_of, stride_of, place_of, end_of};
+ghost use Rattle.std.specs.Prelude.{◌≡◌, false, ℕ, ◌<◌, ◌≤◌, List, ℤ};
+ghost use Rattle.paths.specs.declared.board.Board.{Board};
+ghost use Rattle.paths.specs.Checked.{Checked};
+ghost use Rattle.run.specs.Sides;
+ghost use Rattle.run.specs.Sides.{OnSide, first_of, across_of, place_of, end_of, rich_on};
+ghost use Rattle.run.specs.Pairs.{Pair, Compared};
+ghost use Rattle.run.specs.Running.{Full, TriesShare};
 
-use paths::Board;
+use paths::{Board, Table};
 
-#[derive(Clone, Copy)]
-pub enum Side {
-    Inputs,
-    Outputs,
-}
+// A side, with what its tries need to know of the table as it is.
+pub trait Side {
+    ghost side: { Sides.Side };
 
-// The side's first vertex.
-pub fn first(board: Board, side: Side) -> usize
-    ensures { result ≡ first_of side board.inputs }
-{
-    match side {
-        Side::Inputs => 0,
-        Side::Outputs => board.inputs,
-    }
-}
+    ghost knows: { Self → Board → List ℤ → Type 0 };
 
-// The number after its last.
-pub fn end(board: Board, side: Side) -> usize
-    requires { Sized board }
-    ensures { result ≡ end_of board side }
-{
-    match side {
-        Side::Inputs => board.inputs,
-        Side::Outputs => board.inputs + board.outputs,
-    }
-}
+    // The side's first vertex.
+    fn first(board: Board) -> usize
+        ensures { result ≡ first_of side board.inputs };
 
-// How many entries of the matrix each vertex of the side has.
-pub fn across(board: Board, side: Side) -> usize
-    ensures { result ≡ across_of side board.inputs board.outputs }
-{
-    match side {
-        Side::Inputs => board.outputs,
-        Side::Outputs => board.inputs,
-    }
-}
+    // The number after its last.
+    fn end(board: Board) -> usize
+        ensures { result ≡ end_of board side };
 
-// From an entry of a vertex to its next.
-pub fn stride(board: Board, side: Side) -> usize
-    ensures { result ≡ stride_of side board.outputs }
-{
-    match side {
-        Side::Inputs => 1,
-        Side::Outputs => board.outputs,
-    }
-}
+    // How many entries of the matrix each vertex of the side has.
+    fn across(board: Board) -> usize
+        ensures { result ≡ across_of side board.inputs board.outputs };
 
-// Where the matrix has the j-th entry of vertex v.
-pub fn place(board: Board, side: Side, v: usize, j: usize) -> usize
-    requires sized { Sized board }
-    requires on_side { OnSide board side v }
-    requires j_bound { j < across_of side board.inputs board.outputs }
-    ensures { result ≡ place_of side board.inputs board.outputs v j }
-{
-    let m = board.inputs;
-    let n = board.outputs;
-    match side {
-        Side::Inputs => n * v + j,
-        Side::Outputs => n * j + (v - m),
-    }
+    // Where the matrix has the j-th entry of vertex v.
+    fn place(board: Board, v: usize, j: usize) -> usize
+        requires on_side { OnSide board side v }
+        requires j_bound { j < across_of side board.inputs board.outputs }
+        ensures { result ≡ place_of side board.inputs board.outputs v j };
+
+    // Whether v has arcs enough to be the second of a share.
+    fn is_rich(table: &Table, v: usize) -> bool
+        requires { v < table.now.board.vertices }
+        ensures { result ≡ rich_on table.now.board side table.now.cells.now v };
+
+    // Whether a share can be accepted at all.
+    fn is_open(&self) -> bool
+        ensures { (board : Board) (t : List ℤ) → knows self.now board t → result ≡ false → Full side board t };
+
+    // A share of a, b whose common difference is e.
+    fn share(&mut self, board: Board, table: &mut [i32], a: usize, b: usize, e: i64) -> bool
+        requires checked { Checked board table.old }
+        requires known { knows self.old board table.old }
+        requires pair { Pair side board a b }
+        requires compared { Compared side board table.old a b e }
+        ensures tries_share { TriesShare side board a b table.old table.new result }
+        ensures still_known { knows self.new board table.new };
 }

@@ -109,6 +109,7 @@ impl Set {
         ensures { MatchOption result ((u : ℕ) → holds self u ≡ false) (λ v. (v < room) × T (holds self v)) }
     {
         if self.low != 0 {
+            // There is no `From<u32>` for usize.
             return Some(self.low.trailing_zeros() as usize);
         }
         if self.high != 0 {

@@ -2,7 +2,7 @@
 use mathlib.Core.Path.{◌≡◌, refl, sym, ap, ap₂, ◌∙◌}
 use mathlib.Core.Bool.{Bool, true, false, cond, ◌&&◌}
 use mathlib.Core.List.{List, [], ◌∷◌}
-use Prim.Native.Nat.{ℕ, ◌+◌, ◌*◌, ◌≤◌, ◌<◌}
+use Prim.Native.Nat.{ℕ, ◌*◌, ◌≤◌, ◌<◌}
 use lib.Dec.{T}
 use lib.IntN.{ℤ, pos, ◌-ℤ◌}
 use lib.ListN.{length, get_or}
@@ -14,12 +14,12 @@ use Rattle.laws.proofs.Sums.{sum_zero}
 use Rattle.graph.specs.Delay.{Delay, absent, at, present, ticks, ◌⊕◌, ◌⊖◌, ◌⋒◌, eq_d, least}
 use Rattle.graph.specs.Graph.{Graph}
 use Rattle.graph.proofs.Delay.{⊕-absent}
-use Rattle.timing.specs.Limits.{absent_cell}
-use Rattle.timing.specs.Table.{read_cell, graph_of}
-use Rattle.timing.proofs.Table.{graph_of_at}
-use Rattle.paths.specs.Cells.{cell_at}
+use Rattle.timing.specs.Limits.{max_vertices}
+use Rattle.timing.specs.Table.{graph_of}
+use Rattle.paths.specs.Cells.{cell_at, row_at}
 use Rattle.paths.proofs.ReadCells.{arc_cell}
 use Rattle.reduction.specs.Star.{non_empty, first_of, to_centre, from_centre, covered, covered_arcs}
+use Rattle.plans.proofs.CopiedRow.{copied}
 use Rattle.stars.specs.Members.{sum_over}
 use Rattle.stars.specs.StarCells.{least_gap, meets, meeting}
 use Rattle.stars.specs.StarReady.{Bundle}
@@ -46,9 +46,9 @@ first_place [] = refl
 first_place (x ∷ xs) = refl
 
 -- the copy of the first source's row
-pub first_row : (N : ℕ) (t : List ℤ) (S : List ℕ) (first : List ℤ) → get_or S 0 0 < N → ((v : ℕ) → v < N → get_or first v (pos 0) ≡ get_or t (N * get_or S 0 0 + v) (pos 0))
-    → (v : ℕ) → v < N → cell_at first v ≡ graph_of N t (first_of S) v
-first_row N t S first l copy v k = ap (read_cell absent_cell) (copy v k) ∙ sym (graph_of_at N t (get_or S 0 0) v l k) ∙ ap (λ (u : ℕ). graph_of N t u v) (first_place S)
+pub first_row : (N : ℕ) (t : List ℤ) (S : List ℕ) (first : List ℤ) → get_or S 0 0 < N → N ≤ max_vertices → N * N ≤ length t
+    → {row : List ℤ} → row ≡ row_at N (get_or S 0 0) t → ((v : ℕ) → v < length row → get_or first v (pos 0) ≡ get_or row v (pos 0)) → (v : ℕ) → v < N → cell_at first v ≡ graph_of N t (first_of S) v
+first_row N t S first l few room row_is copy v k = (copied few room (get_or S 0 0) l row_is copy).same v k ∙ ap (λ (u : ℕ). graph_of N t u v) (first_place S)
 
 pub meeting_few : (row first : List ℤ) (Ts : List ℕ) (e : ℤ) → meeting row first Ts e ≤ length Ts
 unfolding meeting

@@ -2,7 +2,7 @@
 use mathlib.Core.Path.{◌≡◌, refl, sym, ap, ◌∙◌}
 use mathlib.Core.Bool.{Bool, true, false, not, ◌&&◌, ◌||◌}
 use mathlib.Core.List.{List, [], ◌∷◌}
-use Prim.Native.Nat.{ℕ, zero, suc, ◌+◌, ◌*◌, ◌≤◌, ◌<◌}
+use Prim.Native.Nat.{ℕ, zero, suc, ◌+◌, ◌≤◌, ◌<◌}
 use native.Mathlib.Nat.{not-suc-le-zero}
 use native.Mathlib.Numerals.{add-one}
 use native.Mathlib.Omega.{arith}
@@ -15,7 +15,6 @@ use Rattle.std.proofs.lemmas.List.Recursion.{same_from_clauses}
 use Rattle.laws.specs.Bounded.{each, member}
 use Rattle.laws.proofs.Booleans.{is_true, is_false, and_i, and_e, or_l, or_r, eq→eqb}
 use Rattle.laws.proofs.Bounded.{each_at}
-use Rattle.laws.proofs.Grid.{row_in}
 use Rattle.reduction.specs.Star.{non_empty, distinct}
 use Rattle.stars.specs.Members.{sum_over}
 use Rattle.stars.specs.StarReady.{below}
@@ -33,17 +32,6 @@ module _ (xs : List ℕ) (i : ℕ) (l : i < length xs) where
   pub each_stop : (f : ℕ → Bool) → f (get_or xs i 0) ≡ false → each (drop i xs) f ≡ false
   unfolding each
   each_stop f e = ap (λ (ys : List ℕ). each ys f) (rest xs i l) ∙ ap (λ (b : Bool). b && each (drop (i + 1) xs) f) e
-
-  -- a test so far, with what is left
-  pub so_far_turn : (f : ℕ → Bool) (r b : Bool) → f (get_or xs i 0) ≡ b → (r && each (drop i xs) f) ≡ each xs f → ((r && b) && each (drop (i + 1) xs) f) ≡ each xs f
-  unfolding each
-  so_far_turn f r b e h =
-      and_both r b (each (drop (i + 1) xs) f)
-      ∙ ap (λ (c : Bool). r && c) (sym (ap (λ (ys : List ℕ). each ys f) (rest xs i l) ∙ ap (λ (c : Bool). c && each (drop (i + 1) xs) f) e)) ∙ h
-    where
-      and_both : (x y z : Bool) → ((x && y) && z) ≡ (x && (y && z))
-      and_both true y z = refl
-      and_both false y z = refl
 
   pub member_pass : (x : ℕ) → eqb x (get_or xs i 0) ≡ false → member x (drop i xs) ≡ member x (drop (i + 1) xs)
   unfolding member
@@ -94,10 +82,6 @@ below-member N xs t x m = ltb→lt x N (each_at xs (λ x. ltb x N) t x m)
 
 pub below_at : (N : ℕ) (xs : List ℕ) → T (below N xs) → (i : ℕ) → i < length xs → get_or xs i 0 < N
 below_at N xs t i l = below-member N xs t (get_or xs i 0) (member_at xs i l)
-
--- the row of a member
-pub row_inside : (N : ℕ) (xs : List ℕ) → T (below N xs) → (i : ℕ) → i < length xs → N * get_or xs i 0 + N ≤ N * N
-row_inside N xs t i l = row_in N (get_or xs i 0) (below_at N xs t i l)
 
 pub is_below : (x n : ℕ) → x < n → ltb x n ≡ true
 is_below x n h = is_true (ltb x n) (lt→ltb x n h)

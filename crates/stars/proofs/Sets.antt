@@ -13,12 +13,12 @@ use Rattle.laws.proofs.Sums.{sum_zero, sum_pick, sum_bound}
 use Rattle.laws.proofs.Update.{update, update_other, update_elim}
 use Rattle.graph.specs.Delay.{Delay, ◌⋒◌, least, present}
 use Rattle.timing.specs.Table.{graph_of}
-use Rattle.paths.specs.Cells.{cell_at}
-use Rattle.paths.proofs.Rows.{lent, lent_cell}
+use Rattle.paths.specs.Cells.{cell_at, row_at}
+use Rattle.paths.proofs.Rows.{row_at_cell, length-row_at}
 use Rattle.reduction.specs.Star.{distinct}
 use Rattle.stars.specs.Members.{sum_over}
 use Rattle.stars.specs.StarReady.{below}
-use Rattle.stars.proofs.Members.{below-member}
+use Rattle.stars.proofs.Members.{below-member, below_wider}
 
 -- ---- functions that agree on the members
 
@@ -84,7 +84,14 @@ set-size N xs b d =
       sum_bound N (λ u. cond (member u xs) 1 0) (λ u. one_at_most (member u xs)),
     )
 
--- a row of a table as it is lent, at vertices below N
-pub joined_lent : (N : ℕ) (t : List ℤ) (u : ℕ) (room : N * N ≤ length t) (l : u < N) (ts : List ℕ) → T (below N ts)
-    → each ts (λ v. present (cell_at (lent N t u room l) v)) ≡ each ts (λ v. present (graph_of N t u v))
-joined_lent N t u room l ts b = each_same ts _ _ (λ v m. ap present (lent_cell N t u room l v (below-member N ts b v m)))
+-- row is the row of u in a table
+module _ (N : ℕ) (t : List ℤ) (u : ℕ) (row : List ℤ) (is : row ≡ row_at N u t) (l : u < N) where
+  pub row_cells : (v : ℕ) → v < N → cell_at row v ≡ graph_of N t u v
+  row_cells v h = ap (λ (r : List ℤ). cell_at r v) is ∙ row_at_cell N t u v l h
+
+  module _ (ts : List ℕ) (b : T (below N ts)) where
+    pub row_wide : N * N ≤ length t → T (below (length row) ts)
+    row_wide room = below_wider N (length row) ts (omega (arith, ap length is ∙ length-row_at N t u room l)) b
+
+    pub joined_row : each ts (λ v. present (cell_at row v)) ≡ each ts (λ v. present (graph_of N t u v))
+    joined_row = each_same ts _ _ (λ v m. ap present (row_cells v (below-member N ts b v m)))

@@ -1,5 +1,5 @@
 -- The star's verdict from the code's answers, one refusal after the other.
-use mathlib.Core.Path.{◌≡◌, refl, sym, ◌∙◌}
+use mathlib.Core.Path.{◌≡◌, refl, sym, ap}
 use mathlib.Core.Bool.{Bool, true, false, ◌&&◌}
 use mathlib.Core.List.{List}
 use Prim.Native.Nat.{ℕ, ◌+◌, ◌<◌}
@@ -11,12 +11,11 @@ use Rattle.graph.specs.Delay.{present}
 use Rattle.graph.specs.Graph.{Graph}
 use Rattle.timing.specs.declared.Refusal.TheVariants.{WrongVertex, WrongSet, NumberTaken, WrongArcs, NothingSaved, DelayOutOfRange}
 use Rattle.timing.specs.Limits.{delay_limit, fits}
-use Rattle.timing.specs.Refusal.{Verdict, refused, accepted, require}
+use Rattle.timing.specs.Refusal.{Verdict, accepted, require}
 use Rattle.reduction.specs.Outcome.{is_inner, unused}
 use Rattle.reduction.specs.Star.{non_empty, distinct, to_centre, covered_arcs, star_verdict}
 use Rattle.reduction.proofs.Accepted.{star_accepted}
 use Rattle.stars.specs.StarReady.{below, VertexSet, Bundle, StarReady}
-use Rattle.laws.proofs.Truth.{both, no_first, no_second}
 
 abbrev chain : Bool → Bool → Bool → Bool → Bool → Bool → Verdict (Unit {0})
 chain a b c d e f = require a WrongVertex (require b WrongSet (require c NumberTaken (require d WrongArcs (require e NothingSaved (require f DelayOutOfRange (accepted tt))))))
@@ -29,86 +28,45 @@ by_set true false true d = refl
 by_set true false false d = refl
 
 module _ (m n N : ℕ) (S Ts : List ℕ) (k : ℕ) (g : Graph) where
-  abbrev pub exists : Bool
+  abbrev exists : Bool
   exists = below N S && below N Ts && ltb k N
 
-  abbrev pub is_set : List ℕ → Bool
+  abbrev is_set : List ℕ → Bool
   is_set xs = non_empty xs && distinct xs
 
-  abbrev sets : Bool
-  sets = non_empty S && non_empty Ts && distinct S && distinct Ts
-
-  abbrev pub free : Bool
+  abbrev free : Bool
   free = is_inner m n N k && unused N g k
 
-  abbrev pub joined : Bool
+  abbrev joined : Bool
   joined = each S (λ s. each Ts (λ t. present (g s t)))
 
-  abbrev pub saves : Bool
+  abbrev saves : Bool
   saves = ltb (length S + length Ts) (covered_arcs N S Ts g)
 
-  abbrev pub near : Bool
+  abbrev near : Bool
   near = each S (λ s. fits delay_limit (to_centre S Ts g s))
 
-  abbrev pub verdict : Verdict (Unit {0})
-  verdict = star_verdict m n N S Ts k g
-
-  pub refused_7 : exists ≡ false → refused 7 ≡ verdict
+  -- the tests in the order of the code
+  pub in_order : chain exists (is_set S && is_set Ts) free joined saves near ≡ star_verdict m n N S Ts k g
   unfolding star_verdict below
-  refused_7 a = λ i. chain (sym a i) sets free joined saves near
+  in_order = ap (λ (b : Bool). chain exists b free joined saves near) (sym (by_set (non_empty S) (non_empty Ts) (distinct S) (distinct Ts)))
 
-  module _ (a : exists ≡ true) where
-    pub sources_below : T (below N S)
-    sources_below = (and_e (below N S) (below N Ts) (and_e (below N S && below N Ts) (ltb k N) (true_is a)).0).0
+-- what the tests give
+set_of : {N : ℕ} {xs : List ℕ} → T (below N xs) → (non_empty xs && distinct xs) ≡ true → VertexSet N xs
+set_of {N} {xs} l b = let p = and_e (non_empty xs) (distinct xs) (true_is b) in record { under = l; some = p.0; apart = p.1 }
 
-    pub targets_below : T (below N Ts)
-    targets_below = (and_e (below N S) (below N Ts) (and_e (below N S && below N Ts) (ltb k N) (true_is a)).0).1
+module _ (N : ℕ) (S Ts : List ℕ) (k : ℕ) (a : (below N S && below N Ts && ltb k N) ≡ true) where
+  pub sources_below : T (below N S)
+  sources_below = (and_e (below N S) (below N Ts) (and_e (below N S && below N Ts) (ltb k N) (true_is a)).0).0
 
-    pub centre_below : k < N
-    centre_below = ltb→lt k N (and_e (below N S && below N Ts) (ltb k N) (true_is a)).1
+  pub targets_below : T (below N Ts)
+  targets_below = (and_e (below N S) (below N Ts) (and_e (below N S && below N Ts) (ltb k N) (true_is a)).0).1
 
-    refused_9 : sets ≡ false → refused 9 ≡ verdict
-    unfolding star_verdict below
-    refused_9 b = λ i. chain (sym a i) (sym b i) free joined saves near
+  pub centre_below : k < N
+  centre_below = ltb→lt k N (and_e (below N S && below N Ts) (ltb k N) (true_is a)).1
 
-    pub no_sources : is_set S ≡ false → refused 9 ≡ verdict
-    no_sources b = refused_9 (by_set (non_empty S) (non_empty Ts) (distinct S) (distinct Ts) ∙ no_first (is_set S) (is_set Ts) b)
-
-    pub no_targets : is_set Ts ≡ false → refused 9 ≡ verdict
-    no_targets b = refused_9 (by_set (non_empty S) (non_empty Ts) (distinct S) (distinct Ts) ∙ no_second (is_set S) (is_set Ts) b)
-
-    module _ (bS : is_set S ≡ true) (bT : is_set Ts ≡ true) where
-      both_sets : sets ≡ true
-      both_sets = by_set (non_empty S) (non_empty Ts) (distinct S) (distinct Ts) ∙ both (is_set S) (is_set Ts) bS bT
-
-      pub refused_8 : free ≡ false → refused 8 ≡ verdict
-      unfolding star_verdict below
-      refused_8 c = λ i. chain (sym a i) (sym both_sets i) (sym c i) joined saves near
-
-      module _ (c : free ≡ true) where
-        pub refused_10 : joined ≡ false → refused 10 ≡ verdict
-        unfolding star_verdict below
-        refused_10 d = λ i. chain (sym a i) (sym both_sets i) (sym c i) (sym d i) saves near
-
-        module _ (d : joined ≡ true) where
-          set_of : (xs : List ℕ) → T (below N xs) → is_set xs ≡ true → VertexSet N xs
-          set_of xs l b = let p = and_e (non_empty xs) (distinct xs) (true_is b) in record { under = l; some = p.0; apart = p.1 }
-
-          pub bundle_of : Bundle N S Ts g
-          bundle_of = record { sources = set_of S sources_below bS; targets = set_of Ts targets_below bT; joined = true_is d }
-
-          pub refused_13 : saves ≡ false → refused 13 ≡ verdict
-          unfolding star_verdict below
-          refused_13 e = λ i. chain (sym a i) (sym both_sets i) (sym c i) (sym d i) (sym e i) near
-
-          module _ (e : saves ≡ true) where
-            pub refused_14 : near ≡ false → refused 14 ≡ verdict
-            unfolding star_verdict below
-            refused_14 f = λ i. chain (sym a i) (sym both_sets i) (sym c i) (sym d i) (sym e i) (sym f i)
-
-            pub accepted_all : near ≡ true → accepted tt ≡ verdict
-            unfolding star_verdict below
-            accepted_all f = λ i. chain (sym a i) (sym both_sets i) (sym c i) (sym d i) (sym e i) (sym f i)
+  pub bundle_of : {g : Graph} → (non_empty S && distinct S) ≡ true → (non_empty Ts && distinct Ts) ≡ true → each S (λ s. each Ts (λ t. present (g s t))) ≡ true → Bundle N S Ts g
+  bundle_of bS bT d = record { sources = set_of sources_below bS; targets = set_of targets_below bT; joined = true_is d }
 
 -- what an accepted verdict gives
 pub star_ready : (m n N : ℕ) (S Ts : List ℕ) (k : ℕ) (g : Graph) (x : Unit {0}) → ((u v : ℕ) → T (fits delay_limit (g u v))) → star_verdict m n N S Ts k g ≡ accepted x → StarReady m n N S Ts k g

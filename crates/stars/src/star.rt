@@ -6,25 +6,21 @@ ghost use Rattle.laws.specs.Bounded.{each, member};
 ghost use Rattle.graph.specs.Delay.{at, present};
 ghost use Rattle.timing.specs.Limits.{max_vertices, delay_limit, fits};
 ghost use Rattle.reduction.specs.Star.{non_empty, distinct, starred};
-ghost use Rattle.paths.specs.Board.{Lent, graph_in};
+ghost use Rattle.paths.specs.Board.{Lent};
+ghost use Rattle.paths.specs.Tables.{timing_graph, of_table};
 ghost use Rattle.paths.specs.Cells.{cell_at};
 ghost use Rattle.plans.specs.OnBoards.{InRange, changed, remade};
 ghost use Rattle.stars.specs.StarCells.{least_gap, meeting, cleared_cell, source_cell, centre_cell, cell_after, gap};
 ghost use Rattle.stars.specs.StarReady.{below, VertexSet, Bundle};
 ghost use Rattle.stars.specs.StarOn.{star_on, covered_on, centre_fits, StarReadyOn};
 
-use paths::{Board, cells};
+use paths::{Board, Table, cells};
 use plans::rows;
 use plans::rows::Row;
 use timing::Refusal;
 
-// How many arcs are covered, and whether the delays to the centre are in range.
-#[derive(Clone, Copy)]
-struct Weight {
-    covered: usize,
-    in_range: bool,
-}
-
+// Sources, targets and centre stay parameters, as document 01's call has them: `steps::Star` holds them together, and few functions here take all three.
+// n is the bound of the numbers, and not the list's length.
 fn all_below(xs: &[usize], n: usize) -> bool
     ensures { result ≡ below n xs.now }
 {
@@ -38,7 +34,7 @@ fn exist(sources: &[usize], targets: &[usize], k: usize, n: usize) -> bool
     all_below(sources, n) && all_below(targets, n) && k < n
 }
 
-// Whether vertices below n are a set with a member; a list that is too long is not searched.
+// Whether vertices below n, a bound and no length, are a set with a member; a list that is too long is not searched.
 fn is_set(xs: &[usize], n: usize) -> bool
     requires { T (below n xs.now) }
     ensures { result ≡ (non_empty xs.now && distinct xs.now) }
@@ -69,16 +65,13 @@ fn row_joined(row: &[i32], targets: &[usize]) -> bool
 }
 
 // Whether each source has an arc to each target.
-#[tactic(auto, using(crate::proofs::Members::row_inside))]
-fn all_joined(board: Board, table: &[i32], sources: &[usize], targets: &[usize]) -> bool
-    requires lent { Lent board table.now }
-    requires t { T (below board.vertices sources.now) }
-    requires t_2 { T (below board.vertices targets.now) }
-    ensures { result ≡ each sources.now (λ s. each targets.now (λ t. present (graph_in board table.now s t))) }
+fn all_joined(table: &Table, sources: &[usize], targets: &[usize]) -> bool
+    requires sources_below { T (below table.now.board.vertices sources.now) }
+    requires targets_below { T (below table.now.board.vertices targets.now) }
+    ensures { result ≡ each sources.now (λ s. each targets.now (λ t. present (timing_graph table.now s t))) }
 {
-    let n = board.vertices;
     for &s in sources {
-        if !row_joined(&table[n * s..], targets) {
+        if !row_joined(table.row(s), targets) {
             return false;
         }
     }
@@ -101,9 +94,9 @@ fn is_covered(delay: i32, first: i32, e: i64) -> bool
 // The least difference between a row and the first source's, over the targets.
 #[tactic(auto, using(crate::proofs::Members::below_at))]
 fn least_difference(row: &[i32], first: &Row, targets: &[usize]) -> i64
-    requires t { T (below (length row.now) targets.now) }
-    requires t_2 { T (below max_vertices targets.now) }
-    requires t_3 { T (non_empty targets.now) }
+    requires in_row { T (below (length row.now) targets.now) }
+    requires in_first { T (below max_vertices targets.now) }
+    requires some { T (non_empty targets.now) }
     ensures { at result ≡ least_gap row.now first.now targets.now }
 {
     let t = targets[0];
@@ -117,8 +110,8 @@ fn least_difference(row: &[i32], first: &Row, targets: &[usize]) -> i64
 // How many targets' arcs are equal to their sum through the centre.
 #[tactic(auto, using(crate::proofs::Members::below_at))]
 fn row_covered(row: &[i32], first: &Row, targets: &[usize], e: i64) -> usize
-    requires t { T (below (length row.now) targets.now) }
-    requires t_2 { T (below max_vertices targets.now) }
+    requires in_row { T (below (length row.now) targets.now) }
+    requires in_first { T (below max_vertices targets.now) }
     ensures { result ≡ meeting row.now first.now targets.now e }
 {
     let mut total = 0;
@@ -130,54 +123,57 @@ fn row_covered(row: &[i32], first: &Row, targets: &[usize], e: i64) -> usize
     total
 }
 
-// What one source adds.
-fn weigh(row: &[i32], first: &Row, targets: &[usize]) -> Weight
-    requires t { T (below (length row.now) targets.now) }
-    requires t_2 { T (below max_vertices targets.now) }
-    requires t_3 { T (non_empty targets.now) }
-    ensures covered_value { result.covered ≡ meeting row.now first.now targets.now (gap row.now first.now targets.now) }
-    ensures in_range_value { result.in_range ≡ fits delay_limit (least_gap row.now first.now targets.now) }
+// How many of a source's arcs are covered.
+fn covered_of(row: &[i32], first: &Row, targets: &[usize]) -> usize
+    requires in_row { T (below (length row.now) targets.now) }
+    requires in_first { T (below max_vertices targets.now) }
+    requires some { T (non_empty targets.now) }
+    ensures { result ≡ meeting row.now first.now targets.now (gap row.now first.now targets.now) }
 {
     let e = least_difference(row, first, targets);
-    Weight {
-        covered: row_covered(row, first, targets, e),
-        in_range: cells::in_range(e),
-    }
+    row_covered(row, first, targets, e)
 }
 
-// What all sources make.
-#[tactic(auto, using(crate::proofs::Members::row_inside))]
-fn weigh_all(board: Board, table: &[i32], sources: &[usize], targets: &[usize]) -> Weight
-    requires lent { Lent board table.now }
-    requires bundle { Bundle board.vertices sources.now targets.now (graph_in board table.now) }
-    ensures covered_value { result.covered ≡ covered_on board table.now sources.now targets.now }
-    ensures in_range_value { result.in_range ≡ centre_fits board table.now sources.now targets.now }
+// How many arcs are covered.
+fn covered_arcs(table: &Table, sources: &[usize], targets: &[usize]) -> usize
+    requires { Bundle table.now.board.vertices sources.now targets.now (timing_graph table.now) }
+    ensures { result ≡ of_table covered_on table.now sources.now targets.now }
 {
-    let n = board.vertices;
-    let first = rows::row_copy(table, n * sources[0], n);
+    let first = rows::row_copy(table.row(sources[0]));
     let mut covered = 0;
-    let mut in_range = true;
     for &s in sources {
-        let one = weigh(&table[n * s..], &first, targets);
-        covered += one.covered;
-        in_range &= one.in_range;
+        let row = table.row(s);
+        covered += covered_of(row, &first, targets);
     }
-    Weight { covered, in_range }
+    covered
+}
+
+// Whether the delays to the centre are in range.
+fn centre_fits(table: &Table, sources: &[usize], targets: &[usize]) -> bool
+    requires { Bundle table.now.board.vertices sources.now targets.now (timing_graph table.now) }
+    ensures { result ≡ of_table centre_fits table.now sources.now targets.now }
+{
+    let first = rows::row_copy(table.row(sources[0]));
+    for &s in sources {
+        let row = table.row(s);
+        if !cells::in_range(least_difference(row, &first, targets)) {
+            return false;
+        }
+    }
+    true
 }
 
 // The conditions, in the order of document 01: 7, 9, 8, 10, 13, 14.
 pub fn star_verdict(
-    board: Board,
-    table: &[i32],
+    table: &Table,
     sources: &[usize],
     targets: &[usize],
     k: usize,
 ) -> Result<(), Refusal>
-    requires lent { Lent board table.now }
-    requires in_range { InRange board table.now }
-    ensures { verdict result ≡ star_on board table.now sources.now targets.now k }
+    requires { of_table InRange table.now }
+    ensures { verdict result ≡ of_table star_on table.now sources.now targets.now k }
 {
-    let n = board.vertices;
+    let n = table.board.vertices;
     if !exist(sources, targets, k, n) {
         return Err(Refusal::WrongVertex);
     }
@@ -187,17 +183,16 @@ pub fn star_verdict(
     if !is_set(targets, n) {
         return Err(Refusal::WrongSet);
     }
-    if !rows::is_free(board, table, k) {
+    if !rows::is_free(table, k) {
         return Err(Refusal::NumberTaken);
     }
-    if !all_joined(board, table, sources, targets) {
+    if !all_joined(table, sources, targets) {
         return Err(Refusal::WrongArcs);
     }
-    let weight = weigh_all(board, table, sources, targets);
-    if weight.covered <= sources.len() + targets.len() {
+    if covered_arcs(table, sources, targets) <= sources.len() + targets.len() {
         return Err(Refusal::NothingSaved);
     }
-    if !weight.in_range {
+    if !centre_fits(table, sources, targets) {
         return Err(Refusal::DelayOutOfRange);
     }
     Ok(())
@@ -247,7 +242,7 @@ fn source_row(row: &mut [i32], first: &Row, targets: &[usize], k: usize)
     requires vertex_set { VertexSet (length row.old) targets.now }
     requires row_len_bound { length row.old ≤ max_vertices }
     requires k_in_bounds { k < length row.old }
-    requires t { T (fits delay_limit (least_gap row.old first.now targets.now)) }
+    requires gap_fits { T (fits delay_limit (least_gap row.old first.now targets.now)) }
     ensures { row.new ≡ remade (source_cell row.old first.now targets.now k (gap row.old first.now targets.now)) row.old }
 {
     let e = least_difference(row, first, targets);
@@ -255,35 +250,22 @@ fn source_row(row: &mut [i32], first: &Row, targets: &[usize], k: usize)
     row[k] = cells::narrow(e);
 }
 
-// The row of u.
-fn row_after(row: &mut [i32], first: &Row, targets: &[usize], k: usize, u: usize, source: bool)
-    requires vertex_set { VertexSet (length row.old) targets.now }
-    requires row_len_bound { length row.old ≤ max_vertices }
-    requires k_in_bounds { k < length row.old }
-    requires t { source ≡ true → T (fits delay_limit (least_gap row.old first.now targets.now)) }
-    ensures { row.new ≡ remade (cell_after row.old first.now targets.now k u source) row.old }
-{
-    if u == k {
-        centre_row(row, first, targets);
-        return;
-    }
-    if source {
-        source_row(row, first, targets, k);
-    }
-}
-
 // The step: one pass over the rows.
-#[tactic(auto, using(crate::proofs::Members::row_inside))]
 pub fn star_apply(board: Board, table: &mut [i32], sources: &[usize], targets: &[usize], k: usize)
     requires lent { Lent board table.old }
     requires star_ready_on { StarReadyOn board table.old sources.now targets.now k }
     ensures { table.new ≡ changed board (starred sources.now targets.now k) table.old }
 {
     let n = board.vertices;
-    let first = rows::row_copy(table, n * sources[0], n);
+    let first = rows::row_copy(cells::row(table, n, sources[0]));
     let is_source = marks(sources);
     for u in 0..n {
         let at = n * u;
-        row_after(&mut table[at..at + n], &first, targets, k, u, is_source[u]);
+        let row = &mut table[at..at + n];
+        if u == k {
+            centre_row(row, &first, targets);
+        } else if is_source[u] {
+            source_row(row, &first, targets, k);
+        }
     }
 }

@@ -35,7 +35,7 @@ shrink_ready m n N k g q = let h = shrink_accepted m n N k g tt q in (h.inner.1,
 pub merge_ready : (b : Board) (t : List ℤ) (o : ℕ) → Checked b t → (v : ℕ) (d : ℤ) → merge_back_verdict b.inputs b.outputs b.vertices o (graph_of b.vertices t) ≡ accepted (v, d)
     → (to_z w32 (of_z w32 d) ≡ d) × Drives b.vertices t v o (to_z w32 (of_z w32 d)) × T (merge_fits b.vertices (graph_of b.vertices t) v o (to_z w32 (of_z w32 d)))
 merge_ready b t o c v d q =
-    let r = verdict_drives b.vertices t o (sound_fits c.sound) b.inputs b.outputs c.lent.sized.roles (v, d) q in
+    let r = verdict_drives b.vertices t o (sound_fits c.sound) b.inputs b.outputs b.sized.roles (v, d) q in
     let kept : to_z w32 (of_z w32 d) ≡ d = to_z-of_z (delay_narrow d r.0.legal) in
     (kept, subst (Drives b.vertices t v o) (sym kept) r.0, subst (λ (x : ℤ). T (merge_fits b.vertices (graph_of b.vertices t) v o x)) (sym kept) r.1)
 

@@ -3,33 +3,24 @@ use Rattle.std.specs.Prelude.{Err, Ok, Result}
 use mathlib.Core.Path.{◌≡◌, refl, sym, ap, ◌∙◌, subst}
 use mathlib.Core.List.{List}
 use Prim.Native.Nat.{ℕ}
-use native.Mathlib.Omega.{arith}
 use lib.IntN.{ℤ}
-use lib.ListN.{length}
 use Rattle.graph.specs.Graph.{Graph}
 use Rattle.graph.specs.Count.{arcs}
 use Rattle.timing.specs.declared.Refusal.{Refusal}
 use Rattle.timing.specs.Refusal.{Verdict, refused, accepted, ◌then◌, left_by}
 use Rattle.timing.specs.Table.{graph_of, with_graph}
 use Rattle.reduction.specs.Outcome.{Reduced, one_step}
-use Rattle.reduction.specs.Steps.{Step, plan, step_on, step_call}
+use Rattle.reduction.specs.Steps.{Step, step_on, step_call}
 use Rattle.reduction.proofs.Steps.{plan_better}
 use Rattle.reduction.proofs.Kept.{put_back}
 use Rattle.paths.specs.declared.board.Board.{Board}
-use Rattle.paths.specs.Board.{Lent}
-use Rattle.paths.specs.Checked.{Checking, Passable, Checked}
+use Rattle.paths.specs.declared.sorted.Sorted.{Sorted}
+use Rattle.paths.specs.Checked.{Checking, Checked}
+use Rattle.paths.proofs.Tables.{passable_on}
 use Rattle.paths.proofs.Answering.{answers_on, answers_refused}
 use Rattle.plans.specs.OnBoards.{table_by, fit_table, Applies}
 use Rattle.plans.proofs.Applying.{planned}
-use Rattle.steps.specs.declared.step.Step as S
-use Rattle.steps.specs.Reduces.{counted, reduced_meaning, Reduces, step_meaning}
-
-pub still_lent : {b : Board} {t : List ℤ} → Lent b t → (after : List ℤ) → length after ≡ length t → Lent b after
-still_lent h after e = record { sized = h.sized; room = omega (arith, h.room, e) }
-
--- a step that is known to be x
-pub step_is : (b : Board) (t : List ℤ) (q x : S.Step) → q ≡ x → (after : List ℤ) (r : Result (Unit {0}) Refusal) → Applies b (step_meaning x) t after r → Applies b (step_meaning q) t after r
-step_is b t q x e after r h = subst (λ (y : S.Step). Applies b (step_meaning y) t after r) (sym e) h
+use Rattle.steps.specs.Reduces.{counted, reduced_meaning, Reduces}
 
 module _ (N : ℕ) where
   -- a new table as what a step leaves
@@ -65,11 +56,15 @@ step-counted b t q c after r h x k =
       left = h.left ∙ count_leaves N v t ∙ ap (λ (y : Verdict Reduced). left_by (λ (x : Reduced). x.table) y t) whole;
     }
 
-module _ {m n N s : ℕ} {t : List ℤ} {o : List ℕ} {made : Result Board Refusal} (c : Checking m n N s t o made) (q : Step) where
-  pub call_done : (b : Board) → made ≡ Ok b → (after : List ℤ) (r : Result (Unit {0}) Refusal) → Applies b q t after r → (x : Result ℕ Refusal) → x ≡ counted b.vertices r after → Reduces (step_call m n N s q t) t after x
+module _ {m n N s : ℕ} {t : List ℤ} (q : Step) where
+  pub call_done : (x : Sorted) → Checking m n N s t (Ok x) → (after : List ℤ) (r : Result (Unit {0}) Refusal) → Applies x.table.board q t after r → (y : Result ℕ Refusal) → y ≡ counted x.table.board.vertices r after → Reduces (step_call m n N s q t) t after y
   unfolding step_call
-  call_done b p after r h x k = answers_on c b p (λ m n N. step_on m n N q t) t after x (step-counted b t q (c.passable b p).0.checked after r h x k)
+  call_done x c after r h y k =
+      let b = x.table.board in
+      let e = (c.lent x refl).0 in
+      answers_on x c (λ m n N. step_on m n N q t) t after y
+      (subst (λ (z : List ℤ). Reduces (step_on b.inputs b.outputs b.vertices q t (graph_of b.vertices z)) t after y) (sym e) (step-counted b t q (passable_on x e).checked after r h y k))
 
-  pub call_refuses : (x : Refusal) → made ≡ Err x → Reduces (step_call m n N s q t) t t (Err x)
+  pub call_refuses : (x : Refusal) → Checking m n N s t (Err x) → Reduces (step_call m n N s q t) t t (Err x)
   unfolding step_call
-  call_refuses x p = answers_refused c x p (step_on m n N q t) t (Err x) refl
+  call_refuses x c = answers_refused x c (step_on m n N q t) t (Err x) refl

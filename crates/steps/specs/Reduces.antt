@@ -5,9 +5,6 @@ use Rattle.graph.specs.Count.{arcs}
 use Rattle.timing.specs.Refusal.{number, Verdict, refused, accepted, Answers}
 use Rattle.timing.specs.Table.{graph_of}
 use Rattle.reduction.specs.Outcome.{Reduced}
-use Rattle.reduction.specs.Steps.{Step, shrink, share_inputs, share_outputs, prune, merge_back}
-use Rattle.steps.specs.declared.step.Step as S
-use Rattle.steps.specs.declared.step.Step.TheVariants as W
 
 -- the answer of a call, from its step's and the table afterwards
 abbrev pub counted : ℕ → Result (Unit {0}) Refusal → List ℤ → Result ℕ Refusal
@@ -22,11 +19,3 @@ reduced_meaning (Err r) table = refused (number r)
 -- r and the table afterwards are what v says
 abbrev pub Reduces : Verdict Reduced → List ℤ → List ℤ → Result ℕ Refusal → Type 0
 Reduces = Answers reduced_meaning (λ x. x.table)
-
--- the step that the code's name stands for
-abbrev pub step_meaning : S.Step → Step
-step_meaning (W.Shrink k) = shrink k
-step_meaning (W.ShareInputs a b k) = share_inputs a b k
-step_meaning (W.ShareOutputs a b) = share_outputs a b
-step_meaning W.Prune = prune
-step_meaning (W.MergeBack o) = merge_back o

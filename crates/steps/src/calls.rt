@@ -2,29 +2,35 @@
 ghost use Rattle.std.specs.Prelude.{length};
 ghost use Rattle.reduction.specs.Steps.{shrink, share_inputs, share_outputs, prune, merge_back, star, step_call};
 ghost use Rattle.paths.specs.Queries.{ScratchAfter};
-ghost use Rattle.steps.specs.Reduces.{Reduces, step_meaning};
+ghost use Rattle.steps.specs.Reduces.{Reduces};
 
-use crate::step::Step;
-use crate::{apply, step};
-use paths::{cells, checks, room};
+use crate::step::{MergeBack, Prune, ShareInputs, ShareOutputs, Shrink, Star, Step};
+use paths::{Table, checks};
 use timing::Refusal;
 
-// The checks, then one of the five steps of the automatic run.
-pub fn reduce(
+// Document 01 hands each call its sizes, its table and its scratch one by one, and so does C: in every entry they stay parameters side by side.
+
+// The checks, then the step.
+pub fn reduce<S: Step>(
     inputs: usize,
     outputs: usize,
     vertices: usize,
     table: &mut [i32],
     scratch: &mut [i64],
-    step: Step,
+    step: &S,
 ) -> Result<usize, Refusal>
-    ensures reduces { Reduces (step_call inputs outputs vertices (length scratch.old) (step_meaning step) table.old) table.old table.new result }
+    ensures reduces { Reduces (step_call inputs outputs vertices (length scratch.old) (S.meaning step.now) table.old) table.old table.new result }
     ensures scratch_after { ScratchAfter inputs outputs vertices table.old scratch.old scratch.new }
 {
-    let mut order = room::vertex_bytes();
-    let board = checks::checked(inputs, outputs, vertices, table, scratch.len(), &mut order)?;
-    step::apply_step(board, table, &order, scratch, step)?;
-    Ok(cells::arcs(board, table))
+    let sorted = checks::checked(inputs, outputs, vertices, table, scratch.len())?;
+    let board = sorted.table.board;
+    let order = sorted.order;
+    step.apply(board, table, &order, scratch)?;
+    let left = Table {
+        board,
+        cells: table,
+    };
+    Ok(left.arcs())
 }
 
 // Shrinks inner vertex k.
@@ -39,7 +45,7 @@ pub fn shrink(
     ensures reduces { Reduces (step_call inputs outputs vertices (length scratch.old) (shrink k) table.old) table.old table.new result }
     ensures scratch_after { ScratchAfter inputs outputs vertices table.old scratch.old scratch.new }
 {
-    reduce(inputs, outputs, vertices, table, scratch, Step::Shrink(k))
+    reduce(inputs, outputs, vertices, table, scratch, &Shrink { k })
 }
 
 // Shares input a's arcs with input b, by the new number k.
@@ -62,7 +68,7 @@ pub fn share_inputs(
         vertices,
         table,
         scratch,
-        Step::ShareInputs(a, b, k),
+        &ShareInputs { a, b, k },
     )
 }
 
@@ -85,7 +91,7 @@ pub fn share_outputs(
         vertices,
         table,
         scratch,
-        Step::ShareOutputs(a, b),
+        &ShareOutputs { a, b },
     )
 }
 
@@ -100,7 +106,7 @@ pub fn prune(
     ensures reduces { Reduces (step_call inputs outputs vertices (length scratch.old) prune table.old) table.old table.new result }
     ensures scratch_after { ScratchAfter inputs outputs vertices table.old scratch.old scratch.new }
 {
-    reduce(inputs, outputs, vertices, table, scratch, Step::Prune)
+    reduce(inputs, outputs, vertices, table, scratch, &Prune)
 }
 
 // Merges output o with its driver.
@@ -115,14 +121,7 @@ pub fn merge_back(
     ensures reduces { Reduces (step_call inputs outputs vertices (length scratch.old) (merge_back o) table.old) table.old table.new result }
     ensures scratch_after { ScratchAfter inputs outputs vertices table.old scratch.old scratch.new }
 {
-    reduce(
-        inputs,
-        outputs,
-        vertices,
-        table,
-        scratch,
-        Step::MergeBack(o),
-    )
+    reduce(inputs, outputs, vertices, table, scratch, &MergeBack { o })
 }
 
 // Leads the arcs from sources to targets through the new centre k.
@@ -139,8 +138,10 @@ pub fn star(
     ensures reduces { Reduces (step_call inputs outputs vertices (length scratch.old) (star sources.now targets.now k) table.old) table.old table.new result }
     ensures scratch_after { ScratchAfter inputs outputs vertices table.old scratch.old scratch.new }
 {
-    let mut order = room::vertex_bytes();
-    let board = checks::checked(inputs, outputs, vertices, table, scratch.len(), &mut order)?;
-    apply::apply_star(board, table, sources, targets, k)?;
-    Ok(cells::arcs(board, table))
+    let star = Star {
+        sources,
+        targets,
+        k,
+    };
+    reduce(inputs, outputs, vertices, table, scratch, &star)
 }

@@ -10,12 +10,12 @@ use lib.ListN.{length}
 use Rattle.timing.specs.declared.Refusal.{Refusal}
 use Rattle.timing.specs.declared.Refusal.TheVariants.{FileEnds, WrongMark, NotRising, WrongCount, FileGoesOn, WrongLibrary}
 use Rattle.timing.specs.Refusal.{Verdict, refused, accepted}
-use Rattle.timing.specs.Checks.{memory_checked, arcs_checked}
+use Rattle.timing.specs.Checks.{memory_checked, arcs_checked, BoardSizes}
 use Rattle.format.specs.declared.Record.{Record}
 use Rattle.format.specs.declared.Record.TheVariants as R
 use Rattle.format.specs.Library.{library_fits}
 use Rattle.format.specs.Records.{mark_at, record_at}
-use Rattle.format.specs.Reading.{Reading, stopped, got, ask, placed, ◌next◌, BoardSizes, is_board, header, opened, Onward, rising, records_from, board_shape, known_at, board_records, file_graph, arcs_read, read_call}
+use Rattle.format.specs.Reading.{Reading, stopped, got, ask, placed, ◌next◌, is_board, header, opened, Onward, rising, records_from, board_shape, known_at, board_records, file_graph, arcs_read, read_call}
 use Rattle.format.proofs.AcceptedRecords.{legal, stands}
 use Rattle.files.proofs.Opening.{opened_long}
 

@@ -19,12 +19,11 @@ use Rattle.graph.specs.Graph.{Graph}
 use Rattle.graph.specs.Count.{arcs}
 use Rattle.timing.proofs.Most.{arcs-most}
 use Rattle.paths.specs.declared.board.Board.{Board}
-use Rattle.paths.specs.Board.{graph_in}
+use Rattle.paths.specs.Board.{graph_in, sizes_of}
 use Rattle.paths.specs.Checked.{Checked}
+use Rattle.timing.specs.Checks.{BoardSizes}
 use Rattle.format.specs.Arcs.{Arc, arc_in, row_arcs, arcs_between, arcs_of}
-use Rattle.format.specs.Reading.{BoardSizes}
 use Rattle.format.specs.Text.{digits, digits_of, decimal, signed_decimal, words, board_line, arc_line, counts_line, refused_line, arc_lines, reduced_text}
-use Rattle.files.specs.Read.{sizes_of}
 use Rattle.files.proofs.ArcForms.{lines_are}
 use Rattle.files.proofs.ArcParts.{arcs_count}
 
@@ -137,7 +136,7 @@ parts_length xs ys zs = omega (arith, length-append (xs ++ ys) zs, length-append
 
 pub reduced_most : {b : Board} {t : List ℤ} → Checked b t → (steps left : ℕ) → steps < 10 ^ 4 → left < 10 ^ 4 → length (reduced_text (sizes_of b) (record { table = t; steps = steps; arcs_left = left })) ≤ 88149
 reduced_most {b} {t} k steps left s l =
-    let z = k.lent.sized in
+    let z = b.sized in
     let g = graph_in b t in
     let xs = arc_lines (arcs_of b.vertices g) in
     omega (

@@ -9,11 +9,11 @@ use native.Mathlib.Omega.{arith}
 use lib.IntN.{ℤ}
 use lib.ListN.{length, drop_of_length-le}
 use Rattle.laws.specs.Lists.{tabulate, rows}
-use Rattle.timing.specs.declared.Refusal.{Refusal}
 use Rattle.timing.specs.Limits.{max_vertices, absent_cell}
 use Rattle.timing.specs.Table.{with_graph}
+use Rattle.timing.specs.Checks.{BoardSizes}
 use Rattle.format.specs.Library.{built_in}
-use Rattle.format.specs.Reading.{Reading, BoardSizes, no_arcs, read_call, table_read}
+use Rattle.format.specs.Reading.{Reading, no_arcs, read_call, table_read}
 use Rattle.format.specs.Text.{text_of, most_cells, blank, thin_text}
 use Rattle.files.specs.Read.{read_meaning}
 use Rattle.text.proofs.Offsets.{StopsBy, read_stops}

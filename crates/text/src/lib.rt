@@ -6,28 +6,23 @@ ghost use Rattle.timing.specs.Refusal.{number};
 ghost use Rattle.format.specs.Library.{built_in};
 ghost use Rattle.format.specs.Reading.{got};
 ghost use Rattle.format.specs.Text.{refused_line, reduced_text, most_cells, text_of, thin_text};
-ghost use Rattle.paths.specs.Checked.{Checked};
+ghost use Rattle.paths.specs.Tables.{table_sizes, IsSound};
 ghost use Rattle.records.specs.Appending.{Appends};
 ghost use Rattle.records.specs.Writing.{HasRoom, Puts};
-ghost use Rattle.files.specs.Read.{sizes_of};
+ghost use Rattle.paths.specs.Board.{sizes_of};
 ghost use Rattle.text.specs.Text.{text_bytes};
 
 use files::write::Lines;
 use files::{library, place, read, write};
-use paths::{Board, room};
+use paths::{Board, Table};
+use records::library::CODES;
 use records::lines;
 use records::put::Writer;
 use run::calls;
 use timing::{Refusal, numbers};
 
-// The bytes that the longest text needs.
+// The bytes that the longest text needs: that a run of bytes has as many stays a clause, for the caller lends a slice of any length.
 pub const PAGE: usize = 88_149;
-
-pub fn page() -> [u8; PAGE]
-    ensures { length result ≡ text_bytes }
-{
-    [0u8; PAGE]
-}
 
 fn refused_text(refusal: Refusal, offset: usize, out: &mut [u8]) -> usize
     requires offset_bound { offset < 10 ^ 10 }
@@ -40,28 +35,29 @@ fn refused_text(refusal: Refusal, offset: usize, out: &mut [u8]) -> usize
     w.at
 }
 
-fn put_reduced(w: &mut Writer, board: Board, table: &[i32], steps: usize, arcs: usize)
-    requires checked { Checked board table.now }
+fn put_reduced(w: &mut Writer, table: &Table, steps: usize, arcs: usize)
+    requires sound { IsSound table.now }
     requires steps_bound { steps < 10 ^ 4 }
     requires arcs_bound { arcs < 10 ^ 4 }
-    requires room { HasRoom (reduced_text (sizes_of board) (record { table = table.now; steps = steps; arcs_left = arcs })) w.old }
-    ensures { Puts (reduced_text (sizes_of board) (record { table = table.now; steps = steps; arcs_left = arcs })) w.old w.new }
+    requires room { HasRoom (reduced_text (table_sizes table.now) (record { table = table.now.cells.now; steps = steps; arcs_left = arcs })) w.old }
+    ensures { Puts (reduced_text (table_sizes table.now) (record { table = table.now.cells.now; steps = steps; arcs_left = arcs })) w.old w.new }
 {
+    let board = table.board;
     lines::board_line(w, board.inputs, board.outputs, board.vertices);
-    write::put_arcs::<Lines>(w, board, table);
+    write::put_arcs::<Lines>(w, table);
     lines::counts_line(w, steps, arcs);
 }
 
-fn reduced_text(board: Board, table: &[i32], steps: usize, arcs: usize, out: &mut [u8]) -> usize
-    requires checked { Checked board table.now }
+fn reduced_text(table: &Table, steps: usize, arcs: usize, out: &mut [u8]) -> usize
+    requires sound { IsSound table.now }
     requires steps_bound { steps < 10 ^ 4 }
     requires arcs_bound { arcs < 10 ^ 4 }
     requires text_bytes_in_bounds { text_bytes ≤ length out.old }
-    ensures appends { Appends (reduced_text (sizes_of board) (record { table = table.now; steps = steps; arcs_left = arcs })) out.old 0 out.new result }
+    ensures appends { Appends (reduced_text (table_sizes table.now) (record { table = table.now.cells.now; steps = steps; arcs_left = arcs })) out.old 0 out.new result }
     ensures upper_bound { result ≤ text_bytes }
 {
     let mut w = Writer::new(out);
-    put_reduced(&mut w, board, table, steps, arcs);
+    put_reduced(&mut w, table, steps, arcs);
     w.at
 }
 
@@ -73,7 +69,13 @@ fn run_text(board: Board, table: &mut [i32], scratch: &mut [i64], out: &mut [u8]
     ensures upper_bound { result ≤ text_bytes }
 {
     match calls::run(board.inputs, board.outputs, board.vertices, table, scratch) {
-        Ok(ran) => reduced_text(board, table, ran.steps, ran.arcs, out),
+        Ok(ran) => {
+            let left = Table {
+                board,
+                cells: table,
+            };
+            reduced_text(&left, ran.steps, ran.arcs, out)
+        }
         Err(refusal) => refused_text(refusal, 0, out),
     }
 }
@@ -108,9 +110,9 @@ pub fn thin_text(input: &[u8], out: &mut [u8]) -> usize
     ensures appends { Appends (thin_text input.now) out.old 0 out.new result }
     ensures upper_bound { result ≤ text_bytes }
 {
-    let mut library = library::none();
+    let mut library = [0; CODES];
     library::built_in(&mut library);
-    let mut table = room::cells();
-    let mut scratch = room::wide_cells();
+    let mut table = [0; Board::MAX_CELLS];
+    let mut scratch = [0; Board::MAX_CELLS];
     text_into(input, &library, &mut table, &mut scratch, out)
 }

@@ -5,7 +5,7 @@ fn main() {
     // No more than these bytes are read; a failed read counts as the end.
     let mut input = io::large_buffer();
     let got = io::read_full(0, &mut input);
-    let mut out = text::page();
+    let mut out = [0; text::PAGE];
     let length = text::thin_text(&input[..got], &mut out);
     io::write_all(1, &out[..length]);
 }

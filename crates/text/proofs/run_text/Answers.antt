@@ -3,20 +3,25 @@ use Rattle.records.proofs.Appending.{appends_same}
 use Rattle.text.proofs.RunTexts.{ran_checked, ran_text}
 use Rattle.text.proofs.run_text.Goals as goal
 
-pub reduced_text-requires-clause-checked : goal.reduced_text-requires-clause-checked
-reduced_text-requires-clause-checked c =
+pub invariant_of-left : goal.invariant_of-left
+invariant_of-left c =
     let a = c.args in
-    (ran_checked a.board.inputs a.board.outputs a.board.vertices (length a.scratch.now) a.table.now c.run.ensures.runs _ c.in-Ok.is).0
+    record { room = (ran_checked a.board (length a.scratch.now) a.table.now c.run.ensures.runs _ c.in-Ok.is).0.lent }
+
+pub reduced_text-requires-clause-sound : goal.reduced_text-requires-clause-sound
+reduced_text-requires-clause-sound c =
+    let a = c.args in
+    (ran_checked a.board (length a.scratch.now) a.table.now c.run.ensures.runs _ c.in-Ok.is).0.sound
 
 pub reduced_text-requires-clause-steps_bound : goal.reduced_text-requires-clause-steps_bound
 reduced_text-requires-clause-steps_bound c =
     let a = c.args in
-    (ran_checked a.board.inputs a.board.outputs a.board.vertices (length a.scratch.now) a.table.now c.run.ensures.runs _ c.in-Ok.is).1
+    (ran_checked a.board (length a.scratch.now) a.table.now c.run.ensures.runs _ c.in-Ok.is).1
 
 pub reduced_text-requires-clause-arcs_bound : goal.reduced_text-requires-clause-arcs_bound
 reduced_text-requires-clause-arcs_bound c =
     let a = c.args in
-    (ran_checked a.board.inputs a.board.outputs a.board.vertices (length a.scratch.now) a.table.now c.run.ensures.runs _ c.in-Ok.is).2
+    (ran_checked a.board (length a.scratch.now) a.table.now c.run.ensures.runs _ c.in-Ok.is).2
 
 pub returns-in-Ok-clause-appends : goal.returns-in-Ok-clause-appends
 returns-in-Ok-clause-appends c =

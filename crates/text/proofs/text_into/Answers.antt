@@ -1,4 +1,4 @@
-use Rattle.std.proofs.Common.{◌∙◌, ◌≤◌, arith}
+use Rattle.std.proofs.Common.{◌∙◌, arith}
 use Rattle.records.proofs.Appending.{appends_same}
 use Rattle.text.proofs.ThinTexts.{blank-table, text_is, stops_inside}
 use Rattle.text.proofs.text_into.Goals as goal

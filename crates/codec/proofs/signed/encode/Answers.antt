@@ -1,11 +1,10 @@
-use Rattle.std.proofs.Common.{◌≡◌, ap, ◌∙◌, w64}
+use Rattle.std.proofs.Common.{length, take, ap, ◌∙◌, w64}
+use Rattle.std.specs.Int.{cast_unsigned}
 use mir.Facts.{to_z-of_z}
-use Rattle.codec.specs.Bytes.{pattern}
-use Rattle.codec.proofs.Patterns.{pattern-below}
+use Rattle.codec.proofs.Places.{first_bytes, pattern_bytes}
 use Rattle.codec.proofs.signed.encode.Goals as goal
 
-pub put_number-requires-clause-x_bound : goal.put_number-requires-clause-x_bound
-put_number-requires-clause-x_bound c =
-    let a = c.args in
-    let p : c.to_pattern-p.result ≡ pattern a.width a.x = c.to_pattern-p.ensures ∙ ap (pattern a.width) (to_z-of_z {w = w64} c.ranges.x) in
-    rw p (pattern-below a.width a.x c.requires.t)
+pub returns : goal.returns
+returns c =
+    let w = length c.args.bytes.now in
+    c.copy_from_slice.ensures.after ∙ ap (take w) (rw (to_z-of_z {w = w64} c.ranges.x) at c.to_le_bytes-all.ensures) ∙ first_bytes w (cast_unsigned w64 c.args.x) c.requires.few ∙ pattern_bytes w c.args.x c.requires.few c.requires.fits_width

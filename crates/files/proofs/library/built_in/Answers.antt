@@ -1,5 +1,5 @@
-use Rattle.std.proofs.Common.{◌∙◌, ◌≤◌, ◌<◌, arith, w32}
-use Rattle.laws.proofs.Filling.{fill_none, fill_turn, fill_all}
+use Rattle.std.proofs.Common.{◌∙◌, arith, w32}
+use Rattle.laws.proofs.Filling.{fill_none, fill_turn}
 use Rattle.laws.proofs.Signed.{back}
 use Rattle.timing.specs.Limits.{absent_cell}
 use Rattle.timing.specs.Table.{write_cell}

@@ -1,4 +1,4 @@
-use Rattle.std.proofs.Common.{◌≡◌, sym, ap, ◌∙◌, ◌<◌, rules, arith, Ok, w32, to_z, of_z}
+use Rattle.std.proofs.Common.{◌≡◌, sym, ap, ◌∙◌, rules, arith, w32, to_z, of_z}
 use Rattle.laws.proofs.Signed.{back}
 use Rattle.timing.specs.Refusal.{accepted, verdict}
 use Rattle.format.proofs.AcceptedRecords.{legal}

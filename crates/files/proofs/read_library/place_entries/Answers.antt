@@ -1,4 +1,4 @@
-use Rattle.std.proofs.Common.{◌≡◌, sym, ap, ◌∙◌, ℕ, ◌<◌, rules, arith, w32, to_z, of_z}
+use Rattle.std.proofs.Common.{◌≡◌, sym, ap, ◌∙◌, ℕ, rules, arith, w32, to_z, of_z}
 use Rattle.laws.specs.Lists.{tabulate}
 use Rattle.timing.specs.Limits.{absent_cell}
 use Rattle.timing.specs.Refusal.{accepted, verdict}

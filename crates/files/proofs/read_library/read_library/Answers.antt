@@ -1,4 +1,4 @@
-use Rattle.std.proofs.Common.{refl, sym, ap, ◌∙◌, length, eq-eqb, ne_eqb}
+use Rattle.std.proofs.Common.{sym, ◌∙◌, length, eq-eqb, ne_eqb}
 use Rattle.format.specs.Library.{library_cells}
 use Rattle.format.specs.LibraryFile.{library_call}
 use Rattle.timing.proofs.Verdict.{error_is}

@@ -1,4 +1,4 @@
-use Rattle.std.proofs.Common.{refl, ap, ◌∙◌, ◌≤◌, Ok, arith}
+use Rattle.std.proofs.Common.{refl, ap, ◌∙◌, Ok, arith}
 use Rattle.timing.proofs.Verdict.{error_is}
 use Rattle.format.specs.LibraryFile.{entry_at, entry_shape, library_records}
 use Rattle.files.proofs.Scanning.{all_left, turn_says, still_left}

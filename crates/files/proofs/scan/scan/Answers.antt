@@ -1,4 +1,4 @@
-use Rattle.std.proofs.Common.{◌≡◌, refl, sym, ap, subst, ◌∙◌, ℕ, ◌+◌, ◌≤◌, ◌<◌, Ok, length, get_or, set, arith}
+use Rattle.std.proofs.Common.{refl, sym, ap, subst, ◌∙◌, ℕ, ◌+◌, ◌≤◌, Ok, length, get_or, set, arith}
 use Rattle.timing.proofs.Verdict.{error_is}
 use Rattle.format.specs.Reading.{board_shape, board_records}
 use Rattle.files.proofs.Scanning.{all_left, turn_says, still_left}

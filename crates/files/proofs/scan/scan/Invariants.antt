@@ -1,4 +1,4 @@
-use Rattle.std.proofs.Common.{◌≡◌, length, ◌-◌}
+use Rattle.std.proofs.Common.{length, ◌-◌}
 use Rattle.format.specs.Reading.{board_shape, known_at, board_records}
 use Rattle.files.proofs.Scanning.{Left}
 use Rattle.files.proofs.Counting.{known_short, Counting}

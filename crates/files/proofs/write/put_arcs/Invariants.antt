@@ -8,4 +8,4 @@ use Rattle.files.proofs.write.put_arcs.Given as goal
 
 abbrev pub invariant-loop-u : goal.invariant-loop-u
 invariant-loop-u g l =
-    Remains (table_as g.F.Form.text l.fn.board l.table) l.initial.w (left (flat_map g.F.Form.text) (arcs_between l.fn.board.vertices (graph_in l.fn.board l.table)) l.fn.board.vertices l.u) l.w
+    Remains (table_as g.F.Form.text l.table.board l.table.cells.now) l.initial.w (left (flat_map g.F.Form.text) (arcs_between l.table.board.vertices (graph_in l.table.board l.table.cells.now)) l.table.board.vertices l.u) l.w

@@ -4,7 +4,7 @@ use Rattle.files.proofs.ArcForms.{held_fits, held_text}
 use Rattle.files.proofs.write.put_cell.Goals as goal
 
 pub put-requires-clause-delay_in_range : goal.put-requires-clause-delay_in_range
-put-requires-clause-delay_in_range g c = held_fits c.args.cell c.ranges.cell c.if-is_arc.ensures c.requires.t
+put-requires-clause-delay_in_range g c = held_fits c.args.cell c.ranges.cell c.if-is_arc.ensures c.requires.cell_in_range
 
 pub put-requires-clause-room : goal.put-requires-clause-room
 put-requires-clause-room g c = rw (held_text c.args.cell c.ranges.cell c.if-is_arc.ensures g.F.Form.text c.args.u c.args.v) at c.requires.room

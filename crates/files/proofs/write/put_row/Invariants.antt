@@ -8,4 +8,4 @@ use Rattle.files.proofs.write.put_row.Given as goal
 
 abbrev pub invariant-loop-v : goal.invariant-loop-v
 invariant-loop-v g l =
-    Remains (row_as g.F.Form.text l.fn.board l.table l.u) l.initial.w (left (flat_map g.F.Form.text) (row_arcs (graph_in l.fn.board l.table) l.u) l.n l.v) l.w
+    Remains (row_as g.F.Form.text l.table.board l.table.cells.now l.u) l.initial.w (left (flat_map g.F.Form.text) (row_arcs (graph_in l.table.board l.table.cells.now) l.u) l.table.board.vertices l.v) l.w

@@ -1,4 +1,4 @@
-use Rattle.std.proofs.Common.{◌∙◌, ◌≤◌, ◌<◌, arith, w32}
+use Rattle.std.proofs.Common.{◌∙◌, arith, w32}
 use Rattle.laws.proofs.Filling.{fill_none, fill_turn}
 use Rattle.laws.proofs.Signed.{back}
 use Rattle.host.specs.Runs.{run_cell}

@@ -11,7 +11,7 @@ use Rattle.paths.proofs.arrivals.offer.Goals as goal
 pub returns-then-gains : goal.returns-then-gains
 returns-then-gains c =
     let p = c.requires in
-    let f = sum_fits c.args.a c.args.cell p.reached p.t p.cell_nonzero in
+    let f = sum_fits c.args.a c.args.cell p.reached p.cell_fits p.cell_nonzero in
     let y : to_z w64 (of_z w64 (to_z w64 (of_z w64 c.args.a) +ℤ to_z w64 (of_z w64 c.from.result))) ≡ c.args.a +ℤ c.args.cell = grind (arith, to_z-of_z, widens) in
     let h = c.gains.ensures.later c.if-gains.true in
     let e : read_cell absent_wide (c.args.a +ℤ c.args.cell) ≡ arrival_in c.args.f.now c.args.x ⋓ (read_cell absent_wide c.args.a ⊕ read_cell absent_cell c.args.cell) = grind (arith, to_z-of_z, h.1) in

@@ -1,9 +1,9 @@
-use Rattle.std.proofs.Common.{◌-◌, length}
-use Rattle.paths.proofs.Offering.{Offering}
+use Rattle.std.proofs.Common.{◌-◌, length, get_or, pos}
+use Rattle.paths.proofs.Offering.{Walked}
 use Rattle.paths.proofs.arrivals.push.Given as goal
 
 abbrev pub invariant-loop-v : goal.invariant-loop-v
-invariant-loop-v l = Offering (length l.row) l.row l.chain l.a l.initial.f l.f l.v
+invariant-loop-v g l = Walked g.row.LANES (length l.row) l.row l.chain (λ k. get_or l.a k (pos 0)) l.initial.f l.f l.v
 
 abbrev pub decreases-loop-v : goal.decreases-loop-v
-decreases-loop-v l = length l.row - l.v
+decreases-loop-v g l = length l.row - l.v

@@ -21,13 +21,13 @@ returns-then-missing c =
 
 pub overflow_add-a : goal.overflow_add-a
 overflow_add-a c =
-    let there = reached c.args.a (other_bits w64 c.if-missing.false) c.requires.t in
-    let f = sum_fits c.args.a c.args.cell there c.requires.t_2 c.requires.cell_nonzero in
+    let there = reached c.args.a (other_bits w64 c.if-missing.false) c.requires.a_fits in
+    let f = sum_fits c.args.a c.args.cell there c.requires.cell_fits c.requires.cell_nonzero in
     grind (arith, to_z-of_z, widens)
 
 pub returns : goal.returns
 returns c =
-    let there = reached c.args.a (other_bits w64 c.if-missing.false) c.requires.t in
-    let f = sum_fits c.args.a c.args.cell there c.requires.t_2 c.requires.cell_nonzero in
+    let there = reached c.args.a (other_bits w64 c.if-missing.false) c.requires.a_fits in
+    let f = sum_fits c.args.a c.args.cell there c.requires.cell_fits c.requires.cell_nonzero in
     let e : to_z w64 (of_z w64 c.max.result) ≡ int_max c.args.best (c.args.a +ℤ c.args.cell) = grind (arith, to_z-of_z, widens) in
-    ap (read_cell absent_wide) e ∙ later_is c.args.a c.args.cell c.args.best there c.requires.t_2 c.requires.cell_nonzero
+    ap (read_cell absent_wide) e ∙ later_is c.args.a c.args.cell c.args.best there c.requires.cell_fits c.requires.cell_nonzero

@@ -18,11 +18,11 @@ returns-then-required-eq-ABSENT_WIDE c =
 pub overflow_sub-result : goal.overflow_sub-result
 overflow_sub-result c =
     subst (FitsSigned w64) (sym (ap₂ ◌-ℤ◌ (to_z-of_z w64 c.args.required c.ranges.required) (to_z-of_z w64 c.args.arrival c.ranges.arrival)))
-    (margin_fits c.args.required c.args.arrival (other_bits w64 c.if-required-eq-ABSENT_WIDE.false) (other_bits w64 c.if-arrival-eq-ABSENT_WIDE.false) c.requires.t c.requires.t_2)
+    (margin_fits c.args.required c.args.arrival (other_bits w64 c.if-required-eq-ABSENT_WIDE.false) (other_bits w64 c.if-arrival-eq-ABSENT_WIDE.false) c.requires.required_fits c.requires.arrival_fits)
 
 pub returns : goal.returns
 returns c =
     let nr = other_bits w64 c.if-required-eq-ABSENT_WIDE.false in
     let na = other_bits w64 c.if-arrival-eq-ABSENT_WIDE.false in
-    handed w64 (ap₂ ◌-ℤ◌ (to_z-of_z w64 c.args.required c.ranges.required) (to_z-of_z w64 c.args.arrival c.ranges.arrival)) (margin_fits c.args.required c.args.arrival nr na c.requires.t c.requires.t_2)
+    handed w64 (ap₂ ◌-ℤ◌ (to_z-of_z w64 c.args.required c.ranges.required) (to_z-of_z w64 c.args.arrival c.ranges.arrival)) (margin_fits c.args.required c.args.arrival nr na c.requires.required_fits c.requires.arrival_fits)
     ∙ margin_there c.args.required c.args.arrival nr na

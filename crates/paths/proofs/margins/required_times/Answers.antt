@@ -4,9 +4,10 @@ use Rattle.graph.specs.Delay.{mirror}
 use Rattle.timing.specs.Delays.{arrival_in}
 use Rattle.timing.specs.Margins.{cells}
 use Rattle.paths.specs.declared.board.Board.{Board}
-use Rattle.paths.specs.Arrivals.{stored, filled, times_at, Started, Given}
+use Rattle.paths.specs.Arrivals.{stored, filled, times_at, Starts, Given}
 use Rattle.paths.specs.Checked.{Passable}
 use Rattle.paths.specs.Margins.{InReach, own_from, latest_back}
+use Rattle.paths.proofs.Tables.{walk_passable}
 use Rattle.paths.proofs.MarginTimes.{outputs_started, back_reach, mirrored_back, placed_reach, placed_mirrored}
 use Rattle.paths.proofs.margins.required_times.Goals as goal
 
@@ -19,30 +20,34 @@ module _ {b : Board} {t : List ℤ} {o : List ℕ} (P : Passable b t o) (due f f
 pub mirror_all-requires : goal.mirror_all-requires
 mirror_all-requires c =
     let r = c.requires in
-    let room : c.args.board.vertices ≤ length c.args.required.now = omega (arith, r.required_len) in
-    rw (c.start.auto.f, r.required_len, c.start.ensures) (placed_reach r.passable.checked c.args.due.now r.given c.args.required.now room)
+    let P = walk_passable c.args.walk.now in
+    let room : c.args.walk.now.table.board.vertices ≤ length c.args.required.now = omega (arith, r.required_len) in
+    rw (c.start.auto.f, r.required_len, c.start.ensures) (placed_reach P.checked c.args.due.now r.given c.args.required.now room)
 
-pub propagate_back-requires-clause-started : goal.propagate_back-requires-clause-started
-propagate_back-requires-clause-started c =
+pub propagate_back-requires : goal.propagate_back-requires
+propagate_back-requires c =
     let r = c.requires in
-    let room : c.args.board.vertices ≤ length c.args.required.now = omega (arith, r.required_len) in
-    let e = own r.passable c.args.due.now c.args.required.now c.start.new.f c.mirror_all.new.f r.given r.required_len room c.start.ensures c.start.auto.f c.mirror_all.ensures in
-    subst (Started c.args.board c.args.table.now c.args.order.now) (sym e) (outputs_started r.passable.checked c.args.due.now r.given c.args.required.now room r.passable)
+    let P = walk_passable c.args.walk.now in
+    let room : c.args.walk.now.table.board.vertices ≤ length c.args.required.now = omega (arith, r.required_len) in
+    let e = own P c.args.due.now c.args.required.now c.start.new.f c.mirror_all.new.f r.given r.required_len room c.start.ensures c.start.auto.f c.mirror_all.ensures in
+    subst (Starts c.args.walk.now.table.board.vertices) (sym e) (outputs_started P.checked c.args.due.now r.given c.args.required.now room)
 
 pub mirror_all-requires-2 : goal.mirror_all-requires-2
 mirror_all-requires-2 c =
     let r = c.requires in
-    let room : c.args.board.vertices ≤ length c.args.required.now = omega (arith, r.required_len) in
-    let e = own r.passable c.args.due.now c.args.required.now c.start.new.f c.mirror_all.new.f r.given r.required_len room c.start.ensures c.start.auto.f c.mirror_all.ensures in
-    let are = c.propagate_back.ensures ∙ ap (λ (x : List ℤ). filled c.args.board.vertices (latest_back c.args.board c.args.table.now x) x) e in
-    let long : length c.propagate_back.new.f ≡ c.args.board.vertices = c.propagate_back.auto.f ∙ c.mirror_all.auto.f ∙ c.start.auto.f ∙ r.required_len in
-    subst (λ (k : ℕ). InReach k c.propagate_back.new.f) (sym long) (subst (InReach c.args.board.vertices) (sym are) (back_reach r.passable.checked c.args.due.now r.given c.args.required.now room))
+    let P = walk_passable c.args.walk.now in
+    let room : c.args.walk.now.table.board.vertices ≤ length c.args.required.now = omega (arith, r.required_len) in
+    let e = own P c.args.due.now c.args.required.now c.start.new.f c.mirror_all.new.f r.given r.required_len room c.start.ensures c.start.auto.f c.mirror_all.ensures in
+    let are = c.propagate_back.ensures ∙ ap (λ (x : List ℤ). filled c.args.walk.now.table.board.vertices (latest_back c.args.walk.now.table.board c.args.walk.now.table.cells.now x) x) e in
+    let long : length c.propagate_back.new.f ≡ c.args.walk.now.table.board.vertices = c.propagate_back.auto.f ∙ c.mirror_all.auto.f ∙ c.start.auto.f ∙ r.required_len in
+    subst (λ (k : ℕ). InReach k c.propagate_back.new.f) (sym long) (subst (InReach c.args.walk.now.table.board.vertices) (sym are) (back_reach P.checked c.args.due.now r.given c.args.required.now room))
 
 pub returns : goal.returns
 returns c =
     let r = c.requires in
-    let room : c.args.board.vertices ≤ length c.args.required.now = omega (arith, r.required_len) in
-    let e = own r.passable c.args.due.now c.args.required.now c.start.new.f c.mirror_all.new.f r.given r.required_len room c.start.ensures c.start.auto.f c.mirror_all.ensures in
-    let are = c.propagate_back.ensures ∙ ap (λ (x : List ℤ). filled c.args.board.vertices (latest_back c.args.board c.args.table.now x) x) e in
-    let long : length c.propagate_back.new.f ≡ c.args.board.vertices = c.propagate_back.auto.f ∙ c.mirror_all.auto.f ∙ c.start.auto.f ∙ r.required_len in
-    c.mirror_all-2.ensures ∙ ap₂ (λ (k : ℕ) (x : List ℤ). cells k (λ u. mirror (arrival_in x u))) long are ∙ mirrored_back r.passable.checked c.args.due.now r.given c.args.required.now room
+    let P = walk_passable c.args.walk.now in
+    let room : c.args.walk.now.table.board.vertices ≤ length c.args.required.now = omega (arith, r.required_len) in
+    let e = own P c.args.due.now c.args.required.now c.start.new.f c.mirror_all.new.f r.given r.required_len room c.start.ensures c.start.auto.f c.mirror_all.ensures in
+    let are = c.propagate_back.ensures ∙ ap (λ (x : List ℤ). filled c.args.walk.now.table.board.vertices (latest_back c.args.walk.now.table.board c.args.walk.now.table.cells.now x) x) e in
+    let long : length c.propagate_back.new.f ≡ c.args.walk.now.table.board.vertices = c.propagate_back.auto.f ∙ c.mirror_all.auto.f ∙ c.start.auto.f ∙ r.required_len in
+    c.mirror_all-2.ensures ∙ ap₂ (λ (k : ℕ) (x : List ℤ). cells k (λ u. mirror (arrival_in x u))) long are ∙ mirrored_back P.checked c.args.due.now r.given c.args.required.now room

@@ -28,21 +28,21 @@ raised n t row u fan₀ fan room l e h r v k =
 
 pub loop-u-init : goal.loop-u-init
 unfolding sum
-loop-u-init c = record { size = refl; counted = λ v h. get_or-replicate 90 v 0 0 (omega (arith, c.requires.sized.few)) }
+loop-u-init c = record { size = refl; counted = λ v h. get_or-replicate 90 v 0 0 (omega (arith, c.args.table.now.board.sized.few)) }
 
 pub raise-requires-clause-raisable : goal.raise-requires-clause-raisable
 raise-requires-clause-raisable c v h =
-    let l : v < c.args.board.vertices = omega (arith, ap length c.row.ensures, length-row_at c.args.board.vertices c.args.table.now c.loop-u.u c.requires.room c.loop-u-test.true) in
-    omega (arith, c.loop-u.invariant.counted v l, few (graph_in c.args.board c.args.table.now) c.loop-u.u v)
+    let l : v < c.args.table.now.board.vertices = omega (arith, ap length c.row.ensures, length-row_at c.args.table.now.board.vertices c.args.table.now.cells.now c.loop-u.u c.args.table.now.room c.loop-u-test.true) in
+    omega (arith, c.loop-u.invariant.counted v l, few (graph_in c.args.table.now.board c.args.table.now.cells.now) c.loop-u.u v)
 
 pub loop-u-preserved : goal.loop-u-preserved
 loop-u-preserved c = record {
   size = c.raise.ensures.0;
-  counted = raised c.args.board.vertices c.args.table.now c.row.result.now c.loop-u.u c.loop-u.fan c.raise.new.fan c.requires.room c.loop-u-test.true c.row.ensures c.loop-u.invariant.counted c.raise.ensures.1;
+  counted = raised c.args.table.now.board.vertices c.args.table.now.cells.now c.row.result.now c.loop-u.u c.loop-u.fan c.raise.new.fan c.args.table.now.room c.loop-u-test.true c.row.ensures c.loop-u.invariant.counted c.raise.ensures.1;
 }
 
 pub returns : goal.returns
 unfolding fan_in
 returns c =
-    let e : c.loop-u.u ≡ c.args.board.vertices = omega arith in
-    (c.loop-u.invariant.size, λ v h. c.loop-u.invariant.counted v h ∙ ap (λ (x : ℕ). above (graph_in c.args.board c.args.table.now) x v) e)
+    let e : c.loop-u.u ≡ c.args.table.now.board.vertices = omega arith in
+    (c.loop-u.invariant.size, λ v h. c.loop-u.invariant.counted v h ∙ ap (λ (x : ℕ). above (graph_in c.args.table.now.board c.args.table.now.cells.now) x v) e)

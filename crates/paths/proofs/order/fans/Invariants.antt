@@ -8,5 +8,5 @@ use Rattle.paths.proofs.order.fans.Given as goal
 abbrev pub invariant-loop-u : goal.invariant-loop-u
 invariant-loop-u l = record {
   size : length l.fan ≡ max_vertices;
-  counted : (v : ℕ) → v < l.board.vertices → get_or l.fan v 0 ≡ sum l.u (λ x. bit (graph_in l.board l.table x v));
+  counted : (v : ℕ) → v < l.table.board.vertices → get_or l.fan v 0 ≡ sum l.u (λ x. bit (graph_in l.table.board l.table.cells.now x v));
 }

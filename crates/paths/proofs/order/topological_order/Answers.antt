@@ -1,4 +1,4 @@
-use Rattle.std.proofs.Common.{◌≡◌, ◌≢◌, cond, ℕ, ◌+◌, ◌*◌, ◌<◌, ◌≤◌, List, length, get_or, ℤ, sym, ap, ◌∙◌, arith, add-one, set, length-set, get_or-set_same, get_or-set_other}
+use Rattle.std.proofs.Common.{◌≡◌, ◌≢◌, Some, refl, cond, ℕ, ◌+◌, ◌*◌, ◌<◌, ◌≤◌, List, length, get_or, ℤ, sym, ap, ◌∙◌, arith, add-one, set, length-set, get_or-set_same, get_or-set_other}
 use native.Mathlib.Decide.{ℕ_discrete, dec_lt}
 use lib.Dec.{eqb, eqb→eq}
 use mathlib.Core.Path.{subst}
@@ -10,9 +10,13 @@ use Rattle.timing.specs.Table.{graph_of}
 use Rattle.timing.proofs.Table.{graph_of_within}
 use Rattle.timing.proofs.Checks.{no_cycle_acyclic, acyclic_no_cycle}
 use Rattle.paths.specs.Cells.{cell_at, row_at}
+use Rattle.paths.specs.Order.{TopologicalOrder}
 use Rattle.paths.proofs.Rows.{row_at_cell, length-row_at}
 use Rattle.paths.proofs.Sorting.{Going, going_start, going_step, going_kept, going_all, going_stuck, covers, order_ranked}
 use Rattle.paths.proofs.order.topological_order.Goals as goal
+
+same_some : {A : Type 0} {a b : A} → Some a ≡ Some b → a ≡ b
+same_some e = cc
 
 -- a turn: u is the vertex found, and `row` its row
 module _ (n : ℕ) (t : List ℤ) (o f₀ : List ℕ) (p from u : ℕ) (row : List ℤ) (few : n ≤ max_vertices) (room : n * n ≤ length t) (G : Going n (graph_of n t) o f₀ p) (p-in : p < n) (u-in : u < n) (none : get_or f₀ u 0 ≡ 0)
@@ -58,24 +62,23 @@ module _ (n : ℕ) (t : List ℤ) (o f₀ : List ℕ) (p from u : ℕ) (row : Li
 pub loop-p-init : goal.loop-p-init
 loop-p-init c = record {
   fan_size = c.fans-fan.ensures.0;
-  order_size = c.requires.order_len;
-  going = going_start _ _ _ _ (omega (arith, c.requires.lent.sized.few, c.requires.order_len)) c.fans-fan.ensures.1;
+  order_size = refl;
+  going = going_start _ _ _ _ (omega (arith, c.args.table.now.board.sized.few)) c.fans-fan.ensures.1;
   upto = omega arith;
   placed = λ v h. absurd (omega arith);
 }
 
 pub returns-in_default : goal.returns-in_default
 returns-in_default c =
-    let n = c.args.board.vertices in
-    let t = c.args.table.now in
+    let n = c.args.table.now.board.vertices in
+    let t = c.args.table.now.cells.now in
     record {
-      long = c.loop-p.invariant.order_size;
       answer = sym (is_false _ (λ b. going_stuck (graph_of_within n t) c.loop-p.invariant.going c.loop-p-test.true (λ v h. waiting v h (dec_lt v c.loop-p.from))
           (no_cycle_acyclic n (graph_of n t) (graph_of_within n t) b)));
-      order = λ b. absurd b;
+      order = λ o e. absurd (let q : ◌≡◌ {A = ℕ} 0 1 = cc in omega arith);
     }
   where
-    waiting : (v : ℕ) → v < c.args.board.vertices → Dec (v < c.loop-p.from) → get_or c.loop-p.fan v 0 ≢ 0
+    waiting : (v : ℕ) → v < c.args.table.now.board.vertices → Dec (v < c.loop-p.from) → get_or c.loop-p.fan v 0 ≢ 0
     waiting v h (yes k) = λ e. omega (arith, c.loop-p.invariant.placed v k)
     waiting v h (no k) = c.in_default.ensures v (omega arith) h
 
@@ -83,18 +86,18 @@ pub lower-requires-clause-lowerable : goal.lower-requires-clause-lowerable
 lower-requires-clause-lowerable c =
     let h = c.in-Some.ensures in
     let i = c.loop-p.invariant in
-    lowerable c.args.board.vertices c.args.table.now c.loop-p.order c.loop-p.fan c.loop-p.p c.loop-p.from c.in-Some.u c.row.result.now c.requires.lent.sized.few c.requires.lent.room i.going c.loop-p-test.true h.0 h.1 i.placed i.upto c.row.ensures
+    lowerable c.args.table.now.board.vertices c.args.table.now.cells.now c.loop-p.order c.loop-p.fan c.loop-p.p c.loop-p.from c.in-Some.u c.row.result.now c.args.table.now.board.sized.few c.args.table.now.room i.going c.loop-p-test.true h.0 h.1 i.placed i.upto c.row.ensures
 
 pub loop-p-preserved : goal.loop-p-preserved
 loop-p-preserved c =
     let h = c.in-Some.ensures in
     let i = c.loop-p.invariant in
-    let e = turn c.args.board.vertices c.args.table.now c.loop-p.order c.loop-p.fan c.loop-p.p c.loop-p.from c.in-Some.u c.row.result.now c.requires.lent.sized.few c.requires.lent.room i.going c.loop-p-test.true h.0 h.1 i.placed i.upto c.row.ensures c.lower.new.fan c.lower.ensures.0 c.lower.ensures.1 in
+    let e = turn c.args.table.now.board.vertices c.args.table.now.cells.now c.loop-p.order c.loop-p.fan c.loop-p.p c.loop-p.from c.in-Some.u c.row.result.now c.args.table.now.board.sized.few c.args.table.now.room i.going c.loop-p-test.true h.0 h.1 i.placed i.upto c.row.ensures c.lower.new.fan c.lower.ensures.0 c.lower.ensures.1 in
     record { fan_size = simp length-set c.lower.ensures.0; order_size = simp length-set i.order_size; going = e.0; upto = rw c.past-from.ensures e.1; placed = rw c.past-from.ensures e.2 }
 
 pub returns : goal.returns
 returns c =
-    let n = c.args.board.vertices in
-    let t = c.args.table.now in
+    let n = c.args.table.now.board.vertices in
+    let t = c.args.table.now.cells.now in
     let o = going_all (graph_of_within n t) c.loop-p.invariant.going (omega arith) in
-    record { long = c.loop-p.invariant.order_size; answer = sym (is_true _ (acyclic_no_cycle n (graph_of n t) (ranked_acyclic (order_ranked o)))); order = λ _. o }
+    record { answer = sym (is_true _ (acyclic_no_cycle n (graph_of n t) (ranked_acyclic (order_ranked o)))); order = λ q e. subst (TopologicalOrder n (graph_of n t)) (same_some e) o }

@@ -1,11 +1,6 @@
-use Rattle.std.proofs.Common.{◌≡◌, ◌+◌, ℕ, pos, get_or, length, w64, to_z, of_z, sym, ap, ◌∙◌, rules, arith}
+use Rattle.std.proofs.Common.{◌≡◌, pos, get_or, w64, to_z, of_z, ap, ◌∙◌, rules, arith}
 use Rattle.timing.specs.Refusal.{verdict}
-use Rattle.timing.specs.Limits.{absent_wide}
-use Rattle.timing.specs.Table.{read_cell}
-use Rattle.timing.specs.Delays.{arrival_in}
-use Rattle.plans.specs.declared.common.Seen.{Seen}
-use Rattle.plans.specs.Comparing.{compared, seen, settled}
-use Rattle.plans.proofs.Differences.{seen_none, seen_more, seen_clash, seen_common}
+use Rattle.plans.proofs.Differences.{seen_none, seen_more, seen_ends, seen_refuses}
 use Rattle.plans.proofs.common.common_difference.Goals as goal
 
 pub compare-init : goal.compare-init
@@ -16,25 +11,19 @@ compare-preserved c =
     let j = c.compare.j in
     let x : to_z w64 (of_z w64 (get_or c.args.xs.now j (pos 0))) ≡ get_or c.args.xs.now j (pos 0) = search rules in
     let y : to_z w64 (of_z w64 (get_or c.args.ys.now j (pos 0))) ≡ get_or c.args.ys.now j (pos 0) = search rules in
+    let said = rw (x, y) at c.in-Ok.ensures in
     record {
       within = omega arith;
-      said = c.seen_next-seen.ensures ∙ (λ i. compared (c.compare.invariant.said i) (read_cell absent_wide (x i)) (read_cell absent_wide (y i))) ∙ seen_more _ _ j;
+      said = said ∙ seen_more _ _ j c.compare.seen c.compare.invariant.said;
     }
 
 pub returns-then-j-xs : goal.returns-then-j-xs
-returns-then-j-xs c =
-    let a = arrival_in c.args.xs.now in
-    let b = arrival_in c.args.ys.now in
-    let e : c.compare.j ≡ length c.args.xs.now = omega (arith, c.if-j-xs.true, c.compare.invariant.within) in
-    ap verdict (c.settle.ensures ∙ ap settled (c.compare.invariant.said ∙ ap (λ (k : ℕ). seen k a b) e)) ∙ seen_common a b (length c.args.xs.now)
+returns-then-j-xs c = ap verdict c.ok_or.ensures.value ∙ seen_ends _ _ c.compare.j _ c.compare.seen c.compare.invariant.said (omega (arith, c.if-j-xs.true, c.compare.invariant.within))
 
-pub returns-in-Clash : goal.returns-in-Clash
-returns-in-Clash c =
-    let a = arrival_in c.args.xs.now in
-    let b = arrival_in c.args.ys.now in
-    let n = length c.args.xs.now in
+pub returns-in-Err : goal.returns-in-Err
+returns-in-Err c =
     let j = c.compare.j in
     let x : to_z w64 (of_z w64 (get_or c.args.xs.now j (pos 0))) ≡ get_or c.args.xs.now j (pos 0) = search rules in
     let y : to_z w64 (of_z w64 (get_or c.args.ys.now j (pos 0))) ≡ get_or c.args.ys.now j (pos 0) = search rules in
-    let said : c.seen_next-seen.result ≡ seen (j + 1) a b = c.seen_next-seen.ensures ∙ (λ i. compared (c.compare.invariant.said i) (read_cell absent_wide (x i)) (read_cell absent_wide (y i))) ∙ seen_more a b j in
-    sym (ap (λ (s : Seen). verdict (settled s)) (seen_clash a b (j + 1) n (omega arith) (sym said ∙ c.in-Clash.is))) ∙ seen_common a b n
+    let said = rw (x, y) at c.in-Err.ensures in
+    seen_refuses _ _ j _ c.compare.seen _ c.compare.invariant.said (omega arith) said

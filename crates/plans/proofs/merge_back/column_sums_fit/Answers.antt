@@ -18,15 +18,15 @@ loop-u-init c = every_none _
 
 pub returns-then-not-sum_fits : goal.returns-then-not-sum_fits
 returns-then-not-sum_fits c =
-    let n = c.args.board.vertices in
+    let n = c.args.table.now.board.vertices in
     let u = c.loop-u.u in
-    let said : c.sum_fits.result ≡ fits delay_limit (read_cell absent_cell (get_or c.args.table.now (n * u + c.args.v) (pos 0)) ⊕ read_cell absent_cell c.args.d) = search rules in
-    sym (every_broken n _ u c.loop-u-test.true (sym (said ∙ sum_is n c.args.table.now u c.args.v c.args.d c.loop-u-test.true c.requires.v_lt_vertices c.requires.t) ∙ c.if-not-sum_fits.true))
+    let said : c.sum_fits.result ≡ fits delay_limit (read_cell absent_cell (get_or c.args.table.now.cells.now (n * u + c.args.v) (pos 0)) ⊕ read_cell absent_cell c.args.d) = search rules in
+    sym (every_broken n _ u c.loop-u-test.true (sym (said ∙ sum_is n c.args.table.now.cells.now u c.args.v c.args.d c.loop-u-test.true c.requires.v_lt_vertices c.requires.d_fits) ∙ c.if-not-sum_fits.true))
 
 pub loop-u-preserved : goal.loop-u-preserved
 loop-u-preserved c =
-    let n = c.args.board.vertices in
+    let n = c.args.table.now.board.vertices in
     let u = c.loop-u.u in
-    let said : c.sum_fits.result ≡ fits delay_limit (read_cell absent_cell (get_or c.args.table.now (n * u + c.args.v) (pos 0)) ⊕ read_cell absent_cell c.args.d) = search rules in
+    let said : c.sum_fits.result ≡ fits delay_limit (read_cell absent_cell (get_or c.args.table.now.cells.now (n * u + c.args.v) (pos 0)) ⊕ read_cell absent_cell c.args.d) = search rules in
     let d_is : to_z w32 (of_z w32 c.args.d) ≡ c.args.d = to_z-of_z w32 c.args.d c.ranges.d in
-    rw d_is (every_more _ u (rw d_is at c.loop-u.invariant) (sym (said ∙ sum_is n c.args.table.now u c.args.v c.args.d c.loop-u-test.true c.requires.v_lt_vertices c.requires.t) ∙ c.if-not-sum_fits.false))
+    rw d_is (every_more _ u (rw d_is at c.loop-u.invariant) (sym (said ∙ sum_is n c.args.table.now.cells.now u c.args.v c.args.d c.loop-u-test.true c.requires.v_lt_vertices c.requires.d_fits) ∙ c.if-not-sum_fits.false))

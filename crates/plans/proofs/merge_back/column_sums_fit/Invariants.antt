@@ -6,4 +6,4 @@ use Rattle.timing.specs.Table.{graph_of}
 use Rattle.plans.proofs.merge_back.column_sums_fit.Given as goal
 
 abbrev pub invariant-loop-u : goal.invariant-loop-u
-invariant-loop-u l = every l.u (λ u. fits delay_limit (graph_of l.n l.table u l.v ⊕ at l.fn.d)) ≡ true
+invariant-loop-u l = every l.u (λ u. fits delay_limit (graph_of l.table.board.vertices l.table.cells.now u l.v ⊕ at l.fn.d)) ≡ true

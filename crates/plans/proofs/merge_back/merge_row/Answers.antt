@@ -8,8 +8,8 @@ use Rattle.plans.proofs.MergedRows.{output_row, other_row}
 use Rattle.plans.proofs.merge_back.merge_row.Goals as goal
 use Rattle.plans.proofs.merge_back.merge_row.Goals.{then-u-o, else-u-o}
 
-pub join_row-requires-clause-t : goal.join_row-requires-clause-t
-join_row-requires-clause-t c = rw (negated_cell c.ranges.d c.requires.redirectable.legal c.negated.ensures) c.requires.lowered_fit
+pub join_row-requires-clause-sums_fit : goal.join_row-requires-clause-sums_fit
+join_row-requires-clause-sums_fit c = rw (negated_cell c.ranges.d c.requires.redirectable.legal c.negated.ensures) c.requires.lowered_fit
 
 pub returns : goal.returns
 returns c =

@@ -8,8 +8,8 @@ use Rattle.plans.proofs.rows.is_free.Goals.{then-is_inner, else-is_inner}
 
 pub returns-then-fan_out-eq0 : goal.returns-then-fan_out-eq0
 returns-then-fan_out-eq0 c =
-    let b = c.args.board in
-    let g = graph_of b.vertices c.args.table.now in
+    let b = c.args.table.now.board in
+    let g = graph_of b.vertices c.args.table.now.cells.now in
     elim c.if-is_inner.branch [
       | then-is_inner w ↦
           let inner : is_inner b.inputs b.outputs b.vertices c.args.k ≡ true = sym c.is_inner.ensures ∙ w.if-is_inner.true in
@@ -20,8 +20,8 @@ returns-then-fan_out-eq0 c =
 
 pub returns-else-fan_out-eq0 : goal.returns-else-fan_out-eq0
 returns-else-fan_out-eq0 c =
-    let b = c.args.board in
-    let g = graph_of b.vertices c.args.table.now in
+    let b = c.args.table.now.board in
+    let g = graph_of b.vertices c.args.table.now.cells.now in
     elim c.if-is_inner.branch [
       | then-is_inner w ↦
           let inner : is_inner b.inputs b.outputs b.vertices c.args.k ≡ true = sym c.is_inner.ensures ∙ w.if-is_inner.true in

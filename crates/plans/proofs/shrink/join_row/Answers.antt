@@ -18,7 +18,7 @@ join-requires c =
     let t = c.loop-t.t in
     let cell : to_z w32 (of_z w32 (get_or via t (pos 0))) ≡ get_or via t (pos 0) = search rules in
     rw (cell, to_z-of_z w32 c.args.into c.ranges.into)
-    (every_at (length c.args.row.now) (λ t. fits delay_limit (read_cell absent_cell c.args.into ⊕ cell_at via t)) c.requires.t t (omega arith))
+    (every_at (length c.args.row.now) (λ t. fits delay_limit (read_cell absent_cell c.args.into ⊕ cell_at via t)) c.requires.sums_fit t (omega arith))
 
 pub loop-t-preserved : goal.loop-t-preserved
 loop-t-preserved c =

@@ -1,15 +1,15 @@
-use Rattle.std.proofs.Common.{◌≡◌, ◌+◌, ◌*◌, ◌<◌, T, true, false, ℕ, ℤ, List, pos, get_or, w32, to_z, of_z, sym, ap, ap₂, subst, ◌∙◌, rules}
+use Rattle.std.proofs.Common.{◌≡◌, ◌+◌, ◌*◌, ◌<◌, T, true, false, ℕ, ℤ, List, pos, get_or, w32, to_z, of_z, sym, ap, subst, ◌∙◌, rules}
+use Rattle.std.proofs.lemmas.Int.{to_z-of_z}
 use Rattle.laws.specs.Bounded.{every}
 use Rattle.laws.proofs.Booleans.{is_true}
-use Rattle.laws.proofs.Bounded.{every_none, every_more, every_broken, every_all, every_same}
+use Rattle.laws.proofs.Bounded.{every_none, every_more, every_broken, every_all}
 use Rattle.graph.specs.Delay.{Delay, at, present, ◌⊕◌}
 use Rattle.timing.specs.Limits.{delay_limit, absent_cell, fits}
 use Rattle.timing.specs.Table.{read_cell, graph_of}
 use Rattle.timing.proofs.Limits.{fits_absent}
 use Rattle.timing.proofs.Table.{graph_of_at}
 use Rattle.paths.proofs.ReadCells.{absent_cell_lem, arc_cell}
-use Rattle.paths.proofs.Rows.{lent_cell}
-use Rattle.plans.proofs.CopiedRow.{lent_fits_lem}
+use Rattle.plans.proofs.CopiedRow.{row_fits, sums_row}
 use Rattle.plans.proofs.shrink.sums_fit.Goals as goal
 use Rattle.plans.proofs.shrink.sums_fit.Goals.{else-is_arc-via-then-is_arc+else-not-row_sums_fit, else-is_arc-via-else-is_arc}
 
@@ -27,42 +27,42 @@ module _ (n : ℕ) (t : List ℤ) (u k : ℕ) (hu : u < n) (hk : k < n) where
 pub loop-u-init : goal.loop-u-init
 loop-u-init c = every_none _
 
-pub row_sums_fit-requires-clause-t : goal.row_sums_fit-requires-clause-t
-row_sums_fit-requires-clause-t c =
-    let n = c.args.board.vertices in
-    let t = c.args.table.now in
+pub row_sums_fit-requires-clause-into_fits : goal.row_sums_fit-requires-clause-into_fits
+row_sums_fit-requires-clause-into_fits c =
+    let n = c.args.table.now.board.vertices in
+    let t = c.args.table.now.cells.now in
     let u = c.loop-u.u in
     let k = c.args.k in
-    let same : to_z w32 (of_z w32 (get_or t (n * u + k) (pos 0))) ≡ get_or t (n * u + k) (pos 0) = search rules in
+    let same = to_z-of_z w32 _ (record { sfits = c.cell-into.type_inv }) ∙ c.cell-into.ensures in
     let there : present (read_cell absent_cell (get_or t (n * u + k) (pos 0))) ≡ true = search rules in
     rw same (subst (λ (d : Delay). T (fits delay_limit d)) (sym (arc n t u k c.loop-u-test.true c.requires.k_lt_vertices there)) (c.requires.in_range u k))
 
-pub row_sums_fit-requires-clause-t_2 : goal.row_sums_fit-requires-clause-t_2
-row_sums_fit-requires-clause-t_2 c = lent_fits_lem c.args.board.vertices c.args.table.now c.args.k c.requires.lent.room c.requires.k_lt_vertices c.requires.in_range
+pub row_sums_fit-requires-clause-via_fits : goal.row_sums_fit-requires-clause-via_fits
+row_sums_fit-requires-clause-via_fits c = row_fits c.args.table.now.board.vertices c.args.table.now.cells.now c.args.k _ c.row-via.ensures c.args.table.now.room c.requires.k_lt_vertices c.requires.in_range
 
 pub returns-then-not-row_sums_fit : goal.returns-then-not-row_sums_fit
 returns-then-not-row_sums_fit c =
-    let n = c.args.board.vertices in
-    let t = c.args.table.now in
+    let n = c.args.table.now.board.vertices in
+    let t = c.args.table.now.cells.now in
     let u = c.loop-u.u in
     let k = c.args.k in
-    let same : to_z w32 (of_z w32 (get_or t (n * u + k) (pos 0))) ≡ get_or t (n * u + k) (pos 0) = search rules in
+    let same = to_z-of_z w32 _ (record { sfits = c.cell-into.type_inv }) ∙ c.cell-into.ensures in
     let there : present (read_cell absent_cell (get_or t (n * u + k) (pos 0))) ≡ true = search rules in
-    sym (every_broken n _ u c.loop-u-test.true (sym (c.row_sums_fit.ensures ∙ every_same n _ _
-    (λ x l. ap₂ (λ (a b : Delay). fits delay_limit (a ⊕ b)) (ap at same ∙ arc n t u k c.loop-u-test.true c.requires.k_lt_vertices there) (lent_cell n t k c.requires.lent.room c.requires.k_lt_vertices x l))) ∙ c.if-not-row_sums_fit.true))
+    sym (every_broken n _ u c.loop-u-test.true (sym (c.row_sums_fit.ensures ∙ sums_row (at (to_z w32 (of_z w32 c.cell-into.result))) n t k _ c.row-via.ensures c.args.table.now.room c.requires.k_lt_vertices
+    ∙ ap (λ (d : Delay). every n (λ x. fits delay_limit (d ⊕ graph_of n t k x))) (ap at same ∙ arc n t u k c.loop-u-test.true c.requires.k_lt_vertices there)) ∙ c.if-not-row_sums_fit.true))
 
 pub loop-u-preserved : goal.loop-u-preserved
 loop-u-preserved c =
-    let n = c.args.board.vertices in
-    let t = c.args.table.now in
+    let n = c.args.table.now.board.vertices in
+    let t = c.args.table.now.cells.now in
     let u = c.loop-u.u in
     let k = c.args.k in
     every_more _ u c.loop-u.invariant (elim c.else-is_arc.branch [
       | else-is_arc-via-then-is_arc+else-not-row_sums_fit w ↦
-          let same : to_z w32 (of_z w32 (get_or t (n * u + k) (pos 0))) ≡ get_or t (n * u + k) (pos 0) = search rules in
+          let same = to_z-of_z w32 _ (record { sfits = c.cell-into.type_inv }) ∙ c.cell-into.ensures in
           let there : present (read_cell absent_cell (get_or t (n * u + k) (pos 0))) ≡ true = search rules in
-          sym (w.row_sums_fit.ensures ∙ every_same n _ _
-          (λ x l. ap₂ (λ (a b : Delay). fits delay_limit (a ⊕ b)) (ap at same ∙ arc n t u k c.loop-u-test.true c.requires.k_lt_vertices there) (lent_cell n t k c.requires.lent.room c.requires.k_lt_vertices x l)))
+          sym (w.row_sums_fit.ensures ∙ sums_row (at (to_z w32 (of_z w32 c.cell-into.result))) n t k _ c.row-via.ensures c.args.table.now.room c.requires.k_lt_vertices
+          ∙ ap (λ (d : Delay). every n (λ x. fits delay_limit (d ⊕ graph_of n t k x))) (ap at same ∙ arc n t u k c.loop-u-test.true c.requires.k_lt_vertices there))
           ∙ w.if-not-row_sums_fit.false
       | else-is_arc-via-else-is_arc w ↦
           let gone : present (read_cell absent_cell (get_or t (n * u + k) (pos 0))) ≡ false = search rules in

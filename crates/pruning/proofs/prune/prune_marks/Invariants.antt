@@ -6,12 +6,12 @@ use Rattle.pruning.proofs.prune.prune_marks.Given as goal
 
 abbrev pub invariant-loop-four : goal.invariant-loop-four
 invariant-loop-four l = record {
-  past : drop (scratch_cells l.board.vertices) l.scratch ≡ drop (scratch_cells l.board.vertices) l.fn.scratch;
-  marked : AlsoMarked l.board.vertices (decides_below l.board l.table (4 * l.four)) l.fn.marks l.marks;
+  past : drop (scratch_cells l.walk.table.board.vertices) l.scratch ≡ drop (scratch_cells l.walk.table.board.vertices) l.fn.scratch;
+  marked : AlsoMarked l.walk.table.board.vertices (decides_below l.walk.table.board l.walk.table.cells.now (4 * l.four)) l.fn.marks l.marks;
 }
 
 abbrev pub invariant-loop-i : goal.invariant-loop-i
 invariant-loop-i l = record {
-  past : drop (scratch_cells l.board.vertices) l.scratch ≡ drop (scratch_cells l.board.vertices) l.fn.scratch;
-  marked : AlsoMarked l.board.vertices (decides_below l.board l.table l.i) l.fn.marks l.marks;
+  past : drop (scratch_cells l.walk.table.board.vertices) l.scratch ≡ drop (scratch_cells l.walk.table.board.vertices) l.fn.scratch;
+  marked : AlsoMarked l.walk.table.board.vertices (decides_below l.walk.table.board l.walk.table.cells.now l.i) l.fn.marks l.marks;
 }

@@ -10,5 +10,5 @@ loop-v-init c = sym (some_zero _)
 pub loop-v-preserved : goal.loop-v-preserved
 loop-v-preserved c =
     let v = c.loop-v.v in
-    let said : (present (cell_at c.args.row.now v) && not (get_or c.args.marks.now v false)) ≡ c.goes-some.result = search rules in
+    let said : (present (cell_at c.args.row.now v) && not (get_or c.args.marks.now v false)) ≡ (c.is_arc.result && not (get_or c.args.marks.now v false)) = search rules in
     ap₂ ◌||◌ c.loop-v.invariant (sym said) ∙ sym (some_more _ v)

@@ -4,71 +4,74 @@ use Rattle.laws.proofs.Signed.{same_bits, other_bits}
 use Rattle.timing.specs.Limits.{absent_wide}
 use Rattle.paths.specs.declared.board.Board.{Board}
 use Rattle.paths.specs.Arrivals.{Reached, Pushable}
+use Rattle.paths.proofs.Tables.{walk_passable}
 use Rattle.paths.proofs.Rows.{lent}
 use Rattle.paths.proofs.Chaining.{lent_chain}
 use Rattle.paths.proofs.Propagating.{pushable}
 use Rattle.pruning.proofs.AliveSweep as A
 use Rattle.pruning.proofs.prune.sweep.Goals as goal
+use Rattle.paths.specs.Order.{rank_of}
 
 -- a turn, at the place before p
 module _ {b : Board} {t : List ℤ} {o : List ℕ} {f₀ f : List ℤ} {marks₀ marks : List Bool} (p : ℕ) (some : 0 < p)
-    (inv : (i : ℕ) (S : A.Sweep b i t o f₀ marks₀) → A.Going b i t S.passable.order.rank f₀ f marks₀ marks p) (i : ℕ) (S : A.Sweep b i t o f₀ marks₀) where
-  going : A.Going b i t S.passable.order.rank f₀ f marks₀ marks (p - 1 + 1)
-  going = let e : p ≡ p - 1 + 1 = omega arith in subst (λ (k : ℕ). A.Going b i t S.passable.order.rank f₀ f marks₀ marks k) e (inv i S)
+    (inv : (i : ℕ) (S : A.Sweep b i t o f₀ marks₀) → A.Going b i t (rank_of b.vertices o) f₀ f marks₀ marks p) (i : ℕ) (S : A.Sweep b i t o f₀ marks₀) where
+  going : A.Going b i t (rank_of b.vertices o) f₀ f marks₀ marks (p - 1 + 1)
+  going = let e : p ≡ p - 1 + 1 = omega arith in subst (λ (k : ℕ). A.Going b i t (rank_of b.vertices o) f₀ f marks₀ marks k) e (inv i S)
 
 pub mark_row-found-requires-clause-reached : goal.mark_row-found-requires-clause-reached
 mark_row-found-requires-clause-reached c =
     let l = c.loop-p in
     let q = l.p - 1 in
-    let S : A.Sweep c.args.board c.requires.from_input.input c.args.table.now c.args.order.now c.args.f.now c.args.marks.now =
-    record { passable = c.requires.passable; delays = c.requires.from_input.delays; cells = c.requires.vertices_in_bounds } in
-    let a = get_or l.f (get_or c.args.order.now q 0) (pos 0) in
+    let S : A.Sweep c.args.walk.now.table.board c.requires.from_input.input c.args.walk.now.table.cells.now c.args.walk.now.order.now c.args.f.now c.args.marks.now =
+    record { passable = (walk_passable c.args.walk.now); delays = c.requires.from_input.delays; cells = c.requires.marks_room } in
+    let a = get_or l.f (get_or c.args.walk.now.order.now q 0) (pos 0) in
     let bits : to_z w64 (of_z w64 a) ≡ a = search rules in
-    subst Reached (sym bits) (A.reached S l.f l.marks q (going l.p c.loop-p-test.true l.invariant _ S) (other_bits w64 c.if-a.true))
+    rw c.from-u.ensures (subst Reached (sym bits) (A.reached S l.f l.marks q (going l.p c.loop-p-test.true l.invariant _ S) (other_bits w64 {b = absent_wide} (rw c.from-u.ensures at c.if-a.true))))
 
 pub mark_row-found-requires-clause-pushable : goal.mark_row-found-requires-clause-pushable
 mark_row-found-requires-clause-pushable c =
     let l = c.loop-p in
     let q = l.p - 1 in
-    let b = c.args.board in
-    let x = get_or c.args.order.now q 0 in
-    let p = c.requires.passable in
-    let S : A.Sweep b c.requires.from_input.input c.args.table.now c.args.order.now c.args.f.now c.args.marks.now =
-    record { passable = p; delays = c.requires.from_input.delays; cells = c.requires.vertices_in_bounds } in
+    let b = c.args.walk.now.table.board in
+    let x = get_or c.args.walk.now.order.now q 0 in
+    let p = (walk_passable c.args.walk.now) in
+    let S : A.Sweep b c.requires.from_input.input c.args.walk.now.table.cells.now c.args.walk.now.order.now c.args.f.now c.args.marks.now =
+    record { passable = p; delays = c.requires.from_input.delays; cells = c.requires.marks_room } in
     let now = going l.p c.loop-p-test.true l.invariant _ S in
     let vertex = A.x_in S l.f l.marks q now in
-    subst (λ (z : ℕ). Pushable z (lent b.vertices c.args.table.now x p.checked.lent.room vertex) (lent_chain c.requires.chains x p.checked.lent.room vertex) l.f) (sym (A.part_length S l.f l.marks q now))
-    (pushable p c.requires.chains x vertex l.f (omega (arith, S.delays.room, now.long)))
+    rw c.from-u.ensures
+    (subst (λ (z : ℕ). Pushable z (lent b.vertices c.args.walk.now.table.cells.now x p.checked.lent vertex) (lent_chain c.args.walk.now.chains x p.checked.lent vertex) l.f) (sym (A.part_length S l.f l.marks q now))
+    (pushable p c.args.walk.now.chains x vertex l.f (omega (arith, S.delays.room, now.long))))
 
 pub loop-p-preserved-then-not-is_alive : goal.loop-p-preserved-then-not-is_alive
 loop-p-preserved-then-not-is_alive c j w =
     let l = c.loop-p in
-    let a = get_or l.f (get_or c.args.order.now (l.p - 1) 0) (pos 0) in
+    let a = get_or l.f (get_or c.args.walk.now.order.now (l.p - 1) 0) (pos 0) in
     let bits : to_z w64 (of_z w64 a) ≡ a = search rules in
-    A.turn_dead w l.f l.marks (l.p - 1) (going l.p c.loop-p-test.true l.invariant j w) c.requires.chains c.mark_row-found.new.marks c.mark_row-found.result c.is_alive.result
-    (rw bits at c.mark_row-found.ensures) (other_bits w64 c.if-a.true) c.is_alive.ensures c.mark_row-found.auto.marks c.if-not-is_alive.true
+    rw c.from-u.ensures (A.turn_dead w l.f l.marks (l.p - 1) (going l.p c.loop-p-test.true l.invariant j w) c.args.walk.now.chains c.mark_row-found.new.marks c.mark_row-found.result c.is_alive.result
+    (rw (c.from-u.ensures, bits) at c.mark_row-found.ensures) (other_bits w64 {b = absent_wide} (rw c.from-u.ensures at c.if-a.true)) (rw c.from-u.ensures at c.is_alive.ensures) (rw c.from-u.ensures at c.mark_row-found.auto.marks) c.if-not-is_alive.true)
 
 pub loop-p-preserved-else-not-is_alive : goal.loop-p-preserved-else-not-is_alive
 loop-p-preserved-else-not-is_alive c j w =
     let l = c.loop-p in
-    let a = get_or l.f (get_or c.args.order.now (l.p - 1) 0) (pos 0) in
+    let a = get_or l.f (get_or c.args.walk.now.order.now (l.p - 1) 0) (pos 0) in
     let bits : to_z w64 (of_z w64 a) ≡ a = search rules in
-    A.turn_alive w l.f l.marks (l.p - 1) (going l.p c.loop-p-test.true l.invariant j w) c.requires.chains c.mark_row-found.new.marks c.mark_row-found.result c.is_alive.result
-    (rw bits at c.mark_row-found.ensures) (other_bits w64 c.if-a.true) c.is_alive.ensures c.mark_row-found.auto.marks c.if-not-is_alive.false
+    rw c.from-u.ensures (A.turn_alive w l.f l.marks (l.p - 1) (going l.p c.loop-p-test.true l.invariant j w) c.args.walk.now.chains c.mark_row-found.new.marks c.mark_row-found.result c.is_alive.result
+    (rw (c.from-u.ensures, bits) at c.mark_row-found.ensures) (other_bits w64 {b = absent_wide} (rw c.from-u.ensures at c.if-a.true)) (rw c.from-u.ensures at c.is_alive.ensures) (rw c.from-u.ensures at c.mark_row-found.auto.marks) c.if-not-is_alive.false)
 
 pub loop-p-preserved : goal.loop-p-preserved
 loop-p-preserved c j w =
     let l = c.loop-p in
     let q = l.p - 1 in
-    let fits : FitsSigned w64 (get_or l.f (get_or c.args.order.now q 0) (pos 0)) = search rules in
-    A.skip w l.f l.marks q (going l.p c.loop-p-test.true l.invariant j w) (same_bits {w = w64} {b = absent_wide} fits (sfits_lit tt) c.if-a.false)
+    let fits : FitsSigned w64 (get_or l.f (get_or c.args.walk.now.order.now q 0) (pos 0)) = search rules in
+    A.skip w l.f l.marks q (going l.p c.loop-p-test.true l.invariant j w) (same_bits {w = w64} {b = absent_wide} fits (sfits_lit tt) (rw c.from-u.ensures at c.if-a.false))
 
 pub returns-clause-swept : goal.returns-clause-swept
 returns-clause-swept c j D =
     let l = c.loop-p in
-    let S : A.Sweep c.args.board j c.args.table.now c.args.order.now c.args.f.now c.args.marks.now = record { passable = c.requires.passable; delays = D; cells = c.requires.vertices_in_bounds } in
+    let S : A.Sweep c.args.walk.now.table.board j c.args.walk.now.table.cells.now c.args.walk.now.order.now c.args.f.now c.args.marks.now = record { passable = (walk_passable c.args.walk.now); delays = D; cells = c.requires.marks_room } in
     let e : l.p ≡ 0 = omega arith in
-    A.end S l.f l.marks (subst (λ (k : ℕ). A.Going c.args.board j c.args.table.now S.passable.order.rank c.args.f.now l.f c.args.marks.now l.marks k) e (l.invariant j S))
+    A.end S l.f l.marks (subst (λ (k : ℕ). A.Going c.args.walk.now.table.board j c.args.walk.now.table.cells.now (rank_of c.args.walk.now.table.board.vertices c.args.walk.now.order.now) c.args.f.now l.f c.args.marks.now l.marks k) e (l.invariant j S))
 
 pub returns-clause-past : goal.returns-clause-past
-returns-clause-past c = (c.loop-p.invariant c.requires.from_input.input (record { passable = c.requires.passable; delays = c.requires.from_input.delays; cells = c.requires.vertices_in_bounds })).past
+returns-clause-past c = (c.loop-p.invariant c.requires.from_input.input (record { passable = (walk_passable c.args.walk.now); delays = c.requires.from_input.delays; cells = c.requires.marks_room })).past

@@ -15,7 +15,7 @@ loop-u-preserved c =
     let l = c.loop-u in
     let lent = row_lent n (thin_cell n t marks) t l.table l.u l.invariant in
     row_back n (thin_cell n t marks) t l.table l.u l.invariant c.thin_row.new.row
-    (row_thinned n t marks l.u c.requires.lent.room c.requires.vertices_in_bounds c.loop-u-test.true _ lent c.thin_row.ensures)
+    (row_thinned n t marks l.u c.requires.lent c.requires.marks_room c.loop-u-test.true _ lent c.thin_row.ensures)
 
 pub returns : goal.returns
 unfolding with_graph

@@ -3,4 +3,4 @@ use Rattle.run.proofs.FreshNumber.{NoneBelow}
 use Rattle.run.proofs.fresh.fresh_number.Given as goal
 
 abbrev pub invariant-loop-k : goal.invariant-loop-k
-invariant-loop-k l = NoneBelow l.board.inputs l.board.outputs l.board.vertices (graph_of l.board.vertices l.table) l.k
+invariant-loop-k l = NoneBelow l.table.board.inputs l.table.board.outputs l.table.board.vertices (graph_of l.table.board.vertices l.table.cells.now) l.k

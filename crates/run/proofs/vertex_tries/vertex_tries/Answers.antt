@@ -1,12 +1,10 @@
-use Rattle.std.proofs.Common.{◌≡◌, refl, ap, ◌∙◌, Bool, true, false, ℕ, ◌+◌, ◌≤◌, ◌<◌, arith}
-use mir.Val.{bool_byte}
+use Rattle.std.proofs.Common.{◌≡◌, ap, ◌∙◌, ℕ, ◌+◌, arith}
 use Rattle.reduction.specs.Run.{Try, try_step}
 use Rattle.paths.specs.declared.board.Board.{Board}
-use Rattle.run.specs.declared.vertex_tries.VertexStep.{VertexStep}
 use Rattle.run.specs.Running.{progress}
-use Rattle.run.specs.VertexSteps.{vertex_step, first_vertex, vertex_count}
+use Rattle.run.specs.VertexSteps.{VertexStep, vertex_step, first_vertex, vertex_count}
 use Rattle.run.proofs.Moving.{gained}
-use Rattle.run.proofs.Trying.{try_reaches, try_runs}
+use Rattle.run.proofs.Trying.{try_reaches, try_runs, gained_is}
 use Rattle.run.proofs.LeanRounds.{lean_tried}
 use Rattle.run.proofs.Sweeping.{swept_next, swept_all}
 use Rattle.run.proofs.vertex_tries.vertex_tries.Goals as goal
@@ -21,28 +19,24 @@ from b kind = first_vertex kind b.inputs b.outputs
 abbrev times : Board → VertexStep → ℕ
 times b kind = vertex_count kind b.inputs b.outputs b.vertices
 
-gained_is : (r : Bool) → bool_byte r ≡ gained r
-gained_is true = refl
-gained_is false = refl
-
 pub loop-v-preserved : goal.loop-v-preserved
-loop-v-preserved c =
+loop-v-preserved g c =
     let b = c.args.board in
-    let k = c.args.kind in
+    let k = g.K.VertexStep.kind in
     let q = vertex_step k c.loop-v.v in
-    let after = c.try_vertex.new.table in
+    let after = c.try_at.new.table in
     let i = c.loop-v.invariant in
     let done = c.loop-v.done + c.from-done.result in
-    let e : done ≡ c.loop-v.done + gained c.try_vertex.result = ap (λ (x : ℕ). c.loop-v.done + x) (c.from-done.ensures ∙ gained_is c.try_vertex.result) in
-    let reached = try_reaches i.running q after c.try_vertex.result c.try_vertex.ensures done e in
+    let e : done ≡ c.loop-v.done + gained c.try_at.result = ap (λ (x : ℕ). c.loop-v.done + x) (c.from-done.ensures ∙ gained_is c.try_at.result) in
+    let reached = try_reaches i.running q after c.try_at.result c.try_at.ensures done e in
     record {
-      running = try_runs i.running q after c.try_vertex.result c.try_vertex.ensures done e;
+      running = try_runs i.running q after c.try_at.result c.try_at.ensures done e;
       lean = lean_tried b k c.loop-v.v (progress c.loop-v.table c.loop-v.done) (progress after done) reached i.lean;
-      swept = swept_next b.vertices (try_of b k) (from b k) (times b k) (progress c.args.table.now c.args.steps) c.loop-v.v (progress c.loop-v.table c.loop-v.done) (progress after done) (omega (arith, c.end-end.ensures, c.loop-v-test.true)) reached i.swept;
+      swept = swept_next b.vertices (try_of b k) (from b k) (times b k) (progress c.args.table.now c.args.steps) c.loop-v.v (progress c.loop-v.table c.loop-v.done) (progress after done) (omega (arith, c.end-v-end.ensures, c.loop-v-test.true)) reached i.swept;
     }
 
 pub returns : goal.returns
-returns c =
+returns g c =
     let b = c.args.board in
-    let k = c.args.kind in
-    swept_all b.vertices (try_of b k) (from b k) (times b k) (progress c.args.table.now c.args.steps) c.loop-v.v (progress c.loop-v.table c.loop-v.done) (omega (arith, c.end-end.ensures, c.loop-v-test.false)) c.loop-v.invariant.swept
+    let k = g.K.VertexStep.kind in
+    swept_all b.vertices (try_of b k) (from b k) (times b k) (progress c.args.table.now c.args.steps) c.loop-v.v (progress c.loop-v.table c.loop-v.done) (omega (arith, c.end-v-end.ensures, c.loop-v-test.false)) c.loop-v.invariant.swept

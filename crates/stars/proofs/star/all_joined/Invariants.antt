@@ -6,5 +6,5 @@ use Rattle.stars.proofs.star.all_joined.Given as goal
 
 abbrev pub invariant-loop-s : goal.invariant-loop-s
 invariant-loop-s l =
-    let f : ℕ → Bool = λ s. each l.targets (λ t. present (graph_in l.fn.board l.table s t)) in
+    let f : ℕ → Bool = λ s. each l.targets (λ t. present (graph_in l.fn.table.board l.table.cells.now s t)) in
     each (drop l.s-index l.sources) f ≡ each l.sources f

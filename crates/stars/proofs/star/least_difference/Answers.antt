@@ -7,7 +7,7 @@ use Rattle.stars.proofs.LeastOf.{least_one, least_turn_front, least_whole, other
 use Rattle.stars.proofs.star.least_difference.Goals as goal
 
 pub bounds-targets-0 : goal.bounds-targets-0
-bounds-targets-0 c = some-member c.args.targets.now c.requires.t_3
+bounds-targets-0 c = some-member c.args.targets.now c.requires.some
 
 pub loop-t-init : goal.loop-t-init
 loop-t-init c =
@@ -15,31 +15,31 @@ loop-t-init c =
     let first = c.args.first.now in
     let ts = c.args.targets.now in
     let said : to_z w64 (of_z w64 c.difference-least.result) ≡ get_or row (get_or ts 0 0) (pos 0) -ℤ get_or first (get_or ts 0 0) (pos 0) = search rules in
-    ap at said ∙ sym (least_one ts (λ t. at (get_or row t (pos 0) -ℤ get_or first t (pos 0))) (some-member ts c.requires.t_3))
+    ap at said ∙ sym (least_one ts (λ t. at (get_or row t (pos 0) -ℤ get_or first t (pos 0))) (some-member ts c.requires.some))
 
 pub offset_bounds-row-t-in-loop-t : goal.offset_bounds-row-t-in-loop-t
 offset_bounds-row-t-in-loop-t c =
     let ts = c.args.targets.now in
     let i = c.loop-t.t-index in
-    omega (arith, others_at ts i c.loop-t-test.true, below_at 90 ts c.requires.t_2 (i + 1) (others_long ts i c.loop-t-test.true))
+    omega (arith, others_at ts i c.loop-t-test.true, below_at 90 ts c.requires.in_first (i + 1) (others_long ts i c.loop-t-test.true))
 
 pub bounds-row-t-in-loop-t : goal.bounds-row-t-in-loop-t
 bounds-row-t-in-loop-t c =
     let ts = c.args.targets.now in
     let i = c.loop-t.t-index in
-    omega (arith, others_at ts i c.loop-t-test.true, below_at _ ts c.requires.t (i + 1) (others_long ts i c.loop-t-test.true))
+    omega (arith, others_at ts i c.loop-t-test.true, below_at _ ts c.requires.in_row (i + 1) (others_long ts i c.loop-t-test.true))
 
 pub offset_bounds-first-t-in-loop-t : goal.offset_bounds-first-t-in-loop-t
 offset_bounds-first-t-in-loop-t c =
     let ts = c.args.targets.now in
     let i = c.loop-t.t-index in
-    omega (arith, others_at ts i c.loop-t-test.true, below_at 90 ts c.requires.t_2 (i + 1) (others_long ts i c.loop-t-test.true))
+    omega (arith, others_at ts i c.loop-t-test.true, below_at 90 ts c.requires.in_first (i + 1) (others_long ts i c.loop-t-test.true))
 
 pub bounds-first-t-in-loop-t : goal.bounds-first-t-in-loop-t
 bounds-first-t-in-loop-t c =
     let ts = c.args.targets.now in
     let i = c.loop-t.t-index in
-    omega (arith, others_at ts i c.loop-t-test.true, below_at 90 ts c.requires.t_2 (i + 1) (others_long ts i c.loop-t-test.true))
+    omega (arith, others_at ts i c.loop-t-test.true, below_at 90 ts c.requires.in_first (i + 1) (others_long ts i c.loop-t-test.true))
 
 pub loop-t-preserved : goal.loop-t-preserved
 unfolding min_z
@@ -60,4 +60,4 @@ pub returns : goal.returns
 unfolding least_gap
 returns c =
     let ts = c.args.targets.now in
-    c.loop-t.invariant ∙ least_whole ts c.loop-t.t-index (λ t. at (get_or c.args.row.now t (pos 0) -ℤ get_or c.args.first.now t (pos 0))) (some-member ts c.requires.t_3) (omega arith)
+    c.loop-t.invariant ∙ least_whole ts c.loop-t.t-index (λ t. at (get_or c.args.row.now t (pos 0) -ℤ get_or c.args.first.now t (pos 0))) (some-member ts c.requires.some) (omega arith)

@@ -6,8 +6,8 @@ use Rattle.stars.proofs.Members.{below_wider}
 use Rattle.stars.proofs.RowCells.{source_made}
 use Rattle.stars.proofs.star.source_row.Goals as goal
 
-pub least_difference-e-requires-clause-t_2 : goal.least_difference-e-requires-clause-t_2
-least_difference-e-requires-clause-t_2 c = below_wider _ 90 c.args.targets.now c.requires.row_len_bound c.requires.vertex_set.under
+pub least_difference-e-requires-clause-in_first : goal.least_difference-e-requires-clause-in_first
+least_difference-e-requires-clause-in_first c = below_wider _ 90 c.args.targets.now c.requires.row_len_bound c.requires.vertex_set.under
 
 pub returns : goal.returns
 returns c =

@@ -1,8 +1,0 @@
-use Rattle.std.proofs.Common.{◌∙◌}
-use Rattle.graph.specs.Count.{fan_in}
-use Rattle.paths.proofs.Rows.{column_counted}
-use Rattle.paths.proofs.cells.fan_in.Goals as goal
-
-pub returns : goal.returns
-unfolding fan_in
-returns c = c.count.ensures ∙ column_counted c.args.board.vertices c.args.table.now c.args.v c.requires.v_lt_vertices

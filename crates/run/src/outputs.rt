@@ -1,0 +1,105 @@
+// Share outputs, as a side of the delay matrix.
+ghost use Rattle.std.specs.Prelude.{◌≡◌, ◌<◌, ◌≤◌, IfSome, length};
+ghost use Rattle.timing.specs.Limits.{max_vertices};
+ghost use Rattle.paths.specs.Checked.{Passable};
+ghost use Rattle.plans.specs.Sharing.{Indexed};
+ghost use Rattle.reach.specs.RowSets.{OneSource};
+ghost use Rattle.run.specs.Sides;
+ghost use Rattle.run.specs.Outputs.{StillSorted, OneSourceOf};
+
+use crate::side::Side;
+use paths::order::Order;
+use paths::{Board, Table, cells, order};
+use plans::share_outputs::ShareOutputs;
+use plans::{rewrite, share_outputs};
+use sets::Set;
+
+// An order of the table's vertices and the sets of its rows, where they are known: the order until a share breaks it, the sets once a try has asked for them.
+#[derive(Drop)]
+pub struct Outputs {
+    pub order: Option<Order>,
+    pub rows: Option<[Set; Board::MAX_VERTICES]>,
+}
+
+impl Side for Outputs {
+    ghost side = { Sides.Outputs };
+
+    ghost knows = { λ it board t. IfSome it.order (Passable board t) × Indexed board t it.rows };
+
+    fn first(board: Board) -> usize {
+        board.inputs
+    }
+
+    fn end(board: Board) -> usize {
+        board.inputs + board.outputs
+    }
+
+    fn across(board: Board) -> usize {
+        board.inputs
+    }
+
+    fn place(board: Board, v: usize, j: usize) -> usize {
+        board.outputs * j + (v - board.inputs)
+    }
+
+    fn is_rich(table: &Table, v: usize) -> bool {
+        table.fan_in(v) >= 2
+    }
+
+    fn is_open(&self) -> bool {
+        true
+    }
+
+    // It does not matter here which refusal comes first, so that a path is looked for late.
+    fn share(&mut self, board: Board, table: &mut [i32], a: usize, b: usize, e: i64) -> bool {
+        if !cells::in_range(e) {
+            return false;
+        }
+        let read = Table {
+            board,
+            cells: table,
+        };
+        if share_outputs::path_back(&read, self.order.as_ref(), &mut self.rows, a, b) {
+            return false;
+        }
+        let Ok(d) = share_outputs::saved_without_path(&read, b, e) else {
+            return false;
+        };
+        let e = cells::narrow(d);
+        rewrite::rewrite(board, table, &ShareOutputs { a, b, e });
+        self.order = still_sorted(self.order, board.vertices, a, b);
+        keep_up(&mut self.rows, board.vertices, a, b);
+        true
+    }
+}
+
+// An order of the table, where it is one still after an accepted share of outputs a, b: a stands before b.
+pub fn still_sorted(order: Option<Order>, n: usize, a: usize, b: usize) -> Option<Order>
+    requires { n ≤ max_vertices }
+    ensures { IfSome result (StillSorted n a b order) }
+{
+    let order = order?;
+    order::stands_before(&order, n, a, b).then_some(order)
+}
+
+// The sets of the rows, where they are there, after an accepted share of outputs a, b: n of them are in use.
+fn keep_up(rows: &mut Option<[Set; Board::MAX_VERTICES]>, n: usize, a: usize, b: usize)
+    requires few { n ≤ max_vertices }
+    requires a_bound { a < n }
+    requires b_bound { b < n }
+    ensures { IfSome rows.new (OneSourceOf n a b rows.old) }
+{
+    if let Some(rows) = rows {
+        one_source(rows, n, a, b);
+    }
+}
+
+// Makes a the one source of b. A function of its own, for the borrow checker does not cover a slice of what an Option behind a `&mut` holds.
+fn one_source(rows: &mut [Set; Board::MAX_VERTICES], n: usize, a: usize, b: usize)
+    requires few { n ≤ max_vertices }
+    requires a_bound { a < n }
+    requires b_bound { b < n }
+    ensures { OneSource n a b rows.old rows.new }
+{
+    reach::one_source(&mut rows[..n], a, b);
+}
