@@ -1,4 +1,5 @@
-// Signed numbers: two's complement, low byte first.
+// Signed numbers: two's complement, low byte first. That there are at most eight bytes stays a clause, here and in `unsigned`: a const width would ask the callers for
+// arrays, and they lend parts of files and of runs of bytes.
 ghost use Rattle.std.specs.Prelude.{◌≡◌, ◌≤◌, ◌<◌, T, length};
 ghost use Rattle.laws.specs.Lists.{tabulate};
 ghost use Rattle.codec.specs.Bytes.{byte_of, pattern, in_width, signed_at};
@@ -22,7 +23,8 @@ pub fn decode(bytes: &[u8]) -> i64
     i64::from_le_bytes(all)
 }
 
-// Writes the number into the bytes. Not one generic function with `unsigned::put_number`: which numbers have so many bytes, and what the bytes are, differs.
+// Writes the number into the bytes. Not one generic function with `unsigned::put_number`: which numbers have so many bytes, and what the bytes are, differs, and a trait
+// that says both would be longer than the two bodies.
 pub fn encode(bytes: &mut [u8], x: i64)
     requires few { length bytes.old ≤ 8 }
     requires fits_width { T (in_width (length bytes.old) x) }

@@ -1,15 +1,22 @@
-// A cell library in force: 32 cells, a code's ticks each, absent where it lacks the code.
+// Cell libraries: 32 cells, a code's ticks each, absent where it lacks the code.
 ghost use Rattle.timing.specs.Refusal.{verdict};
 ghost use Rattle.std.specs.Prelude.{◌≡◌, length};
 ghost use Rattle.timing.specs.Limits.{absent_cell};
 ghost use Rattle.timing.specs.Table.{write_cell};
-ghost use Rattle.format.specs.Library.{library_fits, ticks_in, ticks_of, value_of, built_in_cells};
+ghost use Rattle.format.specs.Library.{library_fits, InForce, ticks_in, ticks_of, value_of, built_in_cells};
 
 use paths::{Board, cells};
 use records::{library, parse};
 use timing::Refusal;
 
-// Whether it may be lent to a read. That it may stays a clause of what comes after: C lends the cells, and a struct would be made at each read to hand them on.
+// A library in force. A read is lent cells, and makes one of them once `open` has found that they pass.
+#[derive(Clone, Copy)]
+pub struct Library<'a> {
+    pub cells: &'a [i32],
+    pub ghost in_force: { InForce cells.now },
+}
+
+// Whether the cells are a library in force.
 pub fn fits(library: &[i32]) -> bool
     ensures { result ≡ library_fits library.now }
 {
@@ -19,7 +26,7 @@ pub fn fits(library: &[i32]) -> bool
     cells::row_within(library, 0, library::MAX_TICKS)
 }
 
-// A code's ticks.
+// A code's ticks, in any cells, as `scan` takes them: a `Library` would ask more of the caller.
 pub fn ticks_in(library: &[i32], code: u8) -> Result<i32, Refusal>
     ensures { verdict result ≡ ticks_in library.now code }
 {

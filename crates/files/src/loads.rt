@@ -2,11 +2,12 @@
 ghost use Rattle.std.specs.Prelude.{◌≡◌};
 ghost use Rattle.timing.specs.Limits.{absent_cell};
 ghost use Rattle.timing.specs.Table.{write_cell};
-ghost use Rattle.format.specs.Library.{value_of, InForce};
+ghost use Rattle.format.specs.Library.{value_of};
 ghost use Rattle.format.specs.Records.{under_load, cell_delay};
 ghost use Rattle.files.specs.Loads.{Loadable};
 
 use crate::library;
+use crate::library::Library;
 use paths::Board;
 
 // A fifth more for each record of the load, rounded up.
@@ -15,16 +16,15 @@ fn under_load(ticks: i32, load: u8) -> i32
     ensures { result ≡ under_load ticks load }
 {
     let fifths = u64::from(ticks.unsigned_abs()) * (5 + u64::from(load));
-    // It fits, by `Loadable`: a `try_from` would want an answer where it does not.
+    // It fits, by `Loadable`: `as`, for the reason in `paths::cells`.
     ((fifths + 4) / 5) as i32
 }
 
 // A cell's delay, as the table has it; absent for a code that the library lacks.
-pub fn cell_delay(library: &[i32], code: u8, load: u8) -> i32
-    requires { InForce library.now }
-    ensures { result ≡ write_cell absent_cell (value_of (cell_delay library.now code load)) }
+pub fn cell_delay(library: &Library, code: u8, load: u8) -> i32
+    ensures { result ≡ write_cell absent_cell (value_of (cell_delay library.now.cells.now code load)) }
 {
-    match library::ticks_in(library, code) {
+    match library::ticks_in(library.cells, code) {
         Ok(ticks) => under_load(ticks, load),
         Err(_) => Board::ABSENT,
     }

@@ -1,12 +1,12 @@
 // Reading a board file into a lent table.
 ghost use Rattle.std.specs.Prelude.{◌≡◌, ◌≤◌, length};
-ghost use Rattle.format.specs.Library.{InForce};
 ghost use Rattle.format.specs.Reading.{header, opened, file_loads, no_arcs, file_checked, arcs_read, read_call, table_read};
 ghost use Rattle.paths.specs.Board.{Lent, graph_in, sizes_of};
 ghost use Rattle.files.specs.Loads.{loads_of};
 ghost use Rattle.files.specs.Read.{read_meaning, header_meaning, Opens, Loads};
 
 use crate::answer::Fault;
+use crate::library::Library;
 use crate::{library, place, scan};
 use format::Mark;
 use paths::{Board, Table, checks};
@@ -33,7 +33,8 @@ fn first_record(bytes: &[u8]) -> Result<(usize, usize, usize), Refusal>
     Ok((inputs, outputs, vertices))
 }
 
-// The first record's board, where the library passes and the lent memory has room. `scratch` is the length of the lent scratch.
+// The first record's board, where the library passes and the lent memory has room. `scratch` is the length of the lent scratch. That the file then has the 5 bytes
+// of its first record stays a clause of what comes after: a struct of its bytes would be taken apart at each record, for `records::parse` reads any bytes.
 fn open(bytes: &[u8], library: &[i32], table: &[i32], scratch: usize) -> Result<Board, Refusal>
     ensures { Opens library.now (opened library.now bytes.now table.now scratch) table.now result }
 {
@@ -49,17 +50,16 @@ fn open(bytes: &[u8], library: &[i32], table: &[i32], scratch: usize) -> Result<
 fn fill(
     board: Board,
     bytes: &[u8],
-    library: &[i32],
+    library: &Library,
     loads: &[u8],
     table: &mut [i32],
 ) -> Result<(), Fault>
     requires lent { Lent board table.old }
     requires in_bounds { 5 ≤ length bytes.now }
-    requires in_force { InForce library.now }
     requires vertices_in_bounds { board.vertices ≤ length loads.now }
     requires loads_value { loads_of loads.now ≡ file_loads board.vertices bytes.now }
     requires table_value { graph_in board table.old ≡ no_arcs }
-    ensures { Loads board.vertices (file_checked library.now (sizes_of board) bytes.now) table.old table.new result }
+    ensures { Loads board.vertices (file_checked library.now.cells.now (sizes_of board) bytes.now) table.old table.new result }
 {
     place::place(bytes, board.vertices, library, loads, table);
     let read = Table {
@@ -74,16 +74,15 @@ fn fill(
 }
 
 // The records after the first: checked all, then placed.
-fn load(board: Board, bytes: &[u8], library: &[i32], table: &mut [i32]) -> Result<(), Fault>
+fn load(board: Board, bytes: &[u8], library: &Library, table: &mut [i32]) -> Result<(), Fault>
     requires lent { Lent board table.old }
     requires in_bounds { 5 ≤ length bytes.now }
-    requires in_force { InForce library.now }
-    ensures { Loads board.vertices (arcs_read library.now (sizes_of board) bytes.now) table.old table.new result }
+    ensures { Loads board.vertices (arcs_read library.now.cells.now (sizes_of board) bytes.now) table.old table.new result }
 {
     let n = board.vertices;
     place::blank(table, n);
     let mut loads = [0; Board::MAX_VERTICES];
-    scan::scan(bytes, n, library, &mut loads)?;
+    scan::scan(bytes, n, library.cells, &mut loads)?;
     fill(board, bytes, library, &loads, table)
 }
 
@@ -98,6 +97,7 @@ pub fn read(
     ensures table_after { table.new ≡ table_read library.now bytes.now table.old (length scratch.now) }
 {
     let board = open(bytes, library, table, scratch.len())?;
-    load(board, bytes, library, table)?;
+    let library = Library { cells: library };
+    load(board, bytes, &library, table)?;
     Ok(board)
 }

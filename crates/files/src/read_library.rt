@@ -56,13 +56,12 @@ fn place_entries(bytes: &[u8], library: &mut [i32])
     ensures { library.new ≡ file_library bytes.now }
 {
     cells::clear(library);
-    let mut at = 0;
-    while let Ok(entry) = library::entry_at(bytes, at) {
-        let Entry::Ticks(code, ticks) = entry else {
-            return;
-        };
-        library[code] = ticks;
-        at += 7;
+    for at in (0..bytes.len()).step_by(7) {
+        match library::entry_at(bytes, at) {
+            Ok(Entry::Ticks(code, ticks)) => library[code] = ticks,
+            Ok(Entry::End(_)) => return,
+            Err(_) => return,
+        }
     }
 }
 

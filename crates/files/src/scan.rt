@@ -1,4 +1,5 @@
-// Pass 1: every record is checked and counted by its source; the table stays. A record is told by its offset in the file, as in `records::parse`.
+// Pass 1: every record is checked and counted by its source; the table stays. A record is told by its offset in the file, as in `records::parse`, and n is the
+// board's number of vertices and no slice's length, as in `place`.
 ghost use Rattle.timing.specs.Refusal.{verdict};
 ghost use Rattle.std.specs.Prelude.{◌≡◌, ◌+◌, ◌*◌, ◌<◌, ◌≤◌, length};
 ghost use Rattle.timing.specs.Limits.{max_vertices};
@@ -13,7 +14,8 @@ use format::Record;
 use records::parse;
 use timing::Refusal;
 
-// Where the next record stands, the first cell that its arc may have, and the arcs so far.
+// Where the next record stands, the first cell that its arc may have, and the arcs so far. That it is in a file stays a clause: with the file's bytes in it, each turn
+// would hand them on.
 #[derive(Clone, Copy)]
 pub struct Cursor {
     pub at: usize,
@@ -41,7 +43,7 @@ pub fn entry_turn(cursor: Cursor, place: usize, after: usize) -> Result<Option<C
     }))
 }
 
-// What the last record says, with its count: the file is done.
+// What the last record says: the file is done. `count` is the arcs or the codes that the record says, and no slice's length.
 pub fn end_turn(bytes: &[u8], cursor: Cursor, count: usize) -> Result<Option<Cursor>, Fault>
     requires { cursor.at + 4 ≤ length bytes.now }
     ensures { Turns (length bytes.now) cursor (shape_says bytes.now cursor (last count)) result }

@@ -13,12 +13,13 @@ ghost use Rattle.records.specs.Writing.{HasRoom, Puts};
 ghost use Rattle.files.specs.Forms.{cell_as, row_as, table_as};
 ghost use Rattle.files.specs.Writing.{Writes, board_mark, board_file, file_on};
 
-use paths::{Board, Table, cells, checks};
+use paths::{Board, Sorted, Table, cells, checks};
 use records::lines;
 use records::put::Writer;
 use timing::Refusal;
 
-// How arcs are written.
+// How arcs are written. An arc stays three numbers, and that its ends are below 256 a clause, here, in `put_cell` and in `records::lines`: a struct would be made at
+// each cell, to be taken apart at once. So do two ends alone, in `Table::cell` and `records::parse`.
 pub trait Form {
     ghost text: { Arc → List ℕ };
 
@@ -113,30 +114,28 @@ pub fn put_arcs<F: Form>(w: &mut Writer, table: &Table)
     }
 }
 
-// The whole file, of so many arcs.
-fn put_file(table: &Table, count: usize, out: &mut [u8]) -> usize
-    requires sound { IsSound table.now }
-    requires count_value { count ≡ arcs table.now.board.vertices (timing_graph table.now) }
-    requires room_for { RoomFor (of_table board_file table.now) out.old 0 }
-    ensures { Appends (of_table board_file table.now) out.old 0 out.new result }
+// The whole file. The count of its arcs is handed on by `file_answer`, so as not to be made twice; it is no length of `out`.
+fn put_file(sorted: &Sorted, count: usize, out: &mut [u8]) -> usize
+    requires count_value { count ≡ arcs sorted.now.table.board.vertices (timing_graph sorted.now.table) }
+    requires room_for { RoomFor (of_table board_file sorted.now.table) out.old 0 }
+    ensures { Appends (of_table board_file sorted.now.table) out.old 0 out.new result }
 {
     let mut w = Writer::new(out);
-    put_board(&mut w, table.board);
-    put_arcs::<Records>(&mut w, table);
+    put_board(&mut w, sorted.table.board);
+    put_arcs::<Records>(&mut w, &sorted.table);
     put_end(&mut w, count);
     w.at
 }
 
 // The file of a table that has passed its checks; 21 where it does not fit.
-fn file_answer(table: &Table, destination: &mut [u8]) -> Result<usize, Refusal>
-    requires { IsSound table.now }
-    ensures { Writes (of_table file_on table.now destination.old) destination.old destination.new result }
+fn file_answer(sorted: &Sorted, destination: &mut [u8]) -> Result<usize, Refusal>
+    ensures { Writes (of_table file_on sorted.now.table destination.old) destination.old destination.new result }
 {
-    let count = table.arcs();
+    let count = sorted.table.arcs();
     if destination.len() < FRAME_BYTES + ARC_BYTES * count {
         return Err(Refusal::DestinationShort);
     }
-    Ok(put_file(table, count, destination))
+    Ok(put_file(sorted, count, destination))
 }
 
 // Writes the board file of a table into the first bytes of `out`, and answers how many.
@@ -151,5 +150,5 @@ pub fn write(
     ensures { Writes (write_call inputs outputs vertices (length scratch.now) table.now out.old) out.old out.new result }
 {
     let sorted = checks::checked(inputs, outputs, vertices, table, scratch.len())?;
-    file_answer(&sorted.table, out)
+    file_answer(&sorted, out)
 }

@@ -7,6 +7,6 @@ use timing::{Refusal, numbers};
 pub fn refused(refusal: Refusal) -> i64
     ensures { result ≡ neg_ℤ (pos (number refusal)) }
 {
-    // It is below 24: a `try_from` would want an answer where it does not fit.
+    // It is below 24, and `as` is proved to lose nothing: a `try_from` with its `unwrap` would be no plainer.
     -(numbers::number(refusal) as i64)
 }

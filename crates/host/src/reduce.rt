@@ -27,7 +27,7 @@ fn reduce_in<S: Step>(
     match calls::reduce(inputs, outputs, vertices, cells, scratch, step) {
         Ok(arcs) => {
             runs::put_table(table, cells);
-            // At most 8,100: a `try_from` would want an answer where it does not fit.
+            // At most 8,100: `as`, for the reason in `answers`.
             arcs as i64
         }
         Err(refusal) => answers::refused(refusal),

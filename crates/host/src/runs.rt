@@ -18,22 +18,14 @@ pub fn shown(rows: usize, columns: usize, cells: usize) -> usize
     if columns > Board::MAX_VERTICES {
         return 0;
     }
-    let most = rows * columns;
-    if cells < most {
-        return cells;
-    }
-    most
+    cells.min(rows * columns)
 }
 
 // How many of a matrix's cells a call can use.
 pub fn pairs_shown(inputs: usize, outputs: usize, cells: usize) -> usize
     ensures { (result ≡ pairs_shown inputs outputs cells) × (result ≤ most_pairs) }
 {
-    let all = shown(inputs, outputs, cells);
-    if all > Board::MAX_PAIRS {
-        return Board::MAX_PAIRS;
-    }
-    all
+    shown(inputs, outputs, cells).min(Board::MAX_PAIRS)
 }
 
 // Cell x of a table.
@@ -41,7 +33,7 @@ fn cell_at(bytes: &[u8], x: usize) -> i32
     requires { 4 * x + 4 ≤ length bytes.now }
     ensures { result ≡ run_cell 4 bytes.now x }
 {
-    // Four bytes hold no more than an i32: a `try_from` would want an answer where it does not fit.
+    // Four bytes hold no more than an i32: `as`, for the reason in `answers`.
     signed::decode(&bytes[4 * x..4 * x + 4]) as i32
 }
 

@@ -1,5 +1,5 @@
 -- Tests as facts: `T b` says that b is true.
-use mathlib.Core.Path.{◌≡◌, refl, sym, subst}
+use mathlib.Core.Path.{◌≡◌, refl, sym, ap, subst}
 use mathlib.Core.Logic.{◌≢◌, ◌⊎◌, inl, inr}
 use mathlib.Core.Bool.{Bool, true, false, not, cond, ◌&&◌, ◌||◌}
 use Prim.Native.Nat.{ℕ}
@@ -12,6 +12,10 @@ T_true {b = false} t = absurd t
 pub T-not-false : {b : Bool} → T (not b) → b ≡ false
 T-not-false {b = true} t = absurd t
 T-not-false {b = false} t = refl
+
+pub not_is : {a b : Bool} → a ≡ not b → b ≡ not a
+not_is {b = true} e = sym (ap not e)
+not_is {b = false} e = sym (ap not e)
 
 pub or_l : (a b : Bool) → T a → T (a || b)
 or_l true b t = tt

@@ -1,10 +1,10 @@
 -- Signed numbers as the code has them: a number of width w is held as its bits, `of_z w`, and read back by `to_z w`.
-use mathlib.Core.Path.{◌≡◌, sym, ap, ap₂, ◌∙◌, subst}
+use mathlib.Core.Path.{◌≡◌, sym, ap, ◌∙◌, subst}
 use mathlib.Core.Logic.{◌≢◌}
 use mathlib.Core.Bool.{Bool, true, false, not}
 use Prim.Native.Nat.{◌^◌, ◌<◌}
 use lib.Dec.{T}
-use lib.IntN.{ℤ, ◌+ℤ◌}
+use lib.IntN.{ℤ}
 use lib.Signed.{◌≤ℤ◌, ◌<ℤ◌, le_z, lt_z, lt_z_yes, lt_z_no, mag}
 use mir.Syntax.{Width, w32, w64}
 use mir.Val.{SFits, to_z, of_z, hbits}
@@ -35,10 +35,6 @@ less_no a b e = lt_z_no {a = a} {b = b} (subst (λ (x : Bool). T (not x)) (sym e
 
 pub widens : {z : ℤ} → SFits w32 z → SFits w64 z
 widens h = omega zneeds
-
--- the sum of a 64-bit and a 32-bit number, as the code has it
-pub sum_back : {a d : ℤ} → SFits w64 a → SFits w32 d → SFits w64 (a +ℤ d) → to_z w64 (of_z w64 (to_z w64 (of_z w64 a) +ℤ to_z w64 (of_z w64 (to_z w32 (of_z w32 d))))) ≡ a +ℤ d
-sum_back fa fd fs = ap (λ (z : ℤ). to_z w64 (of_z w64 z)) (ap₂ ◌+ℤ◌ (to_z-of_z fa) (ap (λ (z : ℤ). to_z w64 (of_z w64 z)) (to_z-of_z fd) ∙ to_z-of_z (widens fd))) ∙ to_z-of_z fs
 
 pub le_not_lt : (a b : ℤ) (t : Bool) → lt_z a b ≡ t → le_z b a ≡ not t
 le_not_lt a b true e = is_false (le_z b a) (λ t. clash (record { le = t }) (less_yes a b e))

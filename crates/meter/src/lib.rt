@@ -2,17 +2,28 @@
 #![tactic(auto)]
 
 ghost use Rattle.std.specs.Prelude.{◌≡◌, length};
+ghost use Rattle.timing.specs.Refusal.{verdict};
 ghost use Rattle.timing.specs.Queries.{matrix_call};
 ghost use Rattle.reduction.specs.Steps.{prune, step_call};
 ghost use Rattle.reduction.specs.Run.{run_call};
 ghost use Rattle.format.specs.Reading.{read_call, table_read};
 ghost use Rattle.paths.specs.Queries.{ScratchAfter};
 ghost use Rattle.paths.specs.Margins.{lists, margins};
-ghost use Rattle.meter.specs.Answers.{Measures, Tells, read_number};
+ghost use Rattle.meter.specs.Answers.{Measures, Tells, number_of, read_number};
 
 use files::read;
 use paths::{margins, queries};
-use timing::numbers;
+use timing::{Refusal, numbers};
+
+// 0, or the refusal's number.
+fn number<T: Drop>(answer: Result<T, Refusal>) -> usize
+    ensures { result ≡ number_of (verdict answer) }
+{
+    match answer {
+        Ok(_) => 0,
+        Err(refusal) => numbers::number(refusal),
+    }
+}
 
 #[unsafe(no_mangle)]
 pub extern "C" fn meter_matrix(
@@ -26,10 +37,7 @@ pub extern "C" fn meter_matrix(
     ensures measures { Measures (λ x. x) (matrix_call inputs outputs vertices (length scratch.old) table.now matrix.old) matrix.old matrix.new result }
     ensures scratch_after { ScratchAfter inputs outputs vertices table.now scratch.old scratch.new }
 {
-    match queries::delay_matrix(inputs, outputs, vertices, table, scratch, matrix) {
-        Ok(()) => 0,
-        Err(refusal) => numbers::number(refusal),
-    }
+    number(queries::delay_matrix(inputs, outputs, vertices, table, scratch, matrix))
 }
 
 #[unsafe(no_mangle)]
@@ -47,12 +55,9 @@ pub extern "C" fn meter_margins(
 ) -> usize
     ensures { Tells (margins inputs outputs vertices table.now scratch.now given.now due.now) (lists arrival.old required.old margin.old) (lists arrival.new required.new margin.new) result }
 {
-    match margins::margins(
+    number(margins::margins(
         inputs, outputs, vertices, table, scratch, given, due, arrival, required, margin,
-    ) {
-        Ok(()) => 0,
-        Err(refusal) => numbers::number(refusal),
-    }
+    ))
 }
 
 #[unsafe(no_mangle)]
@@ -66,10 +71,7 @@ pub extern "C" fn meter_prune(
     ensures measures { Measures (λ x. x.table) (step_call inputs outputs vertices (length scratch.old) prune table.old) table.old table.new result }
     ensures scratch_after { ScratchAfter inputs outputs vertices table.old scratch.old scratch.new }
 {
-    match steps::calls::prune(inputs, outputs, vertices, table, scratch) {
-        Ok(_arcs) => 0,
-        Err(refusal) => numbers::number(refusal),
-    }
+    number(steps::calls::prune(inputs, outputs, vertices, table, scratch))
 }
 
 #[unsafe(no_mangle)]
@@ -83,10 +85,7 @@ pub extern "C" fn meter_run(
     ensures measures { Measures (λ x. x.table) (run_call inputs outputs vertices (length scratch.old) table.old) table.old table.new result }
     ensures scratch_after { ScratchAfter inputs outputs vertices table.old scratch.old scratch.new }
 {
-    match run::calls::run(inputs, outputs, vertices, table, scratch) {
-        Ok(_ran) => 0,
-        Err(refusal) => numbers::number(refusal),
-    }
+    number(run::calls::run(inputs, outputs, vertices, table, scratch))
 }
 
 #[unsafe(no_mangle)]
@@ -99,8 +98,5 @@ pub extern "C" fn meter_read(
     ensures value { result ≡ read_number (read_call library.now bytes.now table.old (length scratch.now)) }
     ensures table_after { table.new ≡ table_read library.now bytes.now table.old (length scratch.now) }
 {
-    match read::read(bytes, table, scratch, library) {
-        Ok(_board) => 0,
-        Err(fault) => numbers::number(fault.refusal),
-    }
+    number(read::read(bytes, table, scratch, library).map_err(|fault| fault.refusal))
 }

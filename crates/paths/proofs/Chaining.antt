@@ -29,7 +29,7 @@ use Rattle.paths.specs.Checked.{Checked}
 use Rattle.paths.specs.Cells.{cell_at, row_at}
 use Rattle.paths.specs.Order.{TopologicalOrder, rank_of}
 use Rattle.paths.specs.Chain.{Chain, walked, walked_at, Beaten, Chained, chain_at, Chains, unbeaten, below, Near}
-use Rattle.paths.proofs.Rows.{lent, lent_cell, row_at_cell, length-row_at}
+use Rattle.paths.proofs.Rows.{row_at_cell, length-row_at}
 use Rattle.paths.proofs.Walked.{unbeaten_no, unbeaten_yes, chain_same, walked_same, chained_same, walked-⊑, chained, unbeaten_none, unbeaten-or}
 
 -- the cells from v on are done, and `after` is the first arc among them
@@ -204,24 +204,7 @@ module _ {A : Type 0} {Q : ℕ → A → Type 0} {d : A} {n : ℕ} {row : ℕ �
   pub along_keep : {l : List A} {v : ℕ} → Along Q d n row l₀ l v → v < n → Q v (get_or l₀ v d) → Along Q d n row l₀ l (c v)
   along_keep {l} {v} a h q = jump v h l (stored_keep a.stored q)
 
--- ---- a row's chain as the code reads it, lent as `&chain[at..]`
-module _ {n : ℕ} {t : List ℤ} {c : List ℕ} (C : Chains n t c) (u : ℕ) (room : n * n ≤ length t) (l : u < n) where
-  abbrev pub lent_chain : List ℕ
-  lent_chain = take (length c - n * u) (drop (n * u) c)
-
-  pub chain_long : n ≤ length lent_chain
-  chain_long = simp (length-take, length-drop) (omega (arith, row_in n u l, C.room))
-
-  cell_lent : (v : ℕ) → v < n → chain_at n c u v ≡ get_or lent_chain v 0
-  cell_lent v m = sym (row_cell c (n * u) (length c - n * u) v 0 (omega (arith, row_in n u l, C.room)))
-
-  pub walked_lent : (v : ℕ) → v < n → walked (chain_at n c u) (graph_of n t u) v ≡ walked_at (lent n t u room l) lent_chain v
-  walked_lent v m = walked_same (graph_of n t u) (cell_at (lent n t u room l)) (chain_at n c u) (λ j. get_or lent_chain j 0) v (sym (lent_cell n t u room l v m)) (cell_lent (v - 1) (omega arith))
-
-  pub chain_lent : Chain n (walked_at (lent n t u room l) lent_chain) (λ v. get_or lent_chain v 0)
-  chain_lent = chain_same walked_lent cell_lent (C.row u l).chain
-
--- the same, of rows of N cells
+-- ---- a row and its chain as the code reads them
 module _ {n : ℕ} {t : List ℤ} {c : List ℕ} (C : Chains n t c) (u : ℕ) (l : u < n) where
   cell_row : (v : ℕ) → v < n → chain_at n c u v ≡ get_or (row_at n u c) v 0
   cell_row v m = sym (row_cell c (n * u) n v 0 m)

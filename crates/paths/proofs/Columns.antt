@@ -1,21 +1,22 @@
 -- Arcs into a vertex, as a search down its column finds them.
 use mathlib.Core.Path.{◌≡◌, sym, ap, ◌∙◌}
-use mathlib.Core.Bool.{false}
+use mathlib.Core.Bool.{false, not}
+use Rattle.std.proofs.Common.{Option, Some, None, is_some}
 use Prim.Native.Nat.{ℕ, zero, ◌+◌, ◌≤◌, ◌<◌}
 use native.Mathlib.Decide.{ℕ_discrete, dec_lt}
 use native.Mathlib.Omega.{arith}
 use borrow.Author.Tests.{eq-eqb, ne_eqb}
-use lib.Dec.{eqb, ltb, ltb→lt}
+use lib.Dec.{eqb}
 use Rattle.laws.specs.Bounded.{first}
-use Rattle.laws.proofs.Booleans.{T_true, is_false}
-use Rattle.laws.proofs.Bounded.{first_none, first_found}
+use Rattle.laws.proofs.Booleans.{T_true}
+use Rattle.laws.proofs.Bounded.{first_found}
 use Rattle.laws.proofs.Sums.{sum_zero, sum_term, sum_pick}
 use Rattle.laws.proofs.Update.{update, update_same, update_other}
 use Rattle.graph.specs.Delay.{present}
 use Rattle.graph.specs.Graph.{Graph}
 use Rattle.graph.specs.Count.{bit, fan_in}
 use Rattle.graph.proofs.Presence.{present-bit, absent_bit}
-use Rattle.paths.specs.Cells.{NextInto}
+use Rattle.paths.specs.Cells.{NextInto, FirstInto}
 
 -- no arc to v from the vertices passed
 abbrev pub Passed : Graph → ℕ → ℕ → ℕ → Type 0
@@ -33,11 +34,11 @@ module _ (N : ℕ) (g : Graph) (v : ℕ) where
   abbrev into : ℕ → ℕ
   into u = bit (g u v)
 
-  pub no_arc : (r : ℕ) → NextInto N g v 0 r → r ≡ N → fan_in N g v ≡ 0
+  no_arc : NextInto N g v 0 N → fan_in N g v ≡ 0
   unfolding fan_in
-  no_arc r s e = sum_zero N into (λ u l. s.none u (omega arith) (omega arith))
+  no_arc s = sum_zero N into (λ u l. s.none u (omega arith) l)
 
-  pub an_arc : (r : ℕ) → NextInto N g v 0 r → r < N → 0 < fan_in N g v
+  an_arc : (r : ℕ) → NextInto N g v 0 r → r < N → 0 < fan_in N g v
   unfolding fan_in
   an_arc r s l = omega (arith, sum_term N into r l, s.arc l)
 
@@ -46,44 +47,34 @@ module _ (N : ℕ) (g : Graph) (v : ℕ) where
     abbrev rest : ℕ → ℕ
     rest = update into p zero
 
-    pub one_arc : (r : ℕ) → NextInto N g v (p + 1) r → r ≡ N → fan_in N g v ≡ 1
+    one_arc : NextInto N g v (p + 1) N → fan_in N g v ≡ 1
     unfolding fan_in
-    one_arc r n e = omega (arith, sum_pick N into p l, s.arc l, sum_zero N rest (λ u k. go u k (ℕ_discrete u p) (dec_lt u p)))
+    one_arc n = omega (arith, sum_pick N into p l, s.arc l, sum_zero N rest (λ u k. go u k (ℕ_discrete u p) (dec_lt u p)))
       where
         go : (u : ℕ) → u < N → Dec (u ≡ p) → Dec (u < p) → rest u ≡ 0
         go u k (yes q) _ = rw (q, update_same into p zero)
         go u k (no ne) (yes h) = update_other into p zero u ne ∙ s.none u (omega arith) h
-        go u k (no ne) (no h) = update_other into p zero u ne ∙ n.none u (omega arith) (omega arith)
+        go u k (no ne) (no h) = update_other into p zero u ne ∙ n.none u (omega arith) k
 
-    pub two_arcs : (r : ℕ) → NextInto N g v (p + 1) r → r < N → 1 < fan_in N g v
+    two_arcs : (r : ℕ) → NextInto N g v (p + 1) r → r < N → 1 < fan_in N g v
     unfolding fan_in
     two_arcs r n k = omega (arith, sum_pick N into p l, s.arc l, sum_term N rest r k, update_other into p zero r (λ e. absurd (omega (arith, n.past))), n.arc k)
 
   -- what the searches answer
-  pub none_says : (r : ℕ) → NextInto N g v 0 r → eqb r N ≡ eqb (fan_in N g v) 0
-  none_says r s = go (ℕ_discrete r N)
-    where
-      go : Dec (r ≡ N) → eqb r N ≡ eqb (fan_in N g v) 0
-      go (yes e) = eq-eqb r N e ∙ sym (eq-eqb (fan_in N g v) 0 (no_arc r s e))
-      go (no ne) = ne_eqb r N ne ∙ sym (ne_eqb (fan_in N g v) 0 (λ e. omega (arith, an_arc r s (omega (arith, s.upto)))))
+  pub none_says : (r : Option ℕ) → FirstInto N g v 0 r → eqb (fan_in N g v) 0 ≡ not (is_some r)
+  none_says None s = eq-eqb (fan_in N g v) 0 (no_arc s)
+  none_says (Some r) s = ne_eqb (fan_in N g v) 0 (λ e. omega (arith, an_arc r s.1 s.0))
 
-  pub none_not_one : (p : ℕ) → NextInto N g v 0 p → N ≤ p → ltb p N ≡ eqb (fan_in N g v) 1
-  none_not_one p s l = is_false (ltb p N) (λ t. absurd (omega (arith, ltb→lt p N t))) ∙ sym (ne_eqb (fan_in N g v) 1 (λ e. omega (arith, no_arc p s (omega (arith, s.upto)))))
+  pub not_one : NextInto N g v 0 N → eqb (fan_in N g v) 1 ≡ false
+  not_one s = ne_eqb (fan_in N g v) 1 (λ e. omega (arith, no_arc s))
 
-  pub one_says : (p : ℕ) → NextInto N g v 0 p → p < N → (r : ℕ) → NextInto N g v (p + 1) r → eqb r N ≡ eqb (fan_in N g v) 1
-  one_says p s l r n = go (ℕ_discrete r N)
-    where
-      go : Dec (r ≡ N) → eqb r N ≡ eqb (fan_in N g v) 1
-      go (yes e) = eq-eqb r N e ∙ sym (eq-eqb (fan_in N g v) 1 (one_arc p s l r n e))
-      go (no ne) = ne_eqb r N ne ∙ sym (ne_eqb (fan_in N g v) 1 (λ e. omega (arith, two_arcs p s l r n (omega (arith, n.upto)))))
+  pub one_says : (p : ℕ) → (p < N) × NextInto N g v 0 p → (r : Option ℕ) → FirstInto N g v (p + 1) r → eqb (fan_in N g v) 1 ≡ not (is_some r)
+  one_says p s None n = eq-eqb (fan_in N g v) 1 (one_arc p s.1 s.0 n)
+  one_says p s (Some r) n = ne_eqb (fan_in N g v) 1 (λ e. omega (arith, two_arcs p s.1 s.0 r n.1 n.0))
 
   -- from 0 on it is the first of all
-  pub next_first : (r : ℕ) → NextInto N g v 0 r → r ≡ first N (λ u. present (g u v))
-  next_first r s = go (dec_lt r N)
+  pub next_first : (r : ℕ) → r < N → NextInto N g v 0 r → r ≡ first N (λ u. present (g u v))
+  next_first r l s = sym (first_found N (λ u. present (g u v)) r l off (T_true (present-bit (g r v) (omega (arith, s.arc l)))))
     where
       off : (u : ℕ) → u < r → present (g u v) ≡ false
       off u l = ap present (absent_bit (g u v) (s.none u (omega arith) l))
-
-      go : Dec (r < N) → r ≡ first N (λ u. present (g u v))
-      go (yes l) = sym (first_found N (λ u. present (g u v)) r l off (T_true (present-bit (g r v) (omega (arith, s.arc l)))))
-      go (no n) = let e : r ≡ N = omega (arith, s.upto) in e ∙ sym (first_none N (λ u. present (g u v)) (λ u l. off u (omega (arith, e))))

@@ -6,8 +6,8 @@ use Prim.Native.Nat.{ℕ, zero, suc, ◌+◌, ◌-◌, ◌*◌, ◌≤◌, ◌<�
 use native.Mathlib.Decide.{ℕ_discrete, dec_lt}
 use native.Mathlib.Omega.{arith}
 use lib.IntN.{ℤ, pos}
-use lib.ListN.{length, get_or, set, take, drop, length-set, length-take, length-drop}
-use lib.Seq.{ext_get_or, get_or-drop, get_or-set_same, get_or-set_other}
+use lib.ListN.{length, get_or, take, drop, length-take, length-drop}
+use lib.Seq.{ext_get_or, get_or-drop}
 use borrow.Rule.Slice.PartMut.{put_mid, same_len_mid}
 use Rattle.std.proofs.lemmas.List.{get_or_past}
 use Rattle.laws.proofs.Grid.{row_of, row_cell}
@@ -60,14 +60,6 @@ module _ (n l : ℕ) (f f' : List ℤ) (size : length f' ≡ length f) where
 
   pub lane_same : ((j : ℕ) → j < n → get_or f' (n * l + j) (pos 0) ≡ get_or f (n * l + j) (pos 0)) → lane n l f' ≡ lane n l f
   lane_same h = ext_get_or (pos 0) (lane n l f') (lane n l f) as_long (λ i k. lane_cell n l f' i (within i k) ∙ h i (within i k) ∙ sym (lane_cell n l f i (within i k)))
-
-  pub lane-set : (v : ℕ) → v < n → n * l + n ≤ length f → ((j : ℕ) → j < n → j ≢ v → get_or f' (n * l + j) (pos 0) ≡ get_or f (n * l + j) (pos 0))
-      → lane n l f' ≡ set (lane n l f) v (get_or f' (n * l + v) (pos 0))
-  lane-set v hv room h = ext_get_or (pos 0) (lane n l f') (set (lane n l f) v (get_or f' (n * l + v) (pos 0))) (as_long ∙ sym (length-set (lane n l f) v (get_or f' (n * l + v) (pos 0)))) (λ i k. lane_cell n l f' i (within i k) ∙ go i (within i k) (ℕ_discrete i v))
-    where
-      go : (i : ℕ) → i < n → Dec (i ≡ v) → get_or f' (n * l + i) (pos 0) ≡ get_or (set (lane n l f) v (get_or f' (n * l + v) (pos 0))) i (pos 0)
-      go i k (yes e) = rw (e, get_or-set_same (lane n l f) v (get_or f' (n * l + v) (pos 0)) (pos 0) (omega (arith, lane-length n l f room)))
-      go i k (no ne) = h i k ne ∙ sym (lane_cell n l f i k) ∙ sym (get_or-set_other (lane n l f) v i (get_or f' (n * l + v) (pos 0)) (pos 0) ne)
 
 -- ---- a loop that lends lane after lane: those before l are done, and the cells from lane l on as they were
 pub record Lanes (n : ℕ) (Q : ℕ → List ℤ → List ℤ → Type 0) (f₀ f : List ℤ) (l : ℕ) : Type 0 where

@@ -26,13 +26,13 @@ use Rattle.timing.proofs.Table.{graph_of_within, read_absent, read_at, written_r
 use Rattle.timing.proofs.Checks.{sound_fits}
 use Rattle.paths.specs.declared.board.Board.{Board}
 use Rattle.paths.specs.Cells.{row_at}
-use Rattle.paths.specs.Chain.{chain_at, walked_at, Chains}
-use Rattle.paths.specs.Arrivals.{inside_limit, reached_limit, filled, Starts, Reached, Pushable, Pushed}
+use Rattle.paths.specs.Chain.{Chain, chain_at, walked_at, Chains, Walkable}
+use Rattle.paths.specs.Arrivals.{inside_limit, reached_limit, filled, Starts, Reached, Pushed}
 use Rattle.paths.specs.Checked.{Passable}
-use Rattle.paths.proofs.Rows.{lent, lent_cell, lent_long, row_at_cell, length-row_at}
+use Rattle.paths.proofs.Rows.{row_at_cell, length-row_at}
 use Rattle.paths.proofs.Sorting.{order_ranked}
 use Rattle.paths.proofs.Walked.{walked_span, settled_with}
-use Rattle.paths.proofs.Chaining.{lent_chain, chain_long, chain_lent, chain_row, walked_row, walked_in, walked_in_⊑, walked_in_within, walked_in_order, walked_in_or}
+use Rattle.paths.proofs.Chaining.{chain_row, walked_row, walked_in, walked_in_⊑, walked_in_within, walked_in_order, walked_in_or}
 use Rattle.paths.proofs.Pushing.{pushed, pushed_span, pushed_settled}
 
 -- a list is known by its first n cells, read as delays, and by the rest
@@ -55,36 +55,18 @@ filled_is n h f₀ f room size cells rest = ext_get_or (pos 0) f (filled n h f�
         ∙ sym (get_or-append-add (tabulate n c) (drop n f₀) (i - n) (pos 0))
         ∙ ap (λ (x : ℕ). get_or (tabulate n c ++ drop n f₀) (x + (i - n)) (pos 0)) (length-tabulate c n) ∙ ap (λ (x : ℕ). get_or (tabulate n c ++ drop n f₀) x (pos 0)) e
 
--- a vertex's row and chain, lent as parts
-pub pushable : {b : Board} {t : List ℤ} {o c : List ℕ} (P : Passable b t o) (C : Chains b.vertices t c) (u : ℕ) (l : u < b.vertices) (f : List ℤ) → b.vertices ≤ length f → Pushable b.vertices (lent b.vertices t u P.checked.lent l) (lent_chain C u P.checked.lent l) f
-pushable {b} {t} P C u l f h = record {
-  some = omega (arith, b.sized);
-  few = b.sized.few;
-  row_room = lent_long b.vertices t u P.checked.lent l;
-  chain_room = chain_long C u P.checked.lent l;
-  room = h;
-  near = λ v k. subst (λ (d : Delay). T (fits delay_limit d)) (sym (lent_cell b.vertices t u P.checked.lent l v k)) (sound_fits P.checked.sound u v);
-  chain = chain_lent C u P.checked.lent l;
-}
-
--- the same, of rows of N cells: r and k are the table's and the chains'
-pub pushable_row : {b : Board} {t : List ℤ} {o c : List ℕ} → Passable b t o → Chains b.vertices t c → (u : ℕ) → u < b.vertices → (f : List ℤ) → b.vertices ≤ length f
-    → (r : List ℤ) (k : List ℕ) → r ≡ row_at b.vertices u t → k ≡ row_at b.vertices u c → Pushable (length r) r k f
-pushable_row {b} {t} {o} {c} P C u l f h r k er ek = transport (λ i. Pushable (sym m i) (sym er i) (sym ek i) f) (record {
-  some = omega (arith, b.sized);
-  few = b.sized.few;
-  row_room = omega (arith, long);
-  chain_room = omega (arith, length-row_at b.vertices c u C.room l);
-  room = h;
-  near = λ v j. subst (λ (d : Delay). T (fits delay_limit d)) (sym (row_at_cell b.vertices t u v l j)) (sound_fits P.checked.sound u v);
-  chain = chain_row C u l;
+-- a vertex's row and its chain: r and k are the table's and the chains'
+pub walkable_row : {b : Board} {t : List ℤ} {o c : List ℕ} → Passable b t o → Chains b.vertices t c → (u : ℕ) → u < b.vertices → (r : List ℤ) (k : List ℕ) → r ≡ row_at b.vertices u t → k ≡ row_at b.vertices u c → Walkable r k
+walkable_row {b} {t} {o} {c} P C u l r k er ek = transport (λ i. Walkable (sym er i) (sym ek i)) (record {
+  some = omega (arith, b.sized, long);
+  few = omega (arith, b.sized.few, long);
+  linked = omega (arith, long, length-row_at b.vertices c u C.room l);
+  near = λ v j. subst (λ (d : Delay). T (fits delay_limit d)) (sym (row_at_cell b.vertices t u v l (omega (arith, long)))) (sound_fits P.checked.sound u v);
+  chain = subst (λ (x : ℕ). Chain x (walked_at (row_at b.vertices u t) (row_at b.vertices u c)) (λ v. get_or (row_at b.vertices u c) v 0)) (sym long) (chain_row C u l);
 })
   where
     long : length (row_at b.vertices u t) ≡ b.vertices
     long = length-row_at b.vertices t u P.checked.lent l
-
-    m : length r ≡ b.vertices
-    m = ap length er ∙ long
 
 pub reached : (a : ℤ) → a ≢ absent_wide → T (fits reached_limit (read_cell absent_wide a)) → Reached a
 reached a ne h = record { there = ne; near = subst (λ (d : Delay). T (fits reached_limit d)) (read_at absent_wide a ne) h }

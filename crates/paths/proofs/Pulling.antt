@@ -196,9 +196,6 @@ module _ {b : Board} {t : List ℤ} {o c : List ℕ} {f₀ f : List ℤ} {p : �
   going : Pulling b.vertices t o c f₀ f (p - 1 + 1)
   going = let e : p ≡ p - 1 + 1 = omega arith in subst (λ (k : ℕ). Pulling b.vertices t o c f₀ f k) e G
 
-  pub pull_reach : InReach b.vertices f
-  pull_reach = in_reach P R C (p - 1) going
-
   pub pull_vertex : get_or o (p - 1) 0 < b.vertices
   pull_vertex = x_in P R C (p - 1) going
 

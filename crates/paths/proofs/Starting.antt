@@ -12,11 +12,12 @@ use lib.IntN.{ℤ, pos}
 use lib.ListN.{length, get_or, drop, length-append, length-take, length-drop, get_or-append}
 use borrow.Rule.Slice.PartMut.{put_mid, same_len_mid}
 use Rattle.laws.proofs.LentParts.{put_before, put_after, put_in}
-use lib.Seq.{drop_at, ext_get_or, get_or-append-add, get_or-drop}
+use lib.Seq.{drop_at}
 use Rattle.laws.specs.Lists.{tabulate}
 use Rattle.laws.proofs.Linear.{zarith}
 use Rattle.laws.proofs.Booleans.{eqb_same, eqb_other}
-use Rattle.laws.proofs.Lists.{length-tabulate, get_d_tabulate, tabulate_same}
+use Rattle.std.proofs.lemmas.List.{drop_all, append-nil}
+use Rattle.laws.proofs.Lists.{is_tabulate, length-tabulate, get_d_tabulate, tabulate_same}
 use Rattle.graph.specs.Delay.{Delay, absent, immediate}
 use Rattle.graph.specs.Graph.{Graph, Longest, longest, walk, propagated}
 use Rattle.graph.proofs.Longest.{longest_is}
@@ -43,27 +44,16 @@ stored_cell n c f v h = get_or-append (tabulate n c) (drop n f) (pos 0) v (omega
 pub stored-drop : (n : ℕ) (c : ℕ → ℤ) (f : List ℤ) → drop n (stored n c f) ≡ drop n f
 stored-drop n c f = drop_at (tabulate n c) (drop n f) n (length-tabulate c n)
 
--- a list is known by its first n cells and by the rest
-pub stored_is : (n : ℕ) (c : ℕ → ℤ) (f₀ f : List ℤ) → n ≤ length f₀ → length f ≡ length f₀ → ((v : ℕ) → v < n → get_or f v (pos 0) ≡ c v) → ((v : ℕ) → n ≤ v → get_or f v (pos 0) ≡ get_or f₀ v (pos 0)) → f ≡ stored n c f₀
-stored_is n c f₀ f room size cells rest = ext_get_or (pos 0) f (stored n c f₀) (size ∙ sym (stored-length n c f₀ room)) (λ i l. go i (dec_lt i n))
-  where
-    go : (i : ℕ) → Dec (i < n) → get_or f i (pos 0) ≡ get_or (stored n c f₀) i (pos 0)
-    go i (yes l) = cells i l ∙ sym (stored_cell n c f₀ i l)
-    go i (no l) =
-        let e : n + (i - n) ≡ i = omega arith in
-        rest i (omega arith) ∙ ap (λ (x : ℕ). get_or f₀ x (pos 0)) (sym e) ∙ sym (get_or-drop n f₀ (i - n) (pos 0))
-        ∙ sym (get_or-append-add (tabulate n c) (drop n f₀) (i - n) (pos 0))
-        ∙ ap (λ (x : ℕ). get_or (tabulate n c ++ drop n f₀) (x + (i - n)) (pos 0)) (length-tabulate c n) ∙ ap (λ (x : ℕ). get_or (tabulate n c ++ drop n f₀) x (pos 0)) e
+-- all of them
+pub stored_all : (n : ℕ) (c : ℕ → ℤ) (f : List ℤ) → length f ≡ n → stored n c f ≡ tabulate n c
+stored_all n c f e = ap (λ (x : List ℤ). tabulate n c ++ x) (drop_all n f (omega (arith, e))) ∙ append-nil (tabulate n c)
 
 -- absent everywhere, and then times in their place
-pub times_stored : (n first : ℕ) (times f none : List ℤ) → n ≤ length f → first + length times ≤ n → none ≡ stored n (λ _. absent_wide) f → put_mid first (first + length times - first) none times ≡ stored n (times_at first times) f
-times_stored n first times f none room h e = stored_is n (times_at first times) f l room size cells rest
+pub times_placed : (n first : ℕ) (times none : List ℤ) → first + length times ≤ n → none ≡ tabulate n (λ _. absent_wide) → put_mid first (first + length times - first) none times ≡ tabulate n (times_at first times)
+times_placed n first times none h e = is_tabulate (pos 0) (put_mid first (first + length times - first) none times) n (times_at first times) size cells
   where
-    l : List ℤ
-    l = put_mid first (first + length times - first) none times
-
-    long : length none ≡ length f
-    long = ap length e ∙ stored-length n (λ _. absent_wide) f room
+    long : length none ≡ n
+    long = ap length e ∙ length-tabulate (λ _. absent_wide) n
 
     inside : first + length times ≤ length none
     inside = omega (arith, long)
@@ -71,11 +61,11 @@ times_stored n first times f none room h e = stored_is n (times_at first times) 
     sized : length times ≡ first + length times - first
     sized = omega arith
 
-    size : length (put_mid first (first + length times - first) none times) ≡ length f
+    size : length (put_mid first (first + length times - first) none times) ≡ n
     size = same_len_mid first (first + length times - first) none times (simp (length-take, length-drop) (omega (arith, inside))) ∙ long
 
     was : (v : ℕ) → v < n → get_or none v (pos 0) ≡ absent_wide
-    was v k = ap (λ (x : List ℤ). get_or x v (pos 0)) e ∙ stored_cell n (λ _. absent_wide) f v k
+    was v k = ap (λ (x : List ℤ). get_or x v (pos 0)) e ∙ get_d_tabulate (λ _. absent_wide) n v (pos 0) k
 
     cells : (v : ℕ) → v < n → get_or (put_mid first (first + length times - first) none times) v (pos 0) ≡ times_at first times v
     cells v k = go (dec_lt v first) (dec_lt v (first + length times))
@@ -90,15 +80,6 @@ times_stored n first times f none room h e = stored_is n (times_at first times) 
         go (no a) (no b) =
             put_after first (first + length times) none times (pos 0) (omega arith) inside sized v (omega arith) ∙ was v k
             ∙ sym (ap (λ (b : Bool). cond b absent_wide (from_list times (v - first))) (le-ltb v first (omega arith)) ∙ ap (λ (b : Bool). cond b (get_or times (v - first) (pos 0)) absent_wide) (le-ltb (v - first) (length times) (omega arith)))
-
-    rest : (v : ℕ) → n ≤ v → get_or (put_mid first (first + length times - first) none times) v (pos 0) ≡ get_or f v (pos 0)
-    rest v k =
-        put_after first (first + length times) none times (pos 0) (omega arith) inside sized v (omega arith)
-        ∙ ap (λ (x : List ℤ). get_or x v (pos 0)) e
-        ∙ (let q : n + (v - n) ≡ v = omega arith in
-        ap (λ (x : ℕ). get_or (stored n (λ _. absent_wide) f) x (pos 0)) (sym q)
-        ∙ ap (λ (x : ℕ). get_or (stored n (λ _. absent_wide) f) (x + (v - n)) (pos 0)) (sym (length-tabulate (λ _. absent_wide) n))
-        ∙ get_or-append-add (tabulate n (λ _. absent_wide)) (drop n f) (v - n) (pos 0) ∙ get_or-drop n f (v - n) (pos 0) ∙ ap (λ (x : ℕ). get_or f x (pos 0)) q)
 
 -- one time, and times from vertex 0 on
 pub one_time : (i : ℕ) → times_at i (pos 0 ∷ []) ≡ only_at i

@@ -9,8 +9,7 @@ use Rattle.timing.specs.Limits.{max_vertices, delay_limit, absent_cell, absent_w
 use Rattle.timing.specs.Table.{read_cell, write_cell}
 use Rattle.timing.specs.Delays.{arrival_in, arrival_at}
 use Rattle.paths.specs.declared.board.Board.{Board}
-use Rattle.paths.specs.Cells.{cell_at}
-use Rattle.paths.specs.Chain.{Chain, walked_at}
+use Rattle.paths.specs.Chain.{walked_at}
 use Rattle.paths.specs.Board.{graph_in}
 
 -- inside, arrivals may start within ±2,000,000,000,000
@@ -87,16 +86,6 @@ pub record Offered (x : ℕ) (a cell : ℤ) (f₀ f : List ℤ) : Type 0 where
 pub record OfferedEach (lanes n v : ℕ) (a : ℕ → ℤ) (cell : ℤ) (f₀ f : List ℤ) : Type 0 where
   pub here : EachLane lanes (λ l. arrival_in f (n * l + v) ≡ arrival_in f₀ (n * l + v) ⋓ (read_cell absent_wide (a l) ⊕ read_cell absent_cell cell))
   pub others : (y : ℕ) → EachLane lanes (λ l. y ≢ n * l + v) → get_or f y (pos 0) ≡ get_or f₀ y (pos 0)
-
--- a row with its chain, and room for the arrivals after it
-pub record Pushable (n : ℕ) (row : List ℤ) (c : List ℕ) (f : List ℤ) : Type 0 where
-  pub some : 1 ≤ n
-  pub few : n ≤ max_vertices
-  pub row_room : n ≤ length row
-  pub chain_room : n ≤ length c
-  pub room : n ≤ length f
-  pub near : (v : ℕ) → v < n → T (fits delay_limit (cell_at row v))
-  pub chain : Chain n (walked_at row c) (λ v. get_or c v 0)
 
 -- a is pushed along the arcs that a chain walks
 pub record Pushed (n : ℕ) (row : List ℤ) (c : List ℕ) (a : ℤ) (f₀ f : List ℤ) : Type 0 where

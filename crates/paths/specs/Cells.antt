@@ -1,6 +1,7 @@
 -- Cells of a lent list.
-use Rattle.std.specs.Prelude.{◌≡◌, Bool, true, ◌&&◌, List, ℕ, ◌+◌, ◌*◌, ◌≤◌, ◌<◌, ℤ, pos, length, get_or, take, drop}
+use Rattle.std.specs.Prelude.{◌≡◌, Bool, Option, true, ◌&&◌, List, ℕ, ◌+◌, ◌*◌, ◌≤◌, ◌<◌, ℤ, pos, length, get_or, take, drop}
 use Rattle.std.specs.Int.Signed.{le_z}
+use Rattle.std.specs.Option.{MatchOption}
 use Rattle.graph.specs.Delay.{Delay, absent, at}
 use Rattle.graph.specs.Graph.{Graph}
 use Rattle.graph.specs.Count.{bit}
@@ -33,3 +34,7 @@ pub record NextInto (N : ℕ) (g : Graph) (v from r : ℕ) : Type 0 where
   pub upto : r ≤ N
   pub none : (u : ℕ) → from ≤ u → u < r → bit (g u v) ≡ 0
   pub arc : r < N → bit (g r v) ≡ 1
+
+-- the first vertex from `from` on with an arc to v, if there is one
+abbrev pub FirstInto : ℕ → Graph → ℕ → ℕ → Option ℕ → Type 0
+FirstInto N g v from r = MatchOption r (NextInto N g v from N) (λ u. (u < N) × NextInto N g v from u)

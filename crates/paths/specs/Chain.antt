@@ -3,7 +3,7 @@ use Rattle.std.specs.Prelude.{◌≡◌, ◌⊎◌, Bool, true, false, cond, Lis
 use Rattle.std.specs.Int.Signed.{lt_z}
 use Rattle.graph.specs.Delay.{Delay, absent, at, present, ◌⊕◌, ◌⊑◌}
 use Rattle.graph.specs.Graph.{Graph}
-use Rattle.timing.specs.Limits.{delay_limit, fits}
+use Rattle.timing.specs.Limits.{max_vertices, delay_limit, fits}
 use Rattle.timing.specs.Table.{graph_of}
 use Rattle.paths.specs.Cells.{cell_at}
 
@@ -54,3 +54,11 @@ unbeaten row next d v = cond (below (row v) (d ⊕ next v)) absent (row v)
 pub record Near (n : ℕ) (row : List ℤ) : Type 0 where
   pub room : n ≤ length row
   pub near : (v : ℕ) → v < n → T (fits delay_limit (cell_at row v))
+
+-- a row of cells, each absent or within the limits, with a chain of its arcs
+pub record Walkable (row : List ℤ) (c : List ℕ) : Type 0 where
+  pub some : 1 ≤ length row
+  pub few : length row ≤ max_vertices
+  pub linked : length row ≤ length c
+  pub near : (v : ℕ) → v < length row → T (fits delay_limit (cell_at row v))
+  pub chain : Chain (length row) (walked_at row c) (λ v. get_or c v 0)

@@ -1,14 +1,15 @@
 // Arrivals: each vertex in topological order pushes its own along its arcs, so that every arc that its chain walks is looked at once, and no other cell.
 ghost use Rattle.std.specs.Prelude.{IfSome, ◌≡◌, ◌≢◌, ◌+◌, ◌*◌, ◌<◌, ◌≤◌, T, pos, length, get_or};
+ghost use Rattle.laws.specs.Lists.{tabulate};
 ghost use Rattle.laws.specs.Lent.{Past};
 ghost use Rattle.timing.specs.Limits.{max_vertices, delay_limit, absent_cell, absent_wide, fits};
 ghost use Rattle.timing.specs.Table.{read_cell};
 ghost use Rattle.timing.specs.Delays.{arrival_in};
 ghost use Rattle.paths.specs.Tables.{of_table};
-ghost use Rattle.paths.specs.Arrivals.{reached_limit, stored, filled, only_at, times_at, Starts, Given, Reached, Gains, Offered, OfferedEach, Pushable, Pushed, lane, EachLane, latest_from, delays_from, arrivals_from, DelayLanes};
+ghost use Rattle.paths.specs.Arrivals.{reached_limit, stored, filled, only_at, times_at, Starts, Given, Reached, Gains, Offered, OfferedEach, Pushed, lane, EachLane, latest_from, delays_from, arrivals_from, DelayLanes};
 
 use crate::board::Board;
-use crate::chain::Walk;
+use crate::chain::{LinkedRow, Walk};
 
 // Whether what comes over an arc is later than what is there. An absent arrival is below every other.
 pub fn gains(best: i64, a: i64, cell: i32) -> bool
@@ -33,8 +34,7 @@ fn offer(f: &mut [i64], x: usize, a: i64, cell: i32)
     }
 }
 
-// Here n is the length of a lane, and f holds several, or a lane and more: it is no length of f. How many lanes there may be is a clause: a const parameter
-// has no bound in its type. A row and its links stay two slices, for a struct of both would be made at each vertex to be handed on once.
+// Here n is the length of a lane, and f holds several: it is no length of f. How many lanes there may be is a clause: a const parameter has no bound in its type.
 
 // Offers v what comes over one arc in each lane: from a[l] in lane l.
 fn offer_each<const LANES: usize>(f: &mut [i64], n: usize, v: usize, a: [i64; LANES], cell: i32)
@@ -51,43 +51,41 @@ fn offer_each<const LANES: usize>(f: &mut [i64], n: usize, v: usize, a: [i64; LA
 }
 
 // Pushes on along the arcs that a row's chain walks, from a[l] in lane l: the lanes share the walk, which goes from link to link, along no slice.
-fn push<const LANES: usize>(row: &[i32], chain: &[u8], a: [i64; LANES], f: &mut [i64])
+fn push<const LANES: usize>(row: &LinkedRow, a: [i64; LANES], f: &mut [i64])
     requires some { 1 ≤ LANES }
     requires few { LANES ≤ max_vertices }
     requires reached { EachLane LANES (λ l. Reached (get_or a l (pos 0))) }
-    requires pushable { Pushable (length row.now) row.now chain.now f.old }
-    requires room { length row.now * LANES ≤ length f.old }
-    ensures pushed { EachLane LANES (λ l. Pushed (length row.now) row.now chain.now (get_or a.entry l (pos 0)) (lane (length row.now) l f.old) (lane (length row.now) l f.new)) }
-    ensures past { Past (length row.now * LANES) f.old f.new }
+    requires room { length row.now.cells.now * LANES ≤ length f.old }
+    ensures pushed { EachLane LANES (λ l. Pushed (length row.now.cells.now) row.now.cells.now row.now.links.now (get_or a.entry l (pos 0)) (lane (length row.now.cells.now) l f.old) (lane (length row.now.cells.now) l f.new)) }
+    ensures past { Past (length row.now.cells.now * LANES) f.old f.new }
 {
-    let n = row.len();
-    let mut v = usize::from(chain[0]);
+    let n = row.cells.len();
+    let mut v = usize::from(row.links[0]);
     while v < n {
-        offer_each(f, n, v, a, row[v]);
-        v = usize::from(chain[v]);
+        offer_each(f, n, v, a, row.cells[v]);
+        v = usize::from(row.links[v]);
     }
 }
 
 // Pushes on what is at u, where it is reached.
-fn push_from(row: &[i32], chain: &[u8], f: &mut [i64], u: usize)
-    requires pushable { Pushable (length row.now) row.now chain.now f.old }
-    requires u_in_bounds { u < length row.now }
+fn push_from(row: &LinkedRow, f: &mut [i64], u: usize)
+    requires room { length row.now.cells.now ≤ length f.old }
+    requires u_in_bounds { u < length row.now.cells.now }
     requires near { T (fits reached_limit (arrival_in f.old u)) }
-    ensures { Pushed (length row.now) row.now chain.now (get_or f.old u (pos 0)) f.old f.new }
+    ensures { Pushed (length row.now.cells.now) row.now.cells.now row.now.links.now (get_or f.old u (pos 0)) f.old f.new }
 {
     let a = f[u];
     if a != Board::ABSENT_WIDE {
-        push(row, chain, [a], f);
+        push(row, [a], f);
     }
 }
 
-// The times that start at the vertices from `at` on, and no signal at any other of the n vertices.
-pub fn start(f: &mut [i64], n: usize, at: usize, times: &[i64])
-    requires n_in_bounds { n ≤ length f.old }
-    requires at_bound { at + length times.now ≤ n }
-    ensures { f.new ≡ stored n (times_at at times.now) f.old }
+// The times that start at the vertices from `at` on, and no signal at any other.
+pub fn start(f: &mut [i64], at: usize, times: &[i64])
+    requires { at + length times.now ≤ length f.old }
+    ensures { f.new ≡ tabulate (length f.old) (times_at at times.now) }
 {
-    f[..n].fill(Board::ABSENT_WIDE);
+    f.fill(Board::ABSENT_WIDE);
     f[at..at + times.len()].copy_from_slice(times);
 }
 
@@ -108,24 +106,23 @@ fn all_at<const LANES: usize>(f: &[i64], n: usize, u: usize) -> Option<[i64; LAN
 }
 
 // Pushes on what is at u in each lane.
-fn push_each<const LANES: usize>(row: &[i32], chain: &[u8], f: &mut [i64], u: usize)
+fn push_each<const LANES: usize>(row: &LinkedRow, f: &mut [i64], u: usize)
     requires some { 1 ≤ LANES }
     requires few { LANES ≤ max_vertices }
-    requires pushable { Pushable (length row.now) row.now chain.now f.old }
-    requires u_in_bounds { u < length row.now }
-    requires room { length row.now * LANES ≤ length f.old }
-    requires near { EachLane LANES (λ l. T (fits reached_limit (arrival_in (lane (length row.now) l f.old) u))) }
-    ensures pushed { EachLane LANES (λ l. Pushed (length row.now) row.now chain.now (get_or (lane (length row.now) l f.old) u (pos 0)) (lane (length row.now) l f.old) (lane (length row.now) l f.new)) }
-    ensures past { Past (length row.now * LANES) f.old f.new }
+    requires u_in_bounds { u < length row.now.cells.now }
+    requires room { length row.now.cells.now * LANES ≤ length f.old }
+    requires near { EachLane LANES (λ l. T (fits reached_limit (arrival_in (lane (length row.now.cells.now) l f.old) u))) }
+    ensures pushed { EachLane LANES (λ l. Pushed (length row.now.cells.now) row.now.cells.now row.now.links.now (get_or (lane (length row.now.cells.now) l f.old) u (pos 0)) (lane (length row.now.cells.now) l f.old) (lane (length row.now.cells.now) l f.new)) }
+    ensures past { Past (length row.now.cells.now * LANES) f.old f.new }
 {
-    let n = row.len();
+    let n = row.cells.len();
     if let Some(a) = all_at::<LANES>(f, n, u) {
-        push(row, chain, a, f);
+        push(row, a, f);
         return;
     }
     for l in 0..LANES {
         let at = n * l;
-        push_from(row, chain, &mut f[at..at + n], u);
+        push_from(row, &mut f[at..at + n], u);
     }
 }
 
@@ -140,7 +137,7 @@ fn propagate_each<const LANES: usize>(walk: &Walk, f: &mut [i64])
 {
     for p in 0..walk.table.board.vertices {
         let u = usize::from(walk.order[p]);
-        push_each::<LANES>(walk.table.row(u), walk.links(u), f, u);
+        push_each::<LANES>(&walk.row(u), f, u);
     }
 }
 
@@ -161,7 +158,7 @@ fn start_each<const LANES: usize>(f: &mut [i64], n: usize, i: usize)
 {
     for l in 0..LANES {
         let at = n * l;
-        start(&mut f[at..at + n], n, i + l, &[0]);
+        start(&mut f[at..at + n], i + l, &[0]);
     }
 }
 
@@ -171,8 +168,7 @@ pub fn delays_from(walk: &Walk, i: usize, f: &mut [i64])
     requires vertices_in_bounds { walk.now.table.board.vertices ≤ length f.old }
     ensures { f.new ≡ filled walk.now.table.board.vertices (of_table delays_from walk.now.table i) f.old }
 {
-    start(f, walk.table.board.vertices, i, &[0]);
-    propagate(walk, f);
+    delays_from_each::<1>(walk, i, f);
 }
 
 // The arrivals at every vertex, in one pass.
@@ -181,7 +177,8 @@ pub fn arrivals(walk: &Walk, inputs: &[i64], f: &mut [i64])
     requires vertices_in_bounds { walk.now.table.board.vertices ≤ length f.old }
     ensures { f.new ≡ filled walk.now.table.board.vertices (of_table arrivals_from walk.now.table inputs.now) f.old }
 {
-    start(f, walk.table.board.vertices, 0, inputs);
+    let n = walk.table.board.vertices;
+    start(&mut f[..n], 0, inputs);
     propagate(walk, f);
 }
 

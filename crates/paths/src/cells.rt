@@ -10,9 +10,10 @@ ghost use Rattle.paths.specs.Cells.{cell_at, row_at, between};
 
 use crate::board::Board;
 
-// What is asked of a cell stays a clause: cells stand in lent slices of i32, and a type of their own would be made anew at each read.
+// What is asked of a cell stays a clause: cells stand in lent slices, of i32 in a table and of i64 where arrivals are, and a type of their own would be made anew at
+// each read.
 
-// The limits of a delay, as a cell has them; `From` is no const function.
+// The limits of a delay, as a cell has them; `try_from` is no const function.
 pub const MIN_TICKS: i32 = Board::MIN_DELAY as i32;
 
 pub const MAX_TICKS: i32 = Board::MAX_DELAY as i32;
@@ -24,7 +25,7 @@ pub fn wide(x: i32) -> i64
     i64::from(x)
 }
 
-// A delay that fits a cell: a `try_from` would want an answer where it does not.
+// A delay that fits a cell. `as` is proved to lose nothing: a `try_from` with its `unwrap` would be no plainer.
 pub fn narrow(x: i64) -> i32
     requires { T (fits delay_limit (at x)) }
     ensures { result ≡ x }
@@ -82,7 +83,8 @@ pub fn row_fits(row: &[i32]) -> bool
     row_within(row, MIN_TICKS, MAX_TICKS)
 }
 
-// Row u of a list in which each vertex has a row of n cells; the list may go on.
+// Row u of a list in which each vertex has a row of n cells; the list may go on. Here and in the crates above n is bounded by a clause where no board is given: a
+// `Board` would ask more of the caller.
 pub fn row<T>(cells: &[T], n: usize, u: usize) -> &[T]
     requires few { n ≤ max_vertices }
     requires room { n * n ≤ length cells.now }

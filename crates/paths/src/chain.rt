@@ -5,7 +5,7 @@ ghost use Rattle.timing.specs.Limits.{max_vertices, delay_limit, absent_cell, fi
 ghost use Rattle.timing.specs.Table.{read_cell};
 ghost use Rattle.paths.specs.Cells.{cell_at};
 ghost use Rattle.paths.specs.Order.{TopologicalOrder};
-ghost use Rattle.paths.specs.Chain.{Chain, Chained, Chains, below, unbeaten, Near};
+ghost use Rattle.paths.specs.Chain.{Chain, Chained, Chains, Walkable, below, unbeaten, Near};
 ghost use Rattle.paths.specs.Tables.{timing_graph, IsSound};
 
 use crate::board::Board;
@@ -25,6 +25,15 @@ pub struct Walk<'a> {
     pub ghost chains: { Chains table.board.vertices table.cells.now chain.now },
 }
 
+// A row of its table with the chain of the row: after each cell the next arc that the pass looks at, and after the last of them the row's length. It stands for none:
+// with `Option<u8>` the chains of a table would take 16,200 bytes, and the matrix may take 12,288 of stack.
+#[derive(Clone, Copy)]
+pub struct LinkedRow<'a> {
+    pub cells: &'a [i32],
+    pub links: &'a [u8],
+    pub ghost walkable: { Walkable cells.now links.now },
+}
+
 impl<'a> Walk<'a> {
     ghost use Rattle.paths.specs.Cells.{row_at};
 
@@ -40,12 +49,16 @@ impl<'a> Walk<'a> {
         }
     }
 
-    // The links of row u.
-    pub fn links(&self, u: usize) -> &'a [u8]
+    // Row u with its links.
+    pub fn row(&self, u: usize) -> LinkedRow<'a>
         requires { u < self.now.table.board.vertices }
-        ensures { result.now ≡ row_at self.now.table.board.vertices u self.now.chain.now }
+        ensures cells { result.cells.now ≡ row_at self.now.table.board.vertices u self.now.table.cells.now }
+        ensures links { result.links.now ≡ row_at self.now.table.board.vertices u self.now.chain.now }
     {
-        cells::row(self.chain, self.table.board.vertices, u)
+        LinkedRow {
+            cells: self.table.row(u),
+            links: cells::row(self.chain, self.table.board.vertices, u),
+        }
     }
 }
 
@@ -70,7 +83,7 @@ fn chain_row(row: &[i32], next: &[i32], d: i32, chain: &mut [u8])
 {
     let mut after = chain.len();
     for v in (0..chain.len()).rev() {
-        // At most 90: a `try_from` would want an answer where it is more.
+        // At most 90: `as`, for the reason in `cells`.
         chain[v] = after as u8;
         if cells::is_arc(row[v]) && !beaten(row[v], next[v], d) {
             after = v;
@@ -79,20 +92,19 @@ fn chain_row(row: &[i32], next: &[i32], d: i32, chain: &mut [u8])
 }
 
 // The chain of vertex u, without the arcs that are beaten by way of w.
-fn chain_from(table: &Table, u: usize, w: usize, chain: &mut [u8])
-    requires sound { IsSound table.now }
-    requires u_lt_vertices { u < table.now.board.vertices }
-    requires w_lt_vertices { w < table.now.board.vertices }
-    requires chain_len { length chain.old ≡ table.now.board.vertices }
-    ensures { Chained table.now.board.vertices (timing_graph table.now) u (λ v. get_or chain.new v 0) }
+fn chain_from(sorted: &Sorted, u: usize, w: usize, chain: &mut [u8])
+    requires u_lt_vertices { u < sorted.now.table.board.vertices }
+    requires w_lt_vertices { w < sorted.now.table.board.vertices }
+    requires chain_len { length chain.old ≡ sorted.now.table.board.vertices }
+    ensures { Chained sorted.now.table.board.vertices (timing_graph sorted.now.table) u (λ v. get_or chain.new v 0) }
 {
-    let row = table.row(u);
-    let next = table.row(w);
+    let row = sorted.table.row(u);
+    let next = sorted.table.row(w);
     chain_row(row, next, row[w], chain);
 }
 
 // The chains of all rows, in lent bytes: returned, they would stand twice on the stack. From each vertex w is the next in the order; after the last
-// it is 0, an input, to which there is no arc.
+// it is 0, an input, to which there is no arc: with an Option the last row would need a `chain_row` of its own.
 pub fn chains(sorted: &Sorted, chain: &mut [u8])
     requires { sorted.now.table.board.vertices * sorted.now.table.board.vertices ≤ length chain.old }
     ensures { Chains sorted.now.table.board.vertices sorted.now.table.cells.now chain.new }
@@ -102,7 +114,7 @@ pub fn chains(sorted: &Sorted, chain: &mut [u8])
     for p in (0..n).rev() {
         let u = usize::from(sorted.order[p]);
         let at = n * u;
-        chain_from(&sorted.table, u, w, &mut chain[at..at + n]);
+        chain_from(sorted, u, w, &mut chain[at..at + n]);
         w = u;
     }
 }

@@ -1,17 +1,17 @@
 // Required times and margins: a pass forwards and one backwards over the arcs. Backwards, required times are mirrored (negated), so that the later of two
 // is taken there too and absent is again below every other.
-ghost use Rattle.std.specs.Prelude.{◌≡◌, ◌≢◌, ◌≤◌, T, length};
+ghost use Rattle.std.specs.Prelude.{◌≡◌, ◌≢◌, T, length};
 ghost use Rattle.graph.specs.Delay.{◌⋓◌, ◌⊕◌, ◌⊖◌, mirror};
 ghost use Rattle.timing.specs.Limits.{delay_limit, absent_cell, absent_wide, fits};
 ghost use Rattle.timing.specs.Table.{read_cell, write_cell};
 ghost use Rattle.timing.specs.Delays.{arrival_in};
 ghost use Rattle.timing.specs.Margins.{cells};
 ghost use Rattle.paths.specs.Tables.{of_table};
-ghost use Rattle.paths.specs.Arrivals.{reached_limit, filled, Starts, Given, Pushable};
+ghost use Rattle.paths.specs.Arrivals.{reached_limit, filled, Starts, Given};
 ghost use Rattle.paths.specs.Margins.{InReach, Pulled, lists, lists_fit, margins, Timed, latest_back, required_from, margins_on};
 
 use crate::board::Board;
-use crate::chain::Walk;
+use crate::chain::{LinkedRow, Walk};
 use crate::sorted::Sorted;
 use crate::{arrivals, checks, queries};
 use timing::Refusal;
@@ -31,16 +31,15 @@ fn later(best: i64, a: i64, cell: i32) -> i64
 }
 
 // The latest of what is there and what comes back over the arcs that a row's chain walks, from link to link.
-fn pull(row: &[i32], chain: &[u8], start: i64, f: &[i64]) -> i64
-    requires pushable { Pushable (length row.now) row.now chain.now f.now }
-    requires in_reach { InReach (length row.now) f.now }
-    ensures { Pulled (length row.now) row.now chain.now start f.now result }
+fn pull(row: &LinkedRow, start: i64, f: &[i64]) -> i64
+    requires { InReach (length row.now.cells.now) f.now }
+    ensures { Pulled (length row.now.cells.now) row.now.cells.now row.now.links.now start f.now result }
 {
     let mut best = start;
-    let mut v = usize::from(chain[0]);
-    while v < row.len() {
-        best = later(best, f[v], row[v]);
-        v = usize::from(chain[v]);
+    let mut v = usize::from(row.links[0]);
+    while v < row.cells.len() {
+        best = later(best, f[v], row.cells[v]);
+        v = usize::from(row.links[v]);
     }
     best
 }
@@ -52,7 +51,7 @@ fn propagate_back(walk: &Walk, f: &mut [i64])
 {
     for p in (0..walk.table.board.vertices).rev() {
         let u = usize::from(walk.order[p]);
-        f[u] = pull(walk.table.row(u), walk.links(u), f[u], f);
+        f[u] = pull(&walk.row(u), f[u], f);
     }
 }
 
@@ -83,12 +82,7 @@ fn required_times(walk: &Walk, due: &[i64], required: &mut [i64])
     requires required_len { length required.old ≡ walk.now.table.board.vertices }
     ensures { required.new ≡ cells walk.now.table.board.vertices (of_table required_from walk.now.table due.now) }
 {
-    arrivals::start(
-        required,
-        walk.table.board.vertices,
-        walk.table.board.inputs,
-        due,
-    );
+    arrivals::start(required, walk.table.board.inputs, due);
     mirror_all(required);
     propagate_back(walk, required);
     mirror_all(required);

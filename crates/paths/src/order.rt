@@ -8,7 +8,8 @@ use crate::board::Board;
 use crate::cells;
 use crate::table::Table;
 
-// The vertices, a byte each, so that every arc rises.
+// The vertices, a byte each, so that every arc rises. How many bytes are in use the board says, or n where there is no board: a length of its own would say it again,
+// for whoever asks about an order has its table.
 pub type Order = [u8; Board::MAX_VERTICES];
 
 // Adds a row's arcs to the counts of their targets. What is asked of the counts, and what is left of them, tells this from `lower`: one function over the sign would say both.
@@ -46,13 +47,14 @@ fn fans(table: &Table) -> [u8; Board::MAX_VERTICES]
     fan
 }
 
-// The first of n vertices, from `from` on, whose count is 0: n of the counts are in use.
-fn ready(fan: &[u8; Board::MAX_VERTICES], from: usize, n: usize) -> Option<usize>
-    requires n_le_max_vertices { n ≤ max_vertices }
-    requires from_le_n { from ≤ n }
-    ensures { MatchOption result (NoZero n fan.now from) (λ u. (u < n) × (get_or fan.now u 0 ≡ 0) × NoZero u fan.now from) }
+// The first vertex from `from` on whose count is 0. In a frame of its own: inlined, the search moves two places in the table along, which the row that is taken off
+// then begins at, and the matrix of the board `ladder` takes 157 thousand instructions in place of 149.
+#[inline(never)]
+fn ready(fan: &[u8], from: usize) -> Option<usize>
+    requires { from ≤ length fan.now }
+    ensures { MatchOption result (NoZero (length fan.now) fan.now from) (λ u. (u < length fan.now) × (get_or fan.now u 0 ≡ 0) × NoZero u fan.now from) }
 {
-    for v in from..n {
+    for v in from..fan.len() {
         if fan[v] == 0 {
             return Some(v);
         }
@@ -71,7 +73,8 @@ fn past(from: usize, u: usize) -> usize
     from
 }
 
-// Check 6: a topological order, where there is no cycle. A placed vertex's count is 100, which it never loses: no more than 90 arcs lead into a vertex.
+// Check 6: a topological order, where there is no cycle. A placed vertex's count is 100, which it never loses: no more than 90 arcs lead into a vertex. As an Option
+// it would be asked about at every cell of every row that is taken off.
 pub fn topological_order(table: &Table) -> Option<Order>
     ensures { Ordered table.now.board.vertices (timing_graph table.now) result }
 {
@@ -80,12 +83,12 @@ pub fn topological_order(table: &Table) -> Option<Order>
     let mut fan = fans(table);
     let mut from = 0;
     for p in 0..n {
-        let Some(u) = ready(&fan, from, n) else {
+        let Some(u) = ready(&fan[..n], from) else {
             return None;
         };
         lower(table.row(u), &mut fan);
         fan[u] = 100;
-        // A vertex is less than 90: a `try_from` would want an answer where it is not.
+        // A vertex is less than 90: `as`, for the reason in `cells`.
         order[p] = u as u8;
         from = past(from, u);
     }

@@ -19,7 +19,7 @@ use timing::Refusal;
 // That the scratch has room is a clause beside the table: the scratch is lent, each contract states its cells afterwards, and a struct would hold the board
 // again.
 
-// The outputs' cells: they stand in f from m on.
+// The outputs' cells: they stand in f from m on. Both callers would cut that part of f, to the row's length, and be no plainer.
 fn copy_out(row: &mut [i64], f: &[i64], m: usize)
     requires { m + length row.old ≤ length f.now }
     ensures { row.new ≡ tabulate (length row.old) (λ j. get_or f.now (m + j) (pos 0)) }

@@ -4,8 +4,8 @@ ghost use Rattle.std.specs.Prelude.{◌≡◌, ◌*◌, ◌≤◌, length};
 use crate::board::Board;
 use crate::cells;
 
-// A lent table with a cell for each pair of vertices. That a vertex is one of the board's stays a clause of each question, and so of all that take one: a loop
-// over a range says it, and a type of vertices would be made anew in each turn.
+// A lent table with a cell for each pair of vertices. That a vertex is one of the board's stays a clause of each question, and so of all that take one: a loop,
+// an order or a link says it, and a type of vertices would be made anew in each turn; those that a call names are asked about once, at its head.
 #[derive(Clone, Copy)]
 pub struct Table<'a> {
     pub board: Board,
@@ -18,7 +18,7 @@ impl<'a> Table<'a> {
     ghost use Rattle.laws.specs.Bounded.{sum};
     ghost use Rattle.graph.specs.Count.{bit, fan_in, fan_out, arcs};
     ghost use Rattle.timing.specs.Checks.{cells_fit, no_arc_into_input};
-    ghost use Rattle.paths.specs.Cells.{cell_at, row_at, InTable, NextInto};
+    ghost use Rattle.paths.specs.Cells.{cell_at, row_at, InTable, FirstInto};
     ghost use Rattle.paths.specs.Tables.{timing_graph};
 
     // The cells of the arcs out of u.
@@ -84,31 +84,20 @@ impl<'a> Table<'a> {
         self.count(v, n, n)
     }
 
-    // The first vertex from `from` on and before `to` with an arc to v, or `to`: the end of the range stands for none: callers compare the answer with it,
-    // or search on after it, and of an Option they would first make that number again.
-    pub fn next_before(&self, v: usize, from: usize, to: usize) -> usize
+    // The first vertex from `from` on with an arc to v.
+    pub fn next_into(&self, v: usize, from: usize) -> Option<usize>
         requires v_lt_vertices { v < self.now.board.vertices }
-        requires from_le_to { from ≤ to }
-        requires to_le_vertices { to ≤ self.now.board.vertices }
-        ensures { NextInto to (timing_graph self.now) v from result }
+        requires from_le_vertices { from ≤ self.now.board.vertices }
+        ensures { FirstInto self.now.board.vertices (timing_graph self.now) v from result }
     {
         let n = self.board.vertices;
         let table = self.cells;
-        for u in from..to {
+        for u in from..n {
             if cells::is_arc(table[n * u + v]) {
-                return u;
+                return Some(u);
             }
         }
-        to
-    }
-
-    // The same of all vertices.
-    pub fn next_into(&self, v: usize, from: usize) -> usize
-        requires v_lt_vertices { v < self.now.board.vertices }
-        requires from_le_vertices { from ≤ self.now.board.vertices }
-        ensures { NextInto self.now.board.vertices (timing_graph self.now) v from result }
-    {
-        self.next_before(v, from, self.board.vertices)
+        None
     }
 
     // Whether no arc leads into v. The first settles it.
@@ -116,7 +105,7 @@ impl<'a> Table<'a> {
         requires { v < self.now.board.vertices }
         ensures { result ≡ eqb (fan_in self.now.board.vertices (timing_graph self.now) v) 0 }
     {
-        self.next_into(v, 0) == self.board.vertices
+        self.next_into(v, 0).is_none()
     }
 
     // Whether one arc leads into v. The second settles it.
@@ -124,9 +113,10 @@ impl<'a> Table<'a> {
         requires { v < self.now.board.vertices }
         ensures { result ≡ eqb (fan_in self.now.board.vertices (timing_graph self.now) v) 1 }
     {
-        let n = self.board.vertices;
-        let u = self.next_into(v, 0);
-        u < n && self.next_into(v, u + 1) == n
+        match self.next_into(v, 0) {
+            Some(u) => self.next_into(v, u + 1).is_none(),
+            None => false,
+        }
     }
 
     // All arcs: the present cells.

@@ -12,7 +12,7 @@ use Rattle.graph.proofs.Presence.{ticks_is}
 use Rattle.timing.specs.Limits.{delay_limit, absent_cell, fits}
 use Rattle.timing.specs.Refusal.{accepted}
 use Rattle.timing.specs.Table.{read_cell, graph_of}
-use Rattle.reduction.specs.Outcome.{is_output, is_inner}
+use Rattle.reduction.specs.Outcome.{is_output}
 use Rattle.reduction.specs.MergeBack.{driver, driver_delay, merge_fits, merge_back_verdict}
 use Rattle.reduction.proofs.Accepted.{merge_back_accepted}
 use Rattle.paths.proofs.ReadCells.{arc_cell}
@@ -20,9 +20,6 @@ use Rattle.plans.specs.MergedRow.{Drives}
 
 pub output_below : (m n N o : ℕ) → m + n ≤ N → T (is_output m n o) → o < N
 output_below m n N o h t = omega (arith, ltb→lt o (m + n) (and_e (leb m o) (ltb o (m + n)) t).1)
-
-pub inner_below : (m n N v : ℕ) → T (is_inner m n N v) → v < N
-inner_below m n N v t = ltb→lt v N (and_e (leb (m + n) v) (ltb v N) t).1
 
 -- the number in a cell of delay z
 pub cell_ticks_lem : (d z : ℤ) → read_cell absent_cell d ≡ at z → d ≡ z

@@ -6,7 +6,7 @@ use native.Mathlib.Decide.{ℕ_discrete}
 use lib.Dec.{T, eqb}
 use lib.IntN.{ℤ, neg_ℤ, ◌+ℤ◌}
 use mir.Syntax.{w32}
-use mir.Val.{SFits, to_z, of_z}
+use mir.Val.{to_z, of_z}
 use mir.Facts.{to_z-of_z}
 use Rattle.laws.specs.Bounded.{every}
 use Rattle.laws.proofs.Booleans.{eqb_same, eqb_other, is_true}
@@ -29,11 +29,11 @@ pub negated_fits : (d : ℤ) → T (fits delay_limit (at d)) → T (fits delay_l
 negated_fits d h = let s = fits_span delay_limit (at d) h in let a = s.0 in let b = s.1 in span_fits delay_limit (at (neg_ℤ d)) (omega (zarith, neg d), omega (zarith, neg d))
 
 -- what `negated` gives, as a number and as a cell
-pub negated_is : {d r : ℤ} → SFits w32 d → T (fits delay_limit (at d)) → r ≡ neg_ℤ (to_z w32 (of_z w32 d)) → to_z w32 (of_z w32 r) ≡ neg_ℤ d
-negated_is {d} f h e = handed w32 (e ∙ ap neg_ℤ (to_z-of_z f)) (delay_narrow (neg_ℤ d) (negated_fits d h))
+pub negated_is : (d : ℤ) {r : ℤ} → T (fits delay_limit (at d)) → r ≡ neg_ℤ (to_z w32 (of_z w32 d)) → to_z w32 (of_z w32 r) ≡ neg_ℤ d
+negated_is d h e = handed w32 (e ∙ ap neg_ℤ (to_z-of_z (delay_narrow d h))) (delay_narrow (neg_ℤ d) (negated_fits d h))
 
-pub negated_cell : {d r : ℤ} → SFits w32 d → T (fits delay_limit (at d)) → r ≡ neg_ℤ (to_z w32 (of_z w32 d)) → read_cell absent_cell (to_z w32 (of_z w32 r)) ≡ at (neg_ℤ d)
-negated_cell {d} f h e = ap (read_cell absent_cell) (negated_is f h e) ∙ delay_cell (neg_ℤ d) (negated_fits d h)
+pub negated_cell : (d : ℤ) {r : ℤ} → T (fits delay_limit (at d)) → r ≡ neg_ℤ (to_z w32 (of_z w32 d)) → read_cell absent_cell (to_z w32 (of_z w32 r)) ≡ at (neg_ℤ d)
+negated_cell d h e = ap (read_cell absent_cell) (negated_is d h e) ∙ delay_cell (neg_ℤ d) (negated_fits d h)
 
 nothing_left : (d : ℤ) → T (fits delay_limit (at (neg_ℤ d) ⊕ at d))
 nothing_left d = span_fits delay_limit (at (neg_ℤ d +ℤ d)) (omega (zarith, neg d, sum (neg_ℤ d) d), omega (zarith, neg d, sum (neg_ℤ d) d))

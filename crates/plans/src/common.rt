@@ -1,13 +1,15 @@
-// The common difference of two rows or columns of path delays.
-ghost use Rattle.timing.specs.Refusal.{verdict};
+// The common difference of two rows or columns of path delays, and what is asked of it.
+ghost use Rattle.timing.specs.declared.Refusal.TheVariants.{NothingSaved, DelayOutOfRange};
+ghost use Rattle.timing.specs.Refusal.{verdict, require, accepted};
 ghost use Rattle.std.specs.Prelude.{◌≡◌, T, length};
-ghost use Rattle.timing.specs.Limits.{arrival_limit, absent_wide, fits};
+ghost use Rattle.graph.specs.Delay.{at};
+ghost use Rattle.timing.specs.Limits.{arrival_limit, delay_limit, absent_wide, fits};
 ghost use Rattle.timing.specs.Table.{read_cell};
 ghost use Rattle.timing.specs.Delays.{arrival_in};
 ghost use Rattle.reduction.specs.Common.{common_difference};
 ghost use Rattle.plans.specs.Comparing.{compared, Comparable};
 
-use paths::Board;
+use paths::{Board, cells};
 use timing::Refusal;
 
 // One more place, after places that all differ by `seen`, or of which none is joined.
@@ -48,4 +50,17 @@ pub fn common_difference(xs: &[i64], ys: &[i64]) -> Result<i64, Refusal>
         }
         j += 1;
     }
+}
+
+// What is left to ask where e is the common difference: whether the second vertex has arcs enough, and whether e is a delay.
+pub fn saved(enough: bool, e: i64) -> Result<i64, Refusal>
+    ensures { verdict result ≡ require enough NothingSaved (require (fits delay_limit (at e)) DelayOutOfRange (accepted e)) }
+{
+    if !enough {
+        return Err(Refusal::NothingSaved);
+    }
+    if !cells::in_range(e) {
+        return Err(Refusal::DelayOutOfRange);
+    }
+    Ok(e)
 }

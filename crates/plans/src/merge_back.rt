@@ -4,7 +4,6 @@ ghost use Rattle.std.specs.Prelude.{◌≡◌, ◌<◌, T, neg_ℤ};
 ghost use Rattle.laws.specs.Bounded.{every};
 ghost use Rattle.graph.specs.Delay.{at, ◌⊕◌};
 ghost use Rattle.timing.specs.Limits.{delay_limit, absent_cell, fits};
-ghost use Rattle.graph.specs.Graph.{Graph};
 ghost use Rattle.timing.specs.Table.{read_cell, graph_of};
 ghost use Rattle.reduction.specs.MergeBack.{merge_fits, merged_back};
 ghost use Rattle.paths.specs.Tables.{timing_graph, of_table};
@@ -56,11 +55,10 @@ pub fn merge_back_verdict(table: &Table, o: usize) -> Result<(usize, i32), Refus
     if !rows::is_output(table.board, o) {
         return Err(Refusal::WrongVertex);
     }
-    let v = table.next_into(o, 0);
-    if !rows::is_inner(table.board, v) {
+    let Some(v) = table.next_into(o, 0) else {
         return Err(Refusal::WrongArcs);
-    }
-    if table.next_into(o, v + 1) != table.board.vertices {
+    };
+    if !rows::is_inner(table.board, v) || table.next_into(o, v + 1).is_some() {
         return Err(Refusal::WrongArcs);
     }
     let d = table.cell(v, o);
@@ -70,37 +68,39 @@ pub fn merge_back_verdict(table: &Table, o: usize) -> Result<(usize, i32), Refus
     Ok((v, d))
 }
 
-// The row of another vertex than v: its arc to v, which was `into`, leads to o.
-fn redirect(row: &mut [i32], into: i32, v: usize, o: usize, d: i32)
-    requires { Redirectable row.old (read_cell absent_cell into) v o d }
-    ensures { row.new ≡ remade (redirected_cell row.old (read_cell absent_cell into) v o d) row.old }
-{
-    row[o] = sums::sum(into, d);
-    row[v] = Board::ABSENT;
-}
-
-// o's row takes the arcs of v too, in `via`, with d taken off.
-pub fn merge_row(row: &mut [i32], via: &Row, v: usize, o: usize, d: i32, u: usize)
-    requires { Mergeable row.old via.now v o d }
-    ensures { row.new ≡ remade (merged_cell row.old via.now v o d u) row.old }
-{
-    if u == v {
-        cells::clear(row);
-        return;
-    }
-    let into = row[v];
-    if u == o {
-        shrink::join_row(row, via, negated(d));
-    }
-    redirect(row, into, v, o, d);
-}
-
 // Output o is merged with its driver v, from which an arc of delay d leads to it: o takes the arcs of v too, with d taken off.
 #[derive(Clone, Copy)]
 pub struct MergeBack {
     pub v: usize,
     pub o: usize,
     pub d: i32,
+}
+
+impl MergeBack {
+    // The row of another vertex than v: its arc to v, which was `into`, leads to o.
+    fn redirect(&self, row: &mut [i32], into: i32)
+        requires { Redirectable row.old (read_cell absent_cell into) self.now.v self.now.o self.now.d }
+        ensures { row.new ≡ remade (redirected_cell row.old (read_cell absent_cell into) self.now.v self.now.o self.now.d) row.old }
+    {
+        row[self.o] = sums::sum(into, self.d);
+        row[self.v] = Board::ABSENT;
+    }
+
+    // o's row takes the arcs of v too, in `via`, with d taken off.
+    pub fn merge_row(&self, row: &mut [i32], via: &Row, u: usize)
+        requires { Mergeable row.old via.now self.now.v self.now.o self.now.d }
+        ensures { row.new ≡ remade (merged_cell row.old via.now self.now.v self.now.o self.now.d u) row.old }
+    {
+        if u == self.v {
+            cells::clear(row);
+            return;
+        }
+        let into = row[self.v];
+        if u == self.o {
+            shrink::join_row(row, via, negated(self.d));
+        }
+        self.redirect(row, into);
+    }
 }
 
 impl Rewriting for MergeBack {
@@ -115,6 +115,6 @@ impl Rewriting for MergeBack {
     }
 
     fn rewrite_row(&self, row: &mut [i32], via: &Row, u: usize) {
-        merge_row(row, via, self.v, self.o, self.d, u);
+        self.merge_row(row, via, u);
     }
 }

@@ -26,14 +26,21 @@ pub trait Rewriting {
         ensures value { result ≡ origin self.now }
         ensures below { (N : ℕ) (t : List ℤ) → rewritable self.now N t → result < N };
 
-    // The row of u of a table, with the origin's in `via`: two parameters, for the one is lent for writing and the other is the same for all rows.
+    // The row of u of a table, with the origin's in `via`. They stay two parameters, for the one is lent for writing and the other is the same for all rows: a
+    // struct of both would be made for each row, and would be no plainer.
     fn rewrite_row(&self, row: &mut [i32], via: &Row, u: usize)
         requires { (N : ℕ) × (t : List ℤ) × rewritable self.now N t × RowOf N t via.now (origin self.now) u row.old }
         ensures { (N : ℕ) (t : List ℤ) → rewritable self.now N t → RowOf N t via.now (origin self.now) u row.old → row.new ≡ tabulate N (new_cell (rewritten self.now (graph_of N t)) u) };
 }
 
-// Board and table stay two parameters where the table is written, here and in pruning, stars, steps and run: of a table behind a struct's `&mut` the prover
-// knows nothing once it has been lent for reading (tried in run). So does an order of the table, which a step asks for before it writes.
+// Board and table stay two parameters where the table is written, here and in pruning, stars, steps, run, files and text: of a table behind a struct's `&mut` the
+// prover knows nothing once it has been lent for reading (tried in run). An order stays beside them, for a `Sorted` lends the table for reading only, and the
+// step writes it afterwards.
+
+// The structs with an `impl Rewriting` are what an accepted verdict gives; a shrink is the same before it. Before it the other steps' vertices stay parameters, here, in
+// paths/src/order.rt, in reach and in run, as document 01's calls name them: there is no e, d or driver yet, or a refusal can still follow (`inputs_saved`,
+// `outputs_saved`, `merge_fits`, and run's `share`). After it, what keeps an order or the sets of the rows up to date (`still_sorted`, `keep_up`, `one_source`) has no
+// use for e.
 
 // The one row is copied first, for two rows of one table cannot be lent together.
 pub fn rewrite<R: Rewriting>(board: Board, table: &mut [i32], how: &R)

@@ -10,6 +10,9 @@ use paths::{Board, Table};
 // A row of any table.
 pub type Row = [i32; Board::MAX_VERTICES];
 
+// That a part of a table has at most 90 cells stays a clause of the functions over one row, here, in reach and in paths/src/order.rt: a type that says it would be
+// made anew for each row that is read or written, and be no plainer.
+
 pub fn is_inner(board: Board, k: usize) -> bool
     ensures { result ≡ is_inner board.inputs board.outputs board.vertices k }
 {

@@ -2,7 +2,6 @@
 ghost use Rattle.timing.specs.Refusal.{verdict};
 ghost use Rattle.std.specs.Prelude.{◌≡◌, ◌&&◌, ◌+◌, ◌<◌, ◌≤◌, ltb, pos, length, get_or};
 ghost use Rattle.timing.specs.Limits.{max_vertices};
-ghost use Rattle.graph.specs.Graph.{Graph};
 ghost use Rattle.reduction.specs.ShareInputs.{enough_out, inputs_shared};
 ghost use Rattle.paths.specs.Board.{ScratchRoom, PastScratch};
 ghost use Rattle.paths.specs.Tables.{timing_graph, of_table};
@@ -35,21 +34,6 @@ fn take_over(row: &mut [i32], via: &Row)
     row.copy_from_slice(&via[..n]);
 }
 
-// The row of u: k takes over a's arcs, in `via`, and a and b keep one to k.
-pub fn share_inputs_row(row: &mut [i32], via: &Row, a: usize, b: usize, k: usize, e: i32, u: usize)
-    requires row_len_bound { length row.old ≤ max_vertices }
-    requires k_in_bounds { k < length row.old }
-    ensures { row.new ≡ remade (inputs_cell row.old via.now a b k e u) row.old }
-{
-    if u == a {
-        only_arc(row, k, 0);
-    } else if u == b {
-        only_arc(row, k, e);
-    } else if u == k {
-        take_over(row, via);
-    }
-}
-
 // Inputs a and b are shared by way of k: k takes over a's arcs, and a and b keep one to k, with delays 0 and e.
 #[derive(Clone, Copy)]
 pub struct ShareInputs {
@@ -57,6 +41,23 @@ pub struct ShareInputs {
     pub b: usize,
     pub k: usize,
     pub e: i32,
+}
+
+impl ShareInputs {
+    // The row of u: k takes over a's arcs, in `via`, and a and b keep one to k.
+    pub fn share_inputs_row(&self, row: &mut [i32], via: &Row, u: usize)
+        requires row_len_bound { length row.old ≤ max_vertices }
+        requires k_in_bounds { self.now.k < length row.old }
+        ensures { row.new ≡ remade (inputs_cell row.old via.now self.now.a self.now.b self.now.k self.now.e u) row.old }
+    {
+        if u == self.a {
+            only_arc(row, self.k, 0);
+        } else if u == self.b {
+            only_arc(row, self.k, self.e);
+        } else if u == self.k {
+            take_over(row, via);
+        }
+    }
 }
 
 impl Rewriting for ShareInputs {
@@ -71,7 +72,7 @@ impl Rewriting for ShareInputs {
     }
 
     fn rewrite_row(&self, row: &mut [i32], via: &Row, u: usize) {
-        share_inputs_row(row, via, self.a, self.b, self.k, self.e, u);
+        self.share_inputs_row(row, via, u);
     }
 }
 
@@ -125,13 +126,7 @@ pub fn inputs_saved(table: &Table, b: usize, e: i64) -> Result<i64, Refusal>
     requires { b < table.now.board.vertices }
     ensures { verdict result ≡ of_table inputs_saved_on table.now b e }
 {
-    if !enough_out(table, b) {
-        return Err(Refusal::NothingSaved);
-    }
-    if !cells::in_range(e) {
-        return Err(Refusal::DelayOutOfRange);
-    }
-    Ok(e)
+    common::saved(enough_out(table, b), e)
 }
 
 // The conditions of share inputs, in document 01's order.

@@ -1,9 +1,7 @@
 // Share outputs: the step's conditions, and a row of its new table.
 ghost use Rattle.timing.specs.Refusal.{verdict};
 ghost use Rattle.std.specs.Prelude.{◌≡◌, true, false, ℕ, ◌<◌, ◌≤◌, length};
-ghost use Rattle.graph.specs.Graph.{Graph};
-ghost use Rattle.reduction.specs.ShareOutputs.{outputs_shared};
-ghost use Rattle.timing.specs.Limits.{max_vertices};
+ghost use Rattle.reduction.specs.ShareOutputs.{enough_in, outputs_shared};
 ghost use Rattle.paths.specs.Board.{ScratchRoom, PastScratch};
 ghost use Rattle.paths.specs.Tables.{timing_graph, IsSound, of_table};
 ghost use Rattle.reach.specs.RowSets.{RowSets};
@@ -20,20 +18,22 @@ use paths::{Board, Sorted, Table, arrivals, cells, order};
 use sets::Set;
 use timing::Refusal;
 
-// The row of u: of the arcs into b, a's is left.
-pub fn share_outputs_row(row: &mut [i32], a: usize, b: usize, e: i32, u: usize)
-    requires { b < length row.old }
-    ensures { row.new ≡ remade (outputs_cell row.old a b e u) row.old }
-{
-    row[b] = if u == a { e } else { Board::ABSENT };
-}
-
 // Output b is driven from output a: of the arcs into b, a's is left, with delay e.
 #[derive(Clone, Copy)]
 pub struct ShareOutputs {
     pub a: usize,
     pub b: usize,
     pub e: i32,
+}
+
+impl ShareOutputs {
+    // The row of u: of the arcs into b, a's is left.
+    pub fn share_outputs_row(&self, row: &mut [i32], u: usize)
+        requires { self.now.b < length row.old }
+        ensures { row.new ≡ remade (outputs_cell row.old self.now.a self.now.b self.now.e u) row.old }
+    {
+        row[self.b] = if u == self.a { self.e } else { Board::ABSENT };
+    }
 }
 
 impl Rewriting for ShareOutputs {
@@ -49,7 +49,7 @@ impl Rewriting for ShareOutputs {
     }
 
     fn rewrite_row(&self, row: &mut [i32], _via: &Row, u: usize) {
-        share_outputs_row(row, self.a, self.b, self.e, u);
+        self.share_outputs_row(row, u);
     }
 }
 
@@ -90,11 +90,10 @@ fn columns_difference(
 }
 
 // Whether an order of the table, where there is one, has a before b.
-fn is_ahead(order: Option<&Order>, n: usize, a: usize, b: usize) -> bool
-    requires { n ≤ max_vertices }
-    ensures { result ≡ true → IsAhead n order.entry a b }
+fn is_ahead(order: Option<&Order>, board: Board, a: usize, b: usize) -> bool
+    ensures { result ≡ true → IsAhead board.vertices order.entry a b }
 {
-    order.is_some_and(|order| order::stands_before(order, n, a, b))
+    order.is_some_and(|order| order::stands_before(order, board.vertices, a, b))
 }
 
 // The sets of the table's rows.
@@ -123,8 +122,7 @@ pub fn path_back(
     ensures found_value { result ≡ of_table path_on table.now b a }
     ensures still_indexed { of_table Indexed table.now rows.new }
 {
-    let n = table.board.vertices;
-    if is_ahead(order, n, a, b) {
+    if is_ahead(order, table.board, a, b) {
         return false;
     }
     if cells::is_arc(table.cell(b, a)) {
@@ -133,24 +131,30 @@ pub fn path_back(
     if rows.is_none() {
         *rows = Some(row_sets(table));
     }
+    // `get_or_insert_with` was tried: what it leaves is unknown to the proof. The arm of None is never taken.
     match &*rows {
-        Some(made) => reach::leads(&made[..n], b, a),
+        Some(made) => reach::leads(&made[..table.board.vertices], b, a),
         None => false,
     }
 }
 
-// What is left to ask where e is the common difference, and no path leads from b to a.
-pub fn saved_without_path(table: &Table, b: usize, e: i64) -> Result<i64, Refusal>
+// Whether b has arcs enough for a share. Not one function with `enough_out`: the fan that is counted and the number differ, and both would be said at each call.
+pub fn enough_in(table: &Table, b: usize) -> bool
     requires { b < table.now.board.vertices }
-    ensures { (a : ℕ) → of_table path_on table.now b a ≡ false → verdict result ≡ of_table outputs_saved_on table.now a b e }
+    ensures { result ≡ enough_in table.now.board.vertices (timing_graph table.now) b }
 {
-    if table.fan_in(b) < 2 {
-        return Err(Refusal::NothingSaved);
+    table.fan_in(b) >= 2
+}
+
+// What is left to ask where e is the common difference, and `back` says whether a path leads from b to a.
+pub fn outputs_saved(table: &Table, back: bool, b: usize, e: i64) -> Result<i64, Refusal>
+    requires { b < table.now.board.vertices }
+    ensures { (a : ℕ) → back ≡ of_table path_on table.now b a → verdict result ≡ of_table outputs_saved_on table.now a b e }
+{
+    if back {
+        return Err(Refusal::PathBack);
     }
-    if !cells::in_range(e) {
-        return Err(Refusal::DelayOutOfRange);
-    }
-    Ok(e)
+    common::saved(enough_in(table, b), e)
 }
 
 // The conditions of share outputs, in document 01's order.
@@ -168,8 +172,6 @@ pub fn share_outputs_verdict(
         return Err(Refusal::WrongVertex);
     }
     let e = columns_difference(sorted, scratch, a, b)?;
-    if path_back(&sorted.table, Some(&sorted.order), &mut None, a, b) {
-        return Err(Refusal::PathBack);
-    }
-    saved_without_path(&sorted.table, b, e)
+    let back = path_back(&sorted.table, Some(&sorted.order), &mut None, a, b);
+    outputs_saved(&sorted.table, back, b, e)
 }

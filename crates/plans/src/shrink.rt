@@ -3,7 +3,6 @@ ghost use Rattle.timing.specs.Refusal.{verdict};
 ghost use Rattle.std.specs.Prelude.{◌≡◌, ◌<◌, ◌≤◌, T, length};
 ghost use Rattle.laws.specs.Bounded.{every};
 ghost use Rattle.graph.specs.Delay.{at, ◌⊕◌};
-ghost use Rattle.graph.specs.Graph.{Graph};
 ghost use Rattle.reduction.specs.Shrink.{shrunk};
 ghost use Rattle.timing.specs.Limits.{max_vertices, delay_limit, absent_cell, fits};
 ghost use Rattle.timing.specs.Table.{read_cell, graph_of};
@@ -96,22 +95,24 @@ fn bypass(row: &mut [i32], via: &Row, k: usize)
     }
 }
 
-// The row of u: k has no arcs any more, and another goes on where it led to k.
-pub fn shrink_row(row: &mut [i32], via: &Row, k: usize, u: usize)
-    requires { Shrinkable row.old via.now k }
-    ensures { row.new ≡ remade (shrunk_cell row.old via.now k u) row.old }
-{
-    if u == k {
-        cells::clear(row);
-    } else {
-        bypass(row, via, k);
-    }
-}
-
 // Inner vertex k is shrunk.
 #[derive(Clone, Copy)]
 pub struct Shrink {
     pub k: usize,
+}
+
+impl Shrink {
+    // The row of u: k has no arcs any more, and another goes on where it led to k.
+    pub fn shrink_row(&self, row: &mut [i32], via: &Row, u: usize)
+        requires { Shrinkable row.old via.now self.now.k }
+        ensures { row.new ≡ remade (shrunk_cell row.old via.now self.now.k u) row.old }
+    {
+        if u == self.k {
+            cells::clear(row);
+        } else {
+            bypass(row, via, self.k);
+        }
+    }
 }
 
 impl Rewriting for Shrink {
@@ -126,6 +127,6 @@ impl Rewriting for Shrink {
     }
 
     fn rewrite_row(&self, row: &mut [i32], via: &Row, u: usize) {
-        shrink_row(row, via, self.k, u);
+        self.shrink_row(row, via, u);
     }
 }

@@ -17,8 +17,7 @@ use Rattle.timing.specs.Table.{read_cell}
 use Rattle.timing.specs.Delays.{arrival_in}
 use Rattle.timing.proofs.Table.{read_absent}
 use Rattle.paths.specs.Cells.{cell_at}
-use Rattle.paths.specs.Chain.{walked_at}
-use Rattle.paths.specs.Arrivals.{Pushable}
+use Rattle.paths.specs.Chain.{walked_at, Walkable}
 use Rattle.paths.proofs.Walked.{walked_is, walked-first}
 use Rattle.paths.proofs.Chaining.{Along, along_start, along_turn, along_keep}
 use Rattle.pruning.specs.TightArcs.{tight}
@@ -38,15 +37,15 @@ module _ (r : List ℤ) (c : List ℕ) (a : ℤ) (f : List ℤ) (old : List Bool
 
   -- the arcs before v are marked, and `found` says whether there is a tight one
   pub record TightBefore (marks : List Bool) (found : Bool) (v : ℕ) : Type 0 where
-    pub along : Along Mark false (length old) row old marks v
+    pub along : Along Mark false (length r) row old marks v
     pub any : found ≡ some v at
 
-  module _ (p : Pushable (length old) r c f) where
+  module _ (p : Walkable r c) (same : length old ≡ length r) where
     not_tight : (j : ℕ) → row j ≡ absent → at j ≡ false
     not_tight j e = no_arc_tight (read_cell absent_wide a) (row j) (arrival_in f j) e
 
     -- where there is no arc, nothing is marked
-    idle : (j : ℕ) → j < length old → row j ≡ absent → Mark j (get_or old j false)
+    idle : (j : ℕ) → j < length r → row j ≡ absent → Mark j (get_or old j false)
     idle j _ e = sym (or_none (get_or old j false)) ∙ ap (λ (b : Bool). get_or old j false || b) (sym (not_tight j e))
 
     -- vertex 0 is an input, and then comes the first arc
@@ -63,14 +62,14 @@ module _ (r : List ℤ) (c : List ℕ) (a : ℤ) (f : List ℤ) (old : List Bool
         none j m (yes l) = p.chain.between 0 j p.some l m
         none j m (no l) = ap row (let e : j ≡ 0 = omega arith in e) ∙ first
 
-    module _ (v : ℕ) (l : v < length old) where
+    module _ (v : ℕ) (l : v < length r) where
       -- none is found before the next arc
       onward : some (get_or c v 0) at ≡ (some v at || at v)
       onward = some_skip at (v + 1) _ (omega (arith, (p.chain.on v l).0)) (λ j k m. not_tight j (p.chain.between v j l (omega arith) m)) ∙ some_more at v
 
       pub tight_turn : {marks : List Bool} {found : Bool} → TightBefore marks found v → at v ≡ true → TightBefore (set marks v true) true (get_or c v 0)
       tight_turn b e = record {
-        along = along_turn p.chain old idle b.along l (omega arith) true (or_true (get_or old v false) ∙ ap (λ (b : Bool). get_or old v false || b) (sym e));
+        along = along_turn p.chain old idle b.along l (omega (arith, same)) true (or_true (get_or old v false) ∙ ap (λ (b : Bool). get_or old v false || b) (sym e));
         any = or_true (some v at) ∙ ap (λ (b : Bool). some v at || b) (sym e) ∙ sym onward;
       }
 

@@ -10,16 +10,17 @@ ghost use Rattle.reduction.specs.Steps.{prune};
 ghost use Rattle.paths.specs.Board.{Lent, ScratchRoom, PastScratch};
 ghost use Rattle.paths.specs.Cells.{cell_at};
 ghost use Rattle.paths.specs.Chain.{walked_at};
-ghost use Rattle.paths.specs.Arrivals.{Reached, Pushable};
+ghost use Rattle.paths.specs.Arrivals.{Reached};
 ghost use Rattle.paths.specs.Checked.{Passable};
 ghost use Rattle.paths.specs.Tables.{timing_graph, of_table};
 ghost use Rattle.plans.specs.OnBoards.{changed, remade, Applies};
 ghost use Rattle.pruning.specs.TightArcs.{tight};
 ghost use Rattle.pruning.specs.PruneMarks.{RowMarked, MarkedEach, FromInput, Swept, DecidingMarked, Unmarked, some_unmarked, marked_arcs};
 
-use paths::chain::Walk;
+use paths::chain::{LinkedRow, Walk};
 use paths::order::Order;
 use paths::{Board, Sorted, Table, arrivals, cells};
+use plans::rows;
 use timing::Refusal;
 
 // Whether the arc is tight: what is at its head came over it.
@@ -33,19 +34,20 @@ fn is_tight(a: i64, cell: i32, w: i64) -> bool
 }
 
 // Marks the arcs that a row's chain walks that are tight. Answers whether there is one. The walk goes from link to link, along no slice.
-fn mark_row(row: &[i32], chain: &[u8], a: i64, f: &[i64], marks: &mut [bool]) -> bool
+fn mark_row(row: &LinkedRow, a: i64, f: &[i64], marks: &mut [bool]) -> bool
     requires reached { Reached a }
-    requires pushable { Pushable (length marks.old) row.now chain.now f.now }
-    ensures { RowMarked (walked_at row.now chain.now) a f.now marks.old marks.new result }
+    requires f_room { length row.now.cells.now ≤ length f.now }
+    requires marks_len { length marks.old ≡ length row.now.cells.now }
+    ensures { RowMarked (walked_at row.now.cells.now row.now.links.now) a f.now marks.old marks.new result }
 {
     let mut found = false;
-    let mut v = usize::from(chain[0]);
-    while v < marks.len() {
-        if is_tight(a, row[v], f[v]) {
+    let mut v = usize::from(row.links[0]);
+    while v < row.cells.len() {
+        if is_tight(a, row.cells[v], f[v]) {
             marks[v] = true;
             found = true;
         }
-        v = usize::from(chain[v]);
+        v = usize::from(row.links[v]);
     }
     found
 }
@@ -54,8 +56,7 @@ fn mark_row(row: &[i32], chain: &[u8], a: i64, f: &[i64], marks: &mut [bool]) ->
 fn is_alive(board: Board, v: usize, found: bool) -> bool
     ensures { result ≡ (is_output board.inputs board.outputs v || found) }
 {
-    let outputs = board.inputs..board.inputs + board.outputs;
-    found || outputs.contains(&v)
+    found || rows::is_output(board, v)
 }
 
 // Marks the arcs that decide a delay from the input whose greatest delays are in f: the vertices from the last to the first.
@@ -73,13 +74,7 @@ fn sweep(walk: &Walk, f: &mut [i64], marks: &mut [bool])
         if a != Board::ABSENT_WIDE {
             let at = n * u;
             let end = at + n;
-            let found = mark_row(
-                &walk.table.cells[at..],
-                &walk.chain[at..],
-                a,
-                f,
-                &mut marks[at..end],
-            );
+            let found = mark_row(&walk.row(u), a, f, &mut marks[at..end]);
             if !is_alive(walk.table.board, u, found) {
                 f[u] = Board::ABSENT_WIDE;
             }
@@ -105,7 +100,8 @@ fn mark_from<const LANES: usize>(walk: &Walk, i: usize, f: &mut [i64], marks: &m
     }
 }
 
-// Marks the arcs that decide a delay; other marks stay.
+// Marks the arcs that decide a delay; other marks stay. Not one function with `queries::fill_matrix`, which goes by fours too: what is done for four lanes and for one would
+// be a trait with a law, for no closure has a const parameter.
 pub fn prune_marks(sorted: &Sorted, scratch: &mut [i64], marks: &mut [bool])
     requires scratch_room { ScratchRoom sorted.now.table.board scratch.old }
     requires marks_room { sorted.now.table.board.vertices * sorted.now.table.board.vertices ≤ length marks.old }

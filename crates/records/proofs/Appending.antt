@@ -57,9 +57,6 @@ appends_bytes s p w k f part h q e =
 
 -- ---- writers
 
-pub puts_none : {a : Writer} → Puts [] a a
-puts_none = record { same_run = refl; same_len = refl; appends = appends_none }
-
 pub puts_more : {xs ys : List ℕ} {a b c : Writer} → Puts xs a b → Puts ys b c → Puts (xs ++ ys) a c
 puts_more p q = record {
   same_run = q.same_run ∙ p.same_run;

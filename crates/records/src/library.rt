@@ -1,4 +1,4 @@
-// What stands at an offset of a library file, which is told by offset as in `parse`.
+// What stands at an offset of a library file. The whole file and the offset are given, as in `parse`, and for the same reason.
 ghost use Rattle.timing.specs.Refusal.{verdict};
 ghost use Rattle.std.specs.Prelude.{◌≡◌, ◌+◌, ◌≤◌, length};
 ghost use Rattle.format.specs.declared.Mark.TheVariants.{Library};

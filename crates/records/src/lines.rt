@@ -1,5 +1,5 @@
 // Lines of text: words with a space between two, numbers in decimal, and a newline.
-ghost use Rattle.std.specs.Prelude.{◌≡◌, [], ◌∷◌, ◌<◌, ◌^◌};
+ghost use Rattle.std.specs.Prelude.{[], ◌∷◌, ◌<◌, ◌^◌};
 ghost use Rattle.std.specs.Fmt.{decimal};
 ghost use Rattle.timing.specs.Checks.{sizes};
 ghost use Rattle.format.specs.Text.{line, board_line, arc_line, counts_line, refused_line};
@@ -22,6 +22,7 @@ fn triple_line<I: Integer>(w: &mut Writer, word: &[u8], x: usize, y: usize, z: I
     w.byte(b'\n');
 }
 
+// Three numbers: a `Board` would ask more of the caller than that each is below 256.
 pub fn board_line(w: &mut Writer, inputs: usize, outputs: usize, vertices: usize)
     requires inputs_bound { inputs < 256 }
     requires outputs_bound { outputs < 256 }

@@ -1,10 +1,12 @@
-// What stands at an offset of a file. The whole file and the offset are given, not the rest of it: what is found is said, and a refusal told, by offset.
+// What stands at an offset of a file. The whole file and the offset are given: a slice of the rest would be no plainer, for what is found is said by offset
+// (`record_at` of `format`) and `files` tells a refusal by it, so that the offset would stand beside the slice. The board's number of vertices stays beside the file: the
+// first record is read before it is known, and marks, counts and ends need none.
 ghost use Rattle.timing.specs.Refusal.{verdict};
 ghost use Rattle.std.specs.Prelude.{◌≡◌, ◌&&◌, ◌+◌, ◌*◌, ◌<◌, ◌≤◌, ltb, length};
 ghost use Rattle.timing.specs.Limits.{max_vertices};
 ghost use Rattle.format.specs.declared.Mark.TheVariants.{Arc, Cell};
 ghost use Rattle.format.specs.Library.{ticks_of};
-ghost use Rattle.format.specs.Records.{byte_at, letters, mark_at, body, record_at};
+ghost use Rattle.format.specs.Records.{byte_at, mark_at, body, record_at};
 ghost use Rattle.records.specs.Records.{ends_of, count_of};
 
 use codec::{signed, unsigned};

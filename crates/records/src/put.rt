@@ -65,7 +65,8 @@ impl<'a> Writer<'a> {
         self.unsigned(1, x);
     }
 
-    // Not one generic function with `unsigned`: which numbers have so many bytes, and what the bytes are, differs.
+    // Not one generic function with `unsigned`: which numbers have so many bytes, and what the bytes are, differs, and a trait of the two would be longer than the
+    // bodies.
     pub fn signed(&mut self, width: usize, x: i64)
         requires room { Room self.old.out.now self.old.at width }
         requires fits_width { T (in_width width x) }

@@ -9,13 +9,15 @@ fn refused(page: &mut Page, refusal: Refusal) {
     page.print(format_args!("refused {}\n", numbers::number(refusal)));
 }
 
-fn refused_at(page: &mut Page, refusal: Refusal, offset: usize) {
-    page.print(format_args!("refused {} at {offset}\n", numbers::number(refusal)));
+fn refused_at(page: &mut Page, fault: Fault) {
+    let number = numbers::number(fault.refusal);
+    page.print(format_args!("refused {number} at {}\n", fault.at));
 }
 
-pub fn step(page: &mut Page, answer: Result<usize, Refusal>) {
+// A count, after the word for what it counts.
+pub fn counted(page: &mut Page, word: &str, answer: Result<usize, Refusal>) {
     match answer {
-        Ok(arcs) => page.print(format_args!("left {arcs}\n")),
+        Ok(count) => page.print(format_args!("{word} {count}\n")),
         Err(r) => refused(page, r),
     }
 }
@@ -34,13 +36,6 @@ pub fn query(page: &mut Page, answer: Result<(), Refusal>) {
     }
 }
 
-pub fn written(page: &mut Page, answer: Result<usize, Refusal>) {
-    match answer {
-        Ok(count) => page.print(format_args!("bytes {count}\n")),
-        Err(r) => refused(page, r),
-    }
-}
-
 pub fn read(page: &mut Page, answer: Result<Board, Fault>) {
     match answer {
         Ok(board) => {
@@ -49,13 +44,14 @@ pub fn read(page: &mut Page, answer: Result<Board, Fault>) {
             let vertices = board.vertices;
             page.print(format_args!("board {inputs} {outputs} {vertices}\n"));
         }
-        Err(fault) => refused_at(page, fault.refusal, fault.at),
+        Err(fault) => refused_at(page, fault),
     }
 }
 
+// Not one function with `query`: a `Fault` has its offset printed too, and a trait for both refusals would be longer than this match.
 pub fn scanned(page: &mut Page, answer: Result<(), Fault>) {
     match answer {
         Ok(()) => page.print("ok\n"),
-        Err(fault) => refused_at(page, fault.refusal, fault.at),
+        Err(fault) => refused_at(page, fault),
     }
 }

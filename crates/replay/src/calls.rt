@@ -1,17 +1,31 @@
 // What a call is made with.
-// Document 01's m, n and N, of any size.
-#[derive(Clone, Copy)]
-pub struct Sizes {
+
+// Document 01's m, n and N, of any size, and the lent memory.
+#[derive(Drop)]
+pub struct Lent<'t, 's> {
     pub inputs: usize,
     pub outputs: usize,
     pub vertices: usize,
-}
-
-#[derive(Drop)]
-pub struct Lent<'t, 's> {
-    pub sizes: Sizes,
     pub table: &'t mut [i32],
     pub scratch: &'s mut [i64],
+}
+
+impl Lent<'_, '_> {
+    // What a call answers, given m, n, N, the table and the scratch.
+    pub fn call<A, F: FnOnce(usize, usize, usize, &mut [i32], &mut [i64]) -> A>(
+        &mut self,
+        call: F,
+    ) -> A
+        requires { F.IsAlwaysCallable call }
+    {
+        call(
+            self.inputs,
+            self.outputs,
+            self.vertices,
+            self.table,
+            self.scratch,
+        )
+    }
 }
 
 #[derive(Clone, Copy)]

@@ -1,7 +1,7 @@
 // Writing and reading board files, and reading and putting libraries.
 ghost use Rattle.std.specs.Prelude.{◌≤◌};
 
-use crate::calls::{Lent, Sizes};
+use crate::calls::Lent;
 use crate::page::Page;
 use crate::{answers, input, lines, memory};
 use files::{library, read, read_library, write};
@@ -24,17 +24,19 @@ impl Library {
 }
 
 pub fn write(lent: &Lent, page: &mut Page) -> Option<()> {
-    let Sizes {
-        inputs,
-        outputs,
-        vertices,
-    } = lent.sizes;
     let mut bytes = [memory::DESTINATION_BYTE; memory::BYTES];
     let bytes = input::part(&mut bytes)?;
-    let answer = write::write(inputs, outputs, vertices, lent.table, lent.scratch, bytes);
-    answers::written(page, answer);
+    let answer = write::write(
+        lent.inputs,
+        lent.outputs,
+        lent.vertices,
+        lent.table,
+        lent.scratch,
+        bytes,
+    );
+    answers::counted(page, "bytes", answer);
     lines::table(page, lent.table);
-    lines::bytes(page, bytes);
+    lines::destination(page, bytes);
     lines::scratch(page, lent.scratch);
     Some(())
 }
@@ -42,25 +44,24 @@ pub fn write(lent: &Lent, page: &mut Page) -> Option<()> {
 pub fn read(lent: &mut Lent, library: &Library, page: &mut Page) -> Option<()> {
     let mut file = [0; memory::FILE];
     let file = input::file(&mut file)?;
-    // By hand: the borrow checker has no rule yet for two fields lent behind one reference.
-    let table = &mut *lent.table;
-    let scratch = &mut *lent.scratch;
-    let answer = read::read(file, table, scratch, &library.cells[..library.held]);
+    let held = &library.cells[..library.held];
+    // Both fields are lent for writing, though the scratch is only read: the borrow checker has no rule yet for one lent each way.
+    let answer = read::read(file, lent.table, &mut *lent.scratch, held);
     answers::read(page, answer);
-    lines::left(page, table, scratch);
+    lines::left(page, lent);
     Some(())
 }
 
 pub fn read_library(lent: &Lent, library: &mut Library, page: &mut Page) -> Option<()> {
     let mut file = [0; memory::FILE];
     let file = input::file(&mut file)?;
-    // A copy: the borrow checker has no rule yet that lends a field of a struct with an invariant.
+    // A copy: the borrow checker has no rule yet that lends a part of a field of a struct with an invariant.
     let mut cells = library.cells;
     let answer = read_library::read_library(file, &mut cells[..library.held]);
     library.cells = cells;
     answers::scanned(page, answer);
     lines::library(page, &cells[..library.held]);
-    lines::left(page, lent.table, lent.scratch);
+    lines::left(page, lent);
     Some(())
 }
 

@@ -1,7 +1,8 @@
 // Standard input, piece by piece. A failed read counts as the end.
 ghost use Rattle.std.specs.Prelude.{◌≤◌, length, IfSome};
 
-// A number whose low byte comes first. The impls are alike, for `rt ci` takes none that a macro of this repository writes.
+// A number whose low byte comes first. An impl for each type: `from_le_bytes` is of no trait of std, and `rt ci` takes no impl that a macro of this repository
+// writes. One function over `from_le_bytes` was tried: the prover covers no bound `Fn([u8; N])` whose N is a parameter.
 pub trait Number {
     fn next() -> Option<Self>;
 }
@@ -70,7 +71,7 @@ pub fn list<T: Number + Copy>(room: &mut [T]) -> Option<&mut [T]>
     Some(list)
 }
 
-// That part, with the bytes that come.
+// That part, with the bytes that come. Not `list` of bytes, for they are read at once.
 pub fn file(room: &mut [u8]) -> Option<&mut [u8]> {
     let file = part(room)?;
     fill_bytes(file)?;

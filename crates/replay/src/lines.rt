@@ -1,4 +1,5 @@
 // The lines about lent memory.
+use crate::calls::Lent;
 use crate::memory;
 use crate::page::Page;
 use paths::cells;
@@ -42,12 +43,8 @@ pub fn library(page: &mut Page, library: &[i32]) {
     list(page, "library", library, Cell);
 }
 
-pub fn delays(page: &mut Page, delays: &[i64]) {
-    list(page, "destination", delays, |x| x);
-}
-
-pub fn bytes(page: &mut Page, bytes: &[u8]) {
-    list(page, "destination", bytes, |x| x);
+pub fn destination<T: Copy + fmt::Display + Drop>(page: &mut Page, destination: &[T]) {
+    list(page, "destination", destination, |x| x);
 }
 
 pub fn scratch(page: &mut Page, scratch: &[i64]) {
@@ -55,7 +52,7 @@ pub fn scratch(page: &mut Page, scratch: &[i64]) {
 }
 
 // The table and the scratch, as a call left them.
-pub fn left(page: &mut Page, table: &[i32], scratch: &[i64]) {
-    self::table(page, table);
-    self::scratch(page, scratch);
+pub fn left(page: &mut Page, lent: &Lent) {
+    table(page, lent.table);
+    scratch(page, lent.scratch);
 }

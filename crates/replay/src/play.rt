@@ -1,12 +1,16 @@
 // The whole replay: sizes, lent memory, and calls to the end.
-use crate::calls::{Kind, Lent, Sizes};
+use crate::calls::{Kind, Lent};
 use crate::file_calls::Library;
 use crate::input::{self, Number};
 use crate::page::Page;
 use crate::{file_calls, memory, query_calls, step_calls};
 
-// `None` where the input ends inside the call, or a list is longer than the program's memory.
-fn call(kind: Kind, lent: &mut Lent, library: &mut Library, page: &mut Page) -> Option<()> {
+// Makes the next call. `None` where it has no kind, the input ends inside it, or a list is longer than the program's memory.
+//
+// Lent memory, library and page stay parameters: most calls take two of them, and would name a struct of all three at each use.
+fn call(lent: &mut Lent, library: &mut Library, page: &mut Page) -> Option<()> {
+    let kind = Kind::try_from(u8::next()?).ok()?;
+    // One match, for the input says the kind: a function chosen by it would be handed out, which `rt ci` refuses.
     match kind {
         Kind::Shrink => step_calls::shrink(lent, page)?,
         Kind::ShareInputs => step_calls::share_inputs(lent, page)?,
@@ -26,42 +30,27 @@ fn call(kind: Kind, lent: &mut Lent, library: &mut Library, page: &mut Page) -> 
     Some(())
 }
 
-// Lent memory, library and page stay parameters: a call borrows them apart, and of a struct that holds them it could not.
-
-// The next call, with a scratch of `room` cells.
-fn turn(
-    sizes: Sizes,
-    table: &mut [i32],
-    room: usize,
-    library: &mut Library,
-    page: &mut Page,
-) -> Option<()> {
-    let mut scratch = [memory::SCRATCH; memory::CELLS];
-    let scratch = scratch.get_mut(..room)?;
-    let kind = Kind::try_from(u8::next()?).ok()?;
+// The calls, each with a scratch of the same room. Nothing says that the input ends, so they are counted, up to a number that no replay reaches.
+pub fn play(page: &mut Page) -> Option<()> {
+    let inputs = usize::next()?;
+    let outputs = usize::next()?;
+    let vertices = usize::next()?;
+    let mut table = [0; memory::CELLS];
+    let table = input::part(&mut table)?;
+    let mut scratch = [0; memory::CELLS];
+    let scratch = input::part(&mut scratch)?;
+    input::fill(table)?;
     let mut lent = Lent {
-        sizes,
+        inputs,
+        outputs,
+        vertices,
         table,
         scratch,
     };
-    call(kind, &mut lent, library, page)
-}
-
-// The calls. Nothing says that the input ends, so the turns are counted, up to a number that no replay reaches.
-pub fn play(page: &mut Page) -> Option<()> {
-    let sizes = Sizes {
-        inputs: usize::next()?,
-        outputs: usize::next()?,
-        vertices: usize::next()?,
-    };
-    let cells = u16::next()?;
-    let room = u16::next()?;
-    let mut table = [0; memory::CELLS];
-    let table = table.get_mut(..usize::from(cells))?;
-    input::fill(table)?;
     let mut library = Library::built_in();
     for _ in 0..u64::MAX {
-        turn(sizes, table, usize::from(room), &mut library, page)?;
+        lent.scratch.fill(memory::SCRATCH);
+        call(&mut lent, &mut library, page)?;
     }
     Some(())
 }

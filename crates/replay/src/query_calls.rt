@@ -1,63 +1,40 @@
 // The three calls that answer path delays: the matrix, the output arrivals and the margins.
-use crate::calls::{Lent, Sizes};
+use crate::calls::Lent;
 use crate::page::Page;
 use crate::{answers, input, lines, memory};
 use paths::{margins, queries};
 use timing::Refusal;
 
-fn queried(
-    page: &mut Page,
-    answer: Result<(), Refusal>,
-    delays: &[i64],
-    table: &[i32],
-    scratch: &[i64],
-) {
+fn queried(page: &mut Page, answer: Result<(), Refusal>, delays: &[i64], lent: &Lent) {
     answers::query(page, answer);
-    lines::table(page, table);
-    lines::delays(page, delays);
-    lines::scratch(page, scratch);
+    lines::table(page, lent.table);
+    lines::destination(page, delays);
+    lines::scratch(page, lent.scratch);
 }
 
 pub fn delay_matrix(lent: &mut Lent, page: &mut Page) -> Option<()> {
-    // By hand: the borrow checker has no rule yet for two fields lent behind one reference.
-    let table = &mut *lent.table;
-    let scratch = &mut *lent.scratch;
-    let Sizes {
-        inputs,
-        outputs,
-        vertices,
-    } = lent.sizes;
     let mut delays = [memory::DESTINATION; memory::CELLS];
     let delays = input::part(&mut delays)?;
-    let answer = queries::delay_matrix(inputs, outputs, vertices, table, scratch, delays);
-    queried(page, answer, delays, table, scratch);
+    let answer = lent.call(|m, n, vertices, table, scratch| {
+        queries::delay_matrix(m, n, vertices, table, scratch, delays)
+    });
+    queried(page, answer, delays, lent);
     Some(())
 }
 
 pub fn output_arrivals(lent: &mut Lent, page: &mut Page) -> Option<()> {
-    // By hand: the borrow checker has no rule yet for two fields lent behind one reference.
-    let table = &mut *lent.table;
-    let scratch = &mut *lent.scratch;
-    let Sizes {
-        inputs,
-        outputs,
-        vertices,
-    } = lent.sizes;
     let mut given = [0; memory::ARRIVALS];
     let given = input::list(&mut given)?;
     let mut delays = [memory::DESTINATION; memory::CELLS];
     let delays = input::part(&mut delays)?;
-    let answer = queries::output_arrivals(inputs, outputs, vertices, table, scratch, given, delays);
-    queried(page, answer, delays, table, scratch);
+    let answer = lent.call(|m, n, vertices, table, scratch| {
+        queries::output_arrivals(m, n, vertices, table, scratch, given, delays)
+    });
+    queried(page, answer, delays, lent);
     Some(())
 }
 
 pub fn margins(lent: &Lent, page: &mut Page) -> Option<()> {
-    let Sizes {
-        inputs,
-        outputs,
-        vertices,
-    } = lent.sizes;
     let mut given = [0; memory::ARRIVALS];
     let given = input::list(&mut given)?;
     let mut due = [0; memory::ARRIVALS];
@@ -69,9 +46,9 @@ pub fn margins(lent: &Lent, page: &mut Page) -> Option<()> {
     let mut margin = [memory::DESTINATION; memory::CELLS];
     let margin = input::part(&mut margin)?;
     let answer = margins::margins(
-        inputs,
-        outputs,
-        vertices,
+        lent.inputs,
+        lent.outputs,
+        lent.vertices,
         lent.table,
         lent.scratch,
         given,
@@ -82,9 +59,9 @@ pub fn margins(lent: &Lent, page: &mut Page) -> Option<()> {
     );
     answers::query(page, answer);
     lines::table(page, lent.table);
-    lines::delays(page, arrival);
-    lines::delays(page, required);
-    lines::delays(page, margin);
+    lines::destination(page, arrival);
+    lines::destination(page, required);
+    lines::destination(page, margin);
     lines::scratch(page, lent.scratch);
     Some(())
 }

@@ -1,5 +1,5 @@
 // The six steps and the run: what they are given comes from standard input, and what they answer is printed.
-use crate::calls::{Lent, Sizes};
+use crate::calls::Lent;
 use crate::input::{self, Number};
 use crate::page::Page;
 use crate::{answers, lines, memory};
@@ -14,17 +14,8 @@ fn make<S: FnOnce(usize, usize, usize, &mut [i32], &mut [i64]) -> Result<usize, 
 )
     requires { S.IsAlwaysCallable step }
 {
-    let Sizes {
-        inputs,
-        outputs,
-        vertices,
-    } = lent.sizes;
-    // By hand: the borrow checker has no rule yet for two fields lent behind one reference.
-    let table = &mut *lent.table;
-    let scratch = &mut *lent.scratch;
-    let answer = step(inputs, outputs, vertices, table, scratch);
-    answers::step(page, answer);
-    lines::left(page, table, scratch);
+    answers::counted(page, "left", lent.call(step));
+    lines::left(page, lent);
 }
 
 pub fn shrink(lent: &mut Lent, page: &mut Page) -> Option<()> {
@@ -79,15 +70,6 @@ pub fn star(lent: &mut Lent, page: &mut Page) -> Option<()> {
 }
 
 pub fn run(lent: &mut Lent, page: &mut Page) {
-    let Sizes {
-        inputs,
-        outputs,
-        vertices,
-    } = lent.sizes;
-    // By hand: the borrow checker has no rule yet for two fields lent behind one reference.
-    let table = &mut *lent.table;
-    let scratch = &mut *lent.scratch;
-    let answer = run::calls::run(inputs, outputs, vertices, table, scratch);
-    answers::ran(page, answer);
-    lines::left(page, table, scratch);
+    answers::ran(page, lent.call(run::calls::run));
+    lines::left(page, lent);
 }

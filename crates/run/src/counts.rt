@@ -10,7 +10,7 @@ pub fn rich_ones<S: Side>(table: &Table) -> [bool; Board::MAX_VERTICES]
     ensures { of_table (Counted S.side) table.now result }
 {
     let mut rich = [false; Board::MAX_VERTICES];
-    for v in S::first(table.board)..S::end(table.board) {
+    for v in S::first(table.board.inputs)..S::end(table.board) {
         rich[v] = S::is_rich(table, v);
     }
     rich

@@ -17,9 +17,16 @@ pub struct Inputs {
 impl Side for Inputs {
     ghost side = { Sides.Inputs };
 
+    ghost given = { λ it board t. Unit {0} };
+
     ghost knows = { λ it board t. Free board t it.free };
 
-    fn first(_board: Board) -> usize {
+    fn begin(&mut self, table: &Table) {
+        let free = fresh::fresh_number(table);
+        self.free = free;
+    }
+
+    fn first(_inputs: usize) -> usize {
         0
     }
 
@@ -27,8 +34,8 @@ impl Side for Inputs {
         board.inputs
     }
 
-    fn across(board: Board) -> usize {
-        board.outputs
+    fn across(_inputs: usize, outputs: usize) -> usize {
+        outputs
     }
 
     fn place(board: Board, v: usize, j: usize) -> usize {

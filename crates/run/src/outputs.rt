@@ -1,5 +1,5 @@
 // Share outputs, as a side of the delay matrix.
-ghost use Rattle.std.specs.Prelude.{◌≡◌, ◌<◌, ◌≤◌, IfSome, length};
+ghost use Rattle.std.specs.Prelude.{◌<◌, ◌≤◌, IfSome};
 ghost use Rattle.timing.specs.Limits.{max_vertices};
 ghost use Rattle.paths.specs.Checked.{Passable};
 ghost use Rattle.plans.specs.Sharing.{Indexed};
@@ -24,18 +24,22 @@ pub struct Outputs {
 impl Side for Outputs {
     ghost side = { Sides.Outputs };
 
+    ghost given = { λ it board t. IfSome it.order (Passable board t) × Indexed board t it.rows };
+
     ghost knows = { λ it board t. IfSome it.order (Passable board t) × Indexed board t it.rows };
 
-    fn first(board: Board) -> usize {
-        board.inputs
+    fn begin(&mut self, _table: &Table) {}
+
+    fn first(inputs: usize) -> usize {
+        inputs
     }
 
     fn end(board: Board) -> usize {
         board.inputs + board.outputs
     }
 
-    fn across(board: Board) -> usize {
-        board.inputs
+    fn across(inputs: usize, _outputs: usize) -> usize {
+        inputs
     }
 
     fn place(board: Board, v: usize, j: usize) -> usize {
@@ -43,7 +47,7 @@ impl Side for Outputs {
     }
 
     fn is_rich(table: &Table, v: usize) -> bool {
-        table.fan_in(v) >= 2
+        share_outputs::enough_in(table, v)
     }
 
     fn is_open(&self) -> bool {
@@ -59,16 +63,14 @@ impl Side for Outputs {
             board,
             cells: table,
         };
-        if share_outputs::path_back(&read, self.order.as_ref(), &mut self.rows, a, b) {
-            return false;
-        }
-        let Ok(d) = share_outputs::saved_without_path(&read, b, e) else {
+        let back = share_outputs::path_back(&read, self.order.as_ref(), &mut self.rows, a, b);
+        let Ok(d) = share_outputs::outputs_saved(&read, back, b, e) else {
             return false;
         };
         let e = cells::narrow(d);
         rewrite::rewrite(board, table, &ShareOutputs { a, b, e });
         self.order = still_sorted(self.order, board.vertices, a, b);
-        keep_up(&mut self.rows, board.vertices, a, b);
+        keep_up(&mut self.rows, board, a, b);
         true
     }
 }
@@ -82,24 +84,23 @@ pub fn still_sorted(order: Option<Order>, n: usize, a: usize, b: usize) -> Optio
     order::stands_before(&order, n, a, b).then_some(order)
 }
 
-// The sets of the rows, where they are there, after an accepted share of outputs a, b: n of them are in use.
-fn keep_up(rows: &mut Option<[Set; Board::MAX_VERTICES]>, n: usize, a: usize, b: usize)
-    requires few { n ≤ max_vertices }
-    requires a_bound { a < n }
-    requires b_bound { b < n }
-    ensures { IfSome rows.new (OneSourceOf n a b rows.old) }
+// The sets of the rows, where they are there, after an accepted share of outputs a, b.
+fn keep_up(rows: &mut Option<[Set; Board::MAX_VERTICES]>, board: Board, a: usize, b: usize)
+    requires a_bound { a < board.vertices }
+    requires b_bound { b < board.vertices }
+    ensures { IfSome rows.new (OneSourceOf board.vertices a b rows.old) }
 {
     if let Some(rows) = rows {
-        one_source(rows, n, a, b);
+        one_source(rows, board, a, b);
     }
 }
 
 // Makes a the one source of b. A function of its own, for the borrow checker does not cover a slice of what an Option behind a `&mut` holds.
-fn one_source(rows: &mut [Set; Board::MAX_VERTICES], n: usize, a: usize, b: usize)
-    requires few { n ≤ max_vertices }
-    requires a_bound { a < n }
-    requires b_bound { b < n }
-    ensures { OneSource n a b rows.old rows.new }
+fn one_source(rows: &mut [Set; Board::MAX_VERTICES], board: Board, a: usize, b: usize)
+    requires a_bound { a < board.vertices }
+    requires b_bound { b < board.vertices }
+    ensures { OneSource board.vertices a b rows.old rows.new }
 {
+    let n = board.vertices;
     reach::one_source(&mut rows[..n], a, b);
 }

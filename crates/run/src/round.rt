@@ -1,5 +1,6 @@
 // A round of the automatic run.
-// The table and the steps stay two parameters, and the order of a table stays beside it: they are what changes, and `plans::rewrite` says why no struct holds them.
+// Board, table and order stay parameters, as `plans::rewrite` says, and so do the steps: a struct of the table and the steps was tried here, and of a table behind
+// its `&mut` the prover knows nothing once it has been lent for reading.
 ghost use Rattle.std.specs.Prelude.{◌≡◌, true, IfSome};
 ghost use Rattle.paths.specs.Board.{ScratchRoom, PastScratch};
 ghost use Rattle.paths.specs.Checked.{Checked, Passable};
@@ -11,12 +12,12 @@ ghost use Rattle.run.specs.Running.{progress, Running, Held, Leads, LeanOn, trie
 use crate::inputs::Inputs;
 use crate::outputs::Outputs;
 use crate::vertex_tries::{MergeBack, Shrink};
-use crate::{fresh, shares, vertex_tries};
+use crate::{shares, vertex_tries};
 use paths::order::Order;
 use paths::{Board, Table, order};
 use pruning::prune;
 
-// What is known of the table when a round begins.
+// What is known of the table when a round begins. No Option: that no order is known says here that the table is lean.
 #[derive(Clone, Copy)]
 pub enum Known {
     // One of its orders.
@@ -96,11 +97,7 @@ pub fn round(
     ensures lean_on { LeanOn board table.new }
     ensures past_scratch { PastScratch board scratch.old scratch.new }
 {
-    let free = fresh::fresh_number(&Table {
-        board,
-        cells: table,
-    });
-    let mut inputs = Inputs { free };
+    let mut inputs = Inputs { free: None };
     let one = shares::shares(board, table, matrix, &mut inputs, steps);
     let mut outputs = Outputs {
         order: known_order(known, steps, one),

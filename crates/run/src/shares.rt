@@ -9,7 +9,9 @@ use plans::common;
 use timing::Refusal;
 
 // All tries of a side, each on the table as it then is. Too few arcs at b, or no free number, refuse a pair before anything is compared; then the first entry at which
-// the difference is another settles it. The labelled loop is document 01's form.
+// the difference is another settles it. The labelled loop is document 01's form. In a frame of its own the loop keeps its numbers in registers: inlined into the round, it
+// takes some 2 million instructions more of the 19 that a run on the board `rounds` takes.
+#[inline(never)]
 pub fn shares<S: Side>(
     board: Board,
     table: &mut [i32],
@@ -19,16 +21,20 @@ pub fn shares<S: Side>(
 ) -> usize
     requires running { Running board (progress table.old steps) }
     requires held { Held board matrix.now table.old }
-    requires known { S.knows side.old board table.old }
+    requires given { S.given side.old board table.old }
     ensures leads { Leads board (side_tries board S.side) table.old steps table.new result }
     ensures still_known { S.knows side.new board table.new }
 {
+    side.begin(&Table {
+        board,
+        cells: table,
+    });
     if !side.is_open() {
         return steps;
     }
-    let from = S::first(board);
+    let from = S::first(board.inputs);
     let end = S::end(board);
-    let across = S::across(board);
+    let across = S::across(board.inputs, board.outputs);
     let mut rich = counts::rich_ones::<S>(&Table {
         board,
         cells: table,

@@ -1,5 +1,5 @@
 // The two sides of the delay matrix: share inputs compares its rows, share outputs its columns.
-ghost use Rattle.std.specs.Prelude.{◌≡◌, false, ℕ, ◌<◌, ◌≤◌, List, ℤ};
+ghost use Rattle.std.specs.Prelude.{◌≡◌, false, ◌<◌, List, ℤ};
 ghost use Rattle.paths.specs.declared.board.Board.{Board};
 ghost use Rattle.paths.specs.Checked.{Checked};
 ghost use Rattle.run.specs.Sides;
@@ -13,19 +13,27 @@ use paths::{Board, Table};
 pub trait Side {
     ghost side: { Sides.Side };
 
+    // What is asked of it before it has looked at the table, and what it knows then.
+    ghost given: { Self → Board → List ℤ → Type 0 };
+
     ghost knows: { Self → Board → List ℤ → Type 0 };
 
+    // Looks at the table, before the side's first try.
+    fn begin(&mut self, table: &Table)
+        requires { given self.old table.now.board table.now.cells.now }
+        ensures { knows self.new table.now.board table.now.cells.now };
+
     // The side's first vertex.
-    fn first(board: Board) -> usize
-        ensures { result ≡ first_of side board.inputs };
+    fn first(inputs: usize) -> usize
+        ensures { result ≡ first_of side inputs };
 
     // The number after its last.
     fn end(board: Board) -> usize
         ensures { result ≡ end_of board side };
 
     // How many entries of the matrix each vertex of the side has.
-    fn across(board: Board) -> usize
-        ensures { result ≡ across_of side board.inputs board.outputs };
+    fn across(inputs: usize, outputs: usize) -> usize
+        ensures { result ≡ across_of side inputs outputs };
 
     // Where the matrix has the j-th entry of vertex v.
     fn place(board: Board, v: usize, j: usize) -> usize

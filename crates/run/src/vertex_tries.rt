@@ -8,6 +8,7 @@ ghost use Rattle.run.specs.VertexSteps.{vertex_step, first_vertex, kind_tries, v
 use paths::{Board, Table};
 use steps::apply;
 
+// A side of `side` has a range too, and that of the outputs stands there again: each end is one sum, and a trait above the two would be longer.
 pub trait VertexStep {
     ghost kind: { VertexSteps.VertexStep };
 

@@ -17,8 +17,12 @@ use Rattle.paths.specs.Cells.{cell_at, row_at}
 use Rattle.paths.proofs.Rows.{row_at_cell, length-row_at}
 use Rattle.reduction.specs.Star.{distinct}
 use Rattle.stars.specs.Members.{sum_over}
-use Rattle.stars.specs.StarReady.{below}
+use Rattle.stars.specs.StarReady.{below, VertexSet}
 use Rattle.stars.proofs.Members.{below-member, below_wider}
+
+-- a set of vertices below a number is one below a greater number
+pub set_wider : (m n : ℕ) (xs : List ℕ) → m ≤ n → VertexSet m xs → VertexSet n xs
+set_wider m n xs h s = record { under = below_wider m n xs h s.under; some = s.some; apart = s.apart }
 
 -- ---- functions that agree on the members
 

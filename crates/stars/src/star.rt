@@ -1,7 +1,7 @@
 // Star: the conditions, and the table after an accepted step.
 ghost use Rattle.timing.specs.Refusal.{verdict};
-ghost use Rattle.std.specs.Prelude.{◌≡◌, true, false, ◌&&◌, ℕ, ◌+◌, ◌<◌, ◌≤◌, T, ltb, ◌-ℤ◌, ◌+ℤ◌, length, get_or, drop};
-ghost use Rattle.laws.specs.Integers.{eq_z, min_z};
+ghost use Rattle.std.specs.Prelude.{◌≡◌, true, false, ◌&&◌, ℕ, ◌+◌, ◌<◌, ◌≤◌, T, ltb, ◌-ℤ◌, ◌+ℤ◌, length, get_or};
+ghost use Rattle.laws.specs.Integers.{eq_z};
 ghost use Rattle.laws.specs.Bounded.{each, member};
 ghost use Rattle.graph.specs.Delay.{at, present};
 ghost use Rattle.timing.specs.Limits.{max_vertices, delay_limit, fits};
@@ -10,7 +10,7 @@ ghost use Rattle.paths.specs.Board.{Lent};
 ghost use Rattle.paths.specs.Tables.{timing_graph, of_table};
 ghost use Rattle.paths.specs.Cells.{cell_at};
 ghost use Rattle.plans.specs.OnBoards.{InRange, changed, remade};
-ghost use Rattle.stars.specs.StarCells.{least_gap, meeting, cleared_cell, source_cell, centre_cell, cell_after, gap};
+ghost use Rattle.stars.specs.StarCells.{least_gap, meeting, cleared_cell, source_cell, centre_cell, gap};
 ghost use Rattle.stars.specs.StarReady.{below, VertexSet, Bundle};
 ghost use Rattle.stars.specs.StarOn.{star_on, covered_on, centre_fits, StarReadyOn};
 
@@ -91,47 +91,89 @@ fn is_covered(delay: i32, first: i32, e: i64) -> bool
     difference(delay, first) == e
 }
 
-// The least difference between a row and the first source's, over the targets.
-#[tactic(auto, using(crate::proofs::Members::below_at))]
-fn least_difference(row: &[i32], first: &Row, targets: &[usize]) -> i64
-    requires in_row { T (below (length row.now) targets.now) }
-    requires in_first { T (below max_vertices targets.now) }
-    requires some { T (non_empty targets.now) }
-    ensures { at result ≡ least_gap row.now first.now targets.now }
-{
-    let t = targets[0];
-    let mut least = difference(row[t], first[t]);
-    for &t in &targets[1..] {
-        least = least.min(difference(row[t], first[t]));
-    }
-    least
+// The arcs from the centre: the first source's row, at the targets. That these are cells of another row, too, stays a clause: the rows are parts of a table, which is
+// not known here.
+#[derive(Clone, Copy)]
+struct CentreArcs<'a> {
+    first: &'a Row,
+    targets: &'a [usize],
+    ghost targets_set: { VertexSet max_vertices targets.now },
 }
 
-// How many targets' arcs are equal to their sum through the centre.
-#[tactic(auto, using(crate::proofs::Members::below_at))]
-fn row_covered(row: &[i32], first: &Row, targets: &[usize], e: i64) -> usize
-    requires in_row { T (below (length row.now) targets.now) }
-    requires in_first { T (below max_vertices targets.now) }
-    ensures { result ≡ meeting row.now first.now targets.now e }
-{
-    let mut total = 0;
-    for &t in targets {
-        if is_covered(row[t], first[t], e) {
-            total += 1;
+impl<'a> CentreArcs<'a> {
+    // The least difference between a row and the first source's, over the targets.
+    #[tactic(auto, using(crate::proofs::Members::below_at))]
+    fn least_difference(&self, row: &[i32]) -> i64
+        requires { T (below (length row.now) self.now.targets.now) }
+        ensures { at result ≡ least_gap row.now self.now.first.now self.now.targets.now }
+    {
+        let t = self.targets[0];
+        let mut least = difference(row[t], self.first[t]);
+        for &t in &self.targets[1..] {
+            least = least.min(difference(row[t], self.first[t]));
+        }
+        least
+    }
+
+    // How many targets' arcs are equal to their sum through the centre.
+    #[tactic(auto, using(crate::proofs::Members::below_at))]
+    fn row_covered(&self, row: &[i32], e: i64) -> usize
+        requires { T (below (length row.now) self.now.targets.now) }
+        ensures { result ≡ meeting row.now self.now.first.now self.now.targets.now e }
+    {
+        let mut total = 0;
+        for &t in self.targets {
+            if is_covered(row[t], self.first[t], e) {
+                total += 1;
+            }
+        }
+        total
+    }
+
+    // How many of a source's arcs are covered.
+    fn covered_of(&self, row: &[i32]) -> usize
+        requires { T (below (length row.now) self.now.targets.now) }
+        ensures { result ≡ meeting row.now self.now.first.now self.now.targets.now (gap row.now self.now.first.now self.now.targets.now) }
+    {
+        let e = self.least_difference(row);
+        self.row_covered(row, e)
+    }
+
+    // The centre's row: the first source's delays at the targets.
+    #[tactic(auto, using(crate::proofs::Members::below_at))]
+    fn centre_row(&self, row: &mut [i32])
+        requires { T (below (length row.old) self.now.targets.now) }
+        ensures { row.new ≡ remade (centre_cell row.old self.now.first.now self.now.targets.now) row.old }
+    {
+        for &t in self.targets {
+            row[t] = self.first[t];
         }
     }
-    total
-}
 
-// How many of a source's arcs are covered.
-fn covered_of(row: &[i32], first: &Row, targets: &[usize]) -> usize
-    requires in_row { T (below (length row.now) targets.now) }
-    requires in_first { T (below max_vertices targets.now) }
-    requires some { T (non_empty targets.now) }
-    ensures { result ≡ meeting row.now first.now targets.now (gap row.now first.now targets.now) }
-{
-    let e = least_difference(row, first, targets);
-    row_covered(row, first, targets, e)
+    // Clears the covered arcs of a source's row.
+    #[tactic(auto, using(crate::proofs::Members::below_at))]
+    fn clear_covered(&self, row: &mut [i32], e: i64)
+        requires { T (below (length row.old) self.now.targets.now) }
+        ensures { row.new ≡ remade (cleared_cell row.old self.now.first.now self.now.targets.now e) row.old }
+    {
+        for &t in self.targets {
+            if is_covered(row[t], self.first[t], e) {
+                row[t] = Board::ABSENT;
+            }
+        }
+    }
+
+    // A source's row.
+    fn source_row(&self, row: &mut [i32], k: usize)
+        requires in_row { T (below (length row.old) self.now.targets.now) }
+        requires k_in_bounds { k < length row.old }
+        requires gap_fits { T (fits delay_limit (least_gap row.old self.now.first.now self.now.targets.now)) }
+        ensures { row.new ≡ remade (source_cell row.old self.now.first.now self.now.targets.now k (gap row.old self.now.first.now self.now.targets.now)) row.old }
+    {
+        let e = self.least_difference(row);
+        self.clear_covered(row, e);
+        row[k] = cells::narrow(e);
+    }
 }
 
 // How many arcs are covered.
@@ -140,10 +182,13 @@ fn covered_arcs(table: &Table, sources: &[usize], targets: &[usize]) -> usize
     ensures { result ≡ of_table covered_on table.now sources.now targets.now }
 {
     let first = rows::row_copy(table.row(sources[0]));
+    let arcs = CentreArcs {
+        first: &first,
+        targets,
+    };
     let mut covered = 0;
     for &s in sources {
-        let row = table.row(s);
-        covered += covered_of(row, &first, targets);
+        covered += arcs.covered_of(table.row(s));
     }
     covered
 }
@@ -154,9 +199,12 @@ fn centre_fits(table: &Table, sources: &[usize], targets: &[usize]) -> bool
     ensures { result ≡ of_table centre_fits table.now sources.now targets.now }
 {
     let first = rows::row_copy(table.row(sources[0]));
+    let arcs = CentreArcs {
+        first: &first,
+        targets,
+    };
     for &s in sources {
-        let row = table.row(s);
-        if !cells::in_range(least_difference(row, &first, targets)) {
+        if !cells::in_range(arcs.least_difference(table.row(s))) {
             return false;
         }
     }
@@ -211,45 +259,6 @@ fn marks(xs: &[usize]) -> [bool; Board::MAX_VERTICES]
     marked
 }
 
-// The centre's row: the first source's delays at the targets.
-#[tactic(auto, using(crate::proofs::Members::below_at))]
-fn centre_row(row: &mut [i32], first: &Row, targets: &[usize])
-    requires vertex_set { VertexSet (length row.old) targets.now }
-    requires row_len_bound { length row.old ≤ max_vertices }
-    ensures { row.new ≡ remade (centre_cell row.old first.now targets.now) row.old }
-{
-    for &t in targets {
-        row[t] = first[t];
-    }
-}
-
-// Clears the covered arcs of a source's row.
-#[tactic(auto, using(crate::proofs::Members::below_at))]
-fn clear_covered(row: &mut [i32], first: &Row, targets: &[usize], e: i64)
-    requires vertex_set { VertexSet (length row.old) targets.now }
-    requires row_len_bound { length row.old ≤ max_vertices }
-    ensures { row.new ≡ remade (cleared_cell row.old first.now targets.now e) row.old }
-{
-    for &t in targets {
-        if is_covered(row[t], first[t], e) {
-            row[t] = Board::ABSENT;
-        }
-    }
-}
-
-// A source's row.
-fn source_row(row: &mut [i32], first: &Row, targets: &[usize], k: usize)
-    requires vertex_set { VertexSet (length row.old) targets.now }
-    requires row_len_bound { length row.old ≤ max_vertices }
-    requires k_in_bounds { k < length row.old }
-    requires gap_fits { T (fits delay_limit (least_gap row.old first.now targets.now)) }
-    ensures { row.new ≡ remade (source_cell row.old first.now targets.now k (gap row.old first.now targets.now)) row.old }
-{
-    let e = least_difference(row, first, targets);
-    clear_covered(row, first, targets, e);
-    row[k] = cells::narrow(e);
-}
-
 // The step: one pass over the rows.
 pub fn star_apply(board: Board, table: &mut [i32], sources: &[usize], targets: &[usize], k: usize)
     requires lent { Lent board table.old }
@@ -258,14 +267,18 @@ pub fn star_apply(board: Board, table: &mut [i32], sources: &[usize], targets: &
 {
     let n = board.vertices;
     let first = rows::row_copy(cells::row(table, n, sources[0]));
+    let arcs = CentreArcs {
+        first: &first,
+        targets,
+    };
     let is_source = marks(sources);
     for u in 0..n {
         let at = n * u;
         let row = &mut table[at..at + n];
         if u == k {
-            centre_row(row, &first, targets);
+            arcs.centre_row(row);
         } else if is_source[u] {
-            source_row(row, &first, targets, k);
+            arcs.source_row(row, k);
         }
     }
 }

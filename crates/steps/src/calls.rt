@@ -8,7 +8,8 @@ use crate::step::{MergeBack, Prune, ShareInputs, ShareOutputs, Shrink, Star, Ste
 use paths::{Table, checks};
 use timing::Refusal;
 
-// Document 01 hands each call its sizes, its table and its scratch one by one, and so does C: in every entry they stay parameters side by side.
+// Document 01 hands each call its sizes, its table and its scratch one by one, and so does C: they stay parameters side by side in every entry, and in what an
+// entry hands them on to until the checks have made a board and a table of them (`reduce` here, `paths::checks`, host's functions over runs of bytes).
 
 // The checks, then the step.
 pub fn reduce<S: Step>(

@@ -16,6 +16,7 @@ pub trait Step {
     // Document 01's step.
     ghost meaning: { Self → document.Step };
 
+    // Board, table and order stay parameters, as `plans::rewrite` says; order and scratch are there for the steps that need them.
     fn apply(
         &self,
         board: Board,
@@ -28,10 +29,8 @@ pub trait Step {
         ensures past_scratch { PastScratch board scratch.old scratch.new };
 }
 
-#[derive(Clone, Copy)]
-pub struct Shrink {
-    pub k: usize,
-}
+// One struct for a shrink that is called and one that is accepted: there is nothing more to know of it.
+pub use plans::shrink::Shrink;
 
 #[derive(Clone, Copy)]
 pub struct ShareInputs {

@@ -12,52 +12,55 @@ ghost use Rattle.records.specs.Writing.{HasRoom, Puts};
 ghost use Rattle.paths.specs.Board.{sizes_of};
 ghost use Rattle.text.specs.Text.{text_bytes};
 
+use files::answer::Fault;
 use files::write::Lines;
 use files::{library, place, read, write};
 use paths::{Board, Table};
 use records::library::CODES;
 use records::lines;
 use records::put::Writer;
+use run::answer::Ran;
 use run::calls;
-use timing::{Refusal, numbers};
+use timing::numbers;
 
-// The bytes that the longest text needs: that a run of bytes has as many stays a clause, for the caller lends a slice of any length.
+// The bytes that the longest text needs. That `out` has as many stays a clause: `&mut [u8; PAGE]` would ask more of a public caller than a slice that is at least
+// as long.
 pub const PAGE: usize = 88_149;
 
-fn refused_text(refusal: Refusal, offset: usize, out: &mut [u8]) -> usize
-    requires offset_bound { offset < 10 ^ 10 }
+fn refused_text(fault: Fault, out: &mut [u8]) -> usize
+    requires at_bound { fault.at < 10 ^ 10 }
     requires text_bytes_in_bounds { text_bytes ≤ length out.old }
-    ensures appends { Appends (refused_line (number refusal) offset) out.old 0 out.new result }
+    ensures appends { Appends (refused_line (number fault.refusal) fault.at) out.old 0 out.new result }
     ensures upper_bound { result ≤ text_bytes }
 {
     let mut w = Writer::new(out);
-    lines::refused_line(&mut w, numbers::number(refusal), offset);
+    lines::refused_line(&mut w, numbers::number(fault.refusal), fault.at);
     w.at
 }
 
-fn put_reduced(w: &mut Writer, table: &Table, steps: usize, arcs: usize)
+fn put_reduced(w: &mut Writer, table: &Table, ran: Ran)
     requires sound { IsSound table.now }
-    requires steps_bound { steps < 10 ^ 4 }
-    requires arcs_bound { arcs < 10 ^ 4 }
-    requires room { HasRoom (reduced_text (table_sizes table.now) (record { table = table.now.cells.now; steps = steps; arcs_left = arcs })) w.old }
-    ensures { Puts (reduced_text (table_sizes table.now) (record { table = table.now.cells.now; steps = steps; arcs_left = arcs })) w.old w.new }
+    requires steps_bound { ran.steps < 10 ^ 4 }
+    requires arcs_bound { ran.arcs < 10 ^ 4 }
+    requires room { HasRoom (reduced_text (table_sizes table.now) (record { table = table.now.cells.now; steps = ran.steps; arcs_left = ran.arcs })) w.old }
+    ensures { Puts (reduced_text (table_sizes table.now) (record { table = table.now.cells.now; steps = ran.steps; arcs_left = ran.arcs })) w.old w.new }
 {
     let board = table.board;
     lines::board_line(w, board.inputs, board.outputs, board.vertices);
     write::put_arcs::<Lines>(w, table);
-    lines::counts_line(w, steps, arcs);
+    lines::counts_line(w, ran.steps, ran.arcs);
 }
 
-fn reduced_text(table: &Table, steps: usize, arcs: usize, out: &mut [u8]) -> usize
+fn reduced_text(table: &Table, ran: Ran, out: &mut [u8]) -> usize
     requires sound { IsSound table.now }
-    requires steps_bound { steps < 10 ^ 4 }
-    requires arcs_bound { arcs < 10 ^ 4 }
+    requires steps_bound { ran.steps < 10 ^ 4 }
+    requires arcs_bound { ran.arcs < 10 ^ 4 }
     requires text_bytes_in_bounds { text_bytes ≤ length out.old }
-    ensures appends { Appends (reduced_text (table_sizes table.now) (record { table = table.now.cells.now; steps = steps; arcs_left = arcs })) out.old 0 out.new result }
+    ensures appends { Appends (reduced_text (table_sizes table.now) (record { table = table.now.cells.now; steps = ran.steps; arcs_left = ran.arcs })) out.old 0 out.new result }
     ensures upper_bound { result ≤ text_bytes }
 {
     let mut w = Writer::new(out);
-    put_reduced(&mut w, table, steps, arcs);
+    put_reduced(&mut w, table, ran);
     w.at
 }
 
@@ -74,9 +77,9 @@ fn run_text(board: Board, table: &mut [i32], scratch: &mut [i64], out: &mut [u8]
                 board,
                 cells: table,
             };
-            reduced_text(&left, ran.steps, ran.arcs, out)
+            reduced_text(&left, ran, out)
         }
-        Err(refusal) => refused_text(refusal, 0, out),
+        Err(refusal) => refused_text(Fault::from(refusal), out),
     }
 }
 
@@ -99,7 +102,7 @@ fn text_into(
     place::blank(table, Board::MAX_VERTICES);
     match read::read(input, table, scratch, library) {
         Ok(board) => run_text(board, table, scratch, out),
-        Err(fault) => refused_text(fault.refusal, fault.at, out),
+        Err(fault) => refused_text(fault, out),
     }
 }
 

@@ -11,16 +11,16 @@ pub put_arcs-requires-clause-room : goal.put_arcs-requires-clause-room
 put_arcs-requires-clause-room c =
     let b = c.args.table.now.board in
     let as' = arcs_of b.vertices (graph_in b c.args.table.now.cells.now) in
-    omega (arith, ap length (lines_are as'), parts_length (board_line (sizes_of b)) (arc_lines as') (counts_line c.args.steps c.args.arcs))
+    omega (arith, ap length (lines_are as'), parts_length (board_line (sizes_of b)) (arc_lines as') (counts_line c.args.ran.steps c.args.ran.arcs))
 
 pub counts_line-requires-clause-room : goal.counts_line-requires-clause-room
 counts_line-requires-clause-room c =
     let b = c.args.table.now.board in
     let as' = arcs_of b.vertices (graph_in b c.args.table.now.cells.now) in
-    omega (arith, ap length (lines_are as'), parts_length (board_line (sizes_of b)) (arc_lines as') (counts_line c.args.steps c.args.arcs))
+    omega (arith, ap length (lines_are as'), parts_length (board_line (sizes_of b)) (arc_lines as') (counts_line c.args.ran.steps c.args.ran.arcs))
 
 pub returns : goal.returns
 returns c =
     let b = c.args.table.now.board in
-    puts_same (ap (λ (l : List ℕ). board_line (sizes_of b) ++ l ++ counts_line c.args.steps c.args.arcs) (lines_are (arcs_of b.vertices (graph_in b c.args.table.now.cells.now))))
+    puts_same (ap (λ (l : List ℕ). board_line (sizes_of b) ++ l ++ counts_line c.args.ran.steps c.args.ran.arcs) (lines_are (arcs_of b.vertices (graph_in b c.args.table.now.cells.now))))
     (puts_more (puts_more c.board_line.ensures c.put_arcs.ensures) c.counts_line.ensures)

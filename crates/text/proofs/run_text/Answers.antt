@@ -1,4 +1,7 @@
-use Rattle.std.proofs.Common.{length}
+use Rattle.std.proofs.Common.{ap, ◌∙◌, length}
+use Rattle.timing.specs.Refusal.{number}
+use Rattle.format.specs.Text.{refused_line}
+use Rattle.files.specs.declared.answer.Fault.{Fault}
 use Rattle.records.proofs.Appending.{appends_same}
 use Rattle.text.proofs.RunTexts.{ran_checked, ran_text}
 use Rattle.text.proofs.run_text.Goals as goal
@@ -31,4 +34,5 @@ returns-in-Ok-clause-appends c =
 pub returns-in-Err-clause-appends : goal.returns-in-Err-clause-appends
 returns-in-Err-clause-appends c =
     let a = c.args in
-    appends_same (ran_text a.board.inputs a.board.outputs a.board.vertices (length a.scratch.now) a.table.now c.run.ensures.runs _ c.in-Err.is c.requires.scratch_len) c.refused_text.ensures.appends
+    let told = ap (λ (f : Fault). refused_line (number f.refusal) f.at) c.from.ensures in
+    appends_same (told ∙ ran_text a.board.inputs a.board.outputs a.board.vertices (length a.scratch.now) a.table.now c.run.ensures.runs _ c.in-Err.is c.requires.scratch_len) c.refused_text.ensures.appends

@@ -3,8 +3,8 @@ use Rattle.records.proofs.Appending.{appends_same}
 use Rattle.text.proofs.ThinTexts.{blank-table, text_is, stops_inside}
 use Rattle.text.proofs.text_into.Goals as goal
 
-pub refused_text-requires-clause-offset_bound : goal.refused_text-requires-clause-offset_bound
-refused_text-requires-clause-offset_bound c =
+pub refused_text-requires-clause-at_bound : goal.refused_text-requires-clause-at_bound
+refused_text-requires-clause-at_bound c =
     omega (arith, c.requires.input_len_bound, stops_inside c.args.input.now c.requires.library_value (c.blank.ensures ∙ blank-table c.args.table.now c.requires.table_len) c.requires.scratch_len c.read.ensures.result_value _ c.in-Err.is)
 
 pub returns-in-Ok-clause-appends : goal.returns-in-Ok-clause-appends

@@ -17,8 +17,8 @@ load-requires-clause-lent c = (c.in_ok-board.ensures.lent _ refl).0
 pub load-requires-clause-in_bounds : goal.load-requires-clause-in_bounds
 load-requires-clause-in_bounds c = opened_long _ _ _ _ _ (sym c.in_ok-board.ensures.answer)
 
-pub load-requires-clause-in_force : goal.load-requires-clause-in_force
-load-requires-clause-in_force c = (c.in_ok-board.ensures.lent _ refl).1
+pub invariant_of-library : goal.invariant_of-library
+invariant_of-library c = record { in_force = (c.in_ok-board.ensures.lent _ refl).1 }
 
 pub returns-in_err-load-clause-result_value : goal.returns-in_err-load-clause-result_value
 returns-in_err-load-clause-result_value c =

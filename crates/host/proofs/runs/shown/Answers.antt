@@ -14,10 +14,6 @@ unfolding shown
 returns-then-columns-gt-MAX_VERTICES c =
     (simp (lt-leb _ max_vertices c.if-columns-gt-MAX_VERTICES.true, le-leb _ max_vertices c.if-rows-gt-MAX_VERTICES.false), omega arith)
 
-pub returns-then-cells-most : goal.returns-then-cells-most
-returns-then-cells-most c =
-    (omega (arith, shown_is c.args.rows c.args.columns c.args.cells (omega arith) (omega arith)), omega (arith, mul-le-mul c.if-rows-gt-MAX_VERTICES.false c.if-columns-gt-MAX_VERTICES.false))
-
 pub returns : goal.returns
 returns c =
     (omega (arith, shown_is c.args.rows c.args.columns c.args.cells (omega arith) (omega arith)), omega (arith, mul-le-mul c.if-rows-gt-MAX_VERTICES.false c.if-columns-gt-MAX_VERTICES.false))

@@ -13,13 +13,13 @@ use Rattle.paths.proofs.arrivals.push_from.Goals as goal
 pub push-requires : goal.push-requires
 push-requires c =
     let e : to_z w64 (of_z w64 (get_or c.args.f.now c.args.u (pos 0))) ≡ get_or c.args.f.now c.args.u (pos 0) = grind (arith, to_z-of_z) in
-    (omega arith, (omega arith, (omega arith, (alone _ (subst Reached (sym e) (reached _ (other_bits w64 c.if-a.true) c.requires.near)), (c.requires.pushable, omega (arith, c.requires.pushable.room))))))
+    (omega arith, (omega arith, (omega arith, (alone _ (subst Reached (sym e) (reached _ (other_bits w64 c.if-a.true) c.requires.near)), omega (arith, c.requires.room)))))
 
 pub returns-then-a : goal.returns-then-a
 returns-then-a c =
     let e : to_z w64 (of_z w64 (get_or c.args.f.now c.args.u (pos 0))) ≡ get_or c.args.f.now c.args.u (pos 0) = grind (arith, to_z-of_z) in
-    let row = c.args.row.now in
-    subst (λ (z : ℤ). Pushed (length row) row c.args.chain.now z c.args.f.now c.push.new.f) e (whole_pushed (c.push.ensures.pushed 0 (omega arith)) c.push.ensures.past)
+    let row = c.args.row.now.cells.now in
+    subst (λ (z : ℤ). Pushed (length row) row c.args.row.now.links.now z c.args.f.now c.push.new.f) e (whole_pushed (c.push.ensures.pushed 0 (omega arith)) c.push.ensures.past)
 
 pub returns-else-a : goal.returns-else-a
 returns-else-a c =

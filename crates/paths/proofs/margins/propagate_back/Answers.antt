@@ -1,24 +1,18 @@
-use Rattle.std.proofs.Common.{◌≡◌, ◌<◌, ℕ, ℤ, length, get_or, pos, w64, to_z, of_z, arith}
+use Rattle.std.proofs.Common.{◌≡◌, ℕ, ℤ, length, get_or, pos, w64, to_z, of_z, arith}
 use Rattle.std.proofs.lemmas.Int.{to_z-of_z}
 use mathlib.Core.Path.{subst}
 use Rattle.paths.specs.Margins.{Pulled}
 use Rattle.paths.proofs.Tables.{walk_passable}
-use Rattle.paths.proofs.Propagating.{pushable_row}
-use Rattle.paths.proofs.Pulling.{Pulling, pull_reach, pull_vertex, pull_back, pulled_all}
+use Rattle.paths.proofs.Pulling.{Pulling, pull_back, pulled_all}
 use Rattle.paths.proofs.margins.propagate_back.Goals as goal
-
-pub pull-requires-clause-pushable : goal.pull-requires-clause-pushable
-pull-requires-clause-pushable c =
-    let v : c.from-u.result < c.args.walk.now.table.board.vertices = rw c.from-u.ensures (pull_vertex (walk_passable c.args.walk.now) c.requires c.args.walk.now.chains c.loop-p.invariant c.loop-p-test.true) in
-    pushable_row (walk_passable c.args.walk.now) c.args.walk.now.chains c.from-u.result v c.loop-p.f (pull_reach (walk_passable c.args.walk.now) c.requires c.args.walk.now.chains c.loop-p.invariant c.loop-p-test.true).room c.row.result.now c.links.result.now c.row.ensures c.links.ensures
 
 pub loop-p-preserved : goal.loop-p-preserved
 loop-p-preserved c =
     let z : to_z w64 (of_z w64 c.pull.result) ≡ c.pull.result = grind (arith, to_z-of_z) in
     let x : to_z w64 (of_z w64 (get_or c.loop-p.f c.from-u.result (pos 0))) ≡ get_or c.loop-p.f c.from-u.result (pos 0) = grind (arith, to_z-of_z) in
     rw z
-    (pull_back (walk_passable c.args.walk.now) c.requires c.args.walk.now.chains c.loop-p.invariant c.loop-p-test.true c.from-u.result c.row.result.now c.links.result.now c.pull.result c.from-u.ensures c.row.ensures c.links.ensures
-    (subst (λ (y : ℤ). Pulled (length c.row.result.now) c.row.result.now c.links.result.now y c.loop-p.f c.pull.result) x c.pull.ensures))
+    (pull_back (walk_passable c.args.walk.now) c.requires c.args.walk.now.chains c.loop-p.invariant c.loop-p-test.true c.from-u.result c.row.result.cells.now c.row.result.links.now c.pull.result c.from-u.ensures c.row.ensures.cells c.row.ensures.links
+    (subst (λ (y : ℤ). Pulled (length c.row.result.cells.now) c.row.result.cells.now c.row.result.links.now y c.loop-p.f c.pull.result) x c.pull.ensures))
 
 pub returns : goal.returns
 returns c =

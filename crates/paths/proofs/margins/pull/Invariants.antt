@@ -7,7 +7,7 @@ use Rattle.paths.proofs.Pulling.{Gathered}
 use Rattle.paths.proofs.margins.pull.Given as goal
 
 abbrev pub invariant-loop-v : goal.invariant-loop-v
-invariant-loop-v l = Gathered (length l.row) (walked_at l.row l.chain) (read_cell absent_wide l.start) (arrival_in l.f) (read_cell absent_wide l.best) l.v
+invariant-loop-v l = Gathered (length l.row.cells.now) (walked_at l.row.cells.now l.row.links.now) (read_cell absent_wide l.start) (arrival_in l.f) (read_cell absent_wide l.best) l.v
 
 abbrev pub decreases-loop-v : goal.decreases-loop-v
-decreases-loop-v l = length l.row - l.v
+decreases-loop-v l = length l.row.cells.now - l.v

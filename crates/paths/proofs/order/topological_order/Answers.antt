@@ -1,4 +1,4 @@
-use Rattle.std.proofs.Common.{◌≡◌, ◌≢◌, Some, refl, cond, ℕ, ◌+◌, ◌*◌, ◌<◌, ◌≤◌, List, length, get_or, ℤ, sym, ap, ◌∙◌, arith, add-one, set, length-set, get_or-set_same, get_or-set_other}
+use Rattle.std.proofs.Common.{◌≡◌, ◌≢◌, Some, refl, cond, ℕ, ◌+◌, ◌*◌, ◌<◌, ◌≤◌, List, length, take, length-take, get_or, get_or-take, ℤ, sym, ap, ◌∙◌, arith, add-one, set, length-set, get_or-set_same, get_or-set_other}
 use native.Mathlib.Decide.{ℕ_discrete, dec_lt}
 use lib.Dec.{eqb, eqb→eq}
 use mathlib.Core.Path.{subst}
@@ -59,6 +59,14 @@ module _ (n : ℕ) (t : List ℤ) (o f₀ : List ℕ) (p from u : ℕ) (row : Li
     turn : Going n (graph_of n t) (set o p u) (set f u 100) (p + 1) × (cond (eqb u from) (u + 1) from ≤ n) × ((v : ℕ) → v < cond (eqb u from) (u + 1) from → 100 ≤ get_or (set f u 100) v 0)
     turn = (step, still_upto, still)
 
+-- a vertex whose count is 0 among the first n
+module _ (n : ℕ) (fan : List ℕ) (room : n ≤ length fan) where
+  part_long : length (take n fan) ≡ n
+  part_long = omega (arith, length-take n fan)
+
+  found : (u : ℕ) → (u < length (take n fan)) × (get_or (take n fan) u 0 ≡ 0) → (u < n) × (get_or fan u 0 ≡ 0)
+  found u h = (omega (arith, h.0, part_long), sym (get_or-take n fan u 0 (omega (arith, h.0, part_long))) ∙ h.1)
+
 pub loop-p-init : goal.loop-p-init
 loop-p-init c = record {
   fan_size = c.fans-fan.ensures.0;
@@ -78,19 +86,22 @@ returns-in_default c =
       order = λ o e. absurd (let q : ◌≡◌ {A = ℕ} 0 1 = cc in omega arith);
     }
   where
+    long : length (take c.args.table.now.board.vertices c.loop-p.fan) ≡ c.args.table.now.board.vertices
+    long = part_long c.args.table.now.board.vertices c.loop-p.fan (omega (arith, c.loop-p.invariant.fan_size, c.args.table.now.board.sized.few))
+
     waiting : (v : ℕ) → v < c.args.table.now.board.vertices → Dec (v < c.loop-p.from) → get_or c.loop-p.fan v 0 ≢ 0
     waiting v h (yes k) = λ e. omega (arith, c.loop-p.invariant.placed v k)
-    waiting v h (no k) = c.in_default.ensures v (omega arith) h
+    waiting v h (no k) = λ e. c.in_default.ensures v (omega arith) (omega (arith, h, long)) (get_or-take c.args.table.now.board.vertices c.loop-p.fan v 0 h ∙ e)
 
 pub lower-requires-clause-lowerable : goal.lower-requires-clause-lowerable
 lower-requires-clause-lowerable c =
-    let h = c.in-Some.ensures in
+    let h = found c.args.table.now.board.vertices c.loop-p.fan (omega (arith, c.loop-p.invariant.fan_size, c.args.table.now.board.sized.few)) c.in-Some.u (c.in-Some.ensures.0, c.in-Some.ensures.1) in
     let i = c.loop-p.invariant in
     lowerable c.args.table.now.board.vertices c.args.table.now.cells.now c.loop-p.order c.loop-p.fan c.loop-p.p c.loop-p.from c.in-Some.u c.row.result.now c.args.table.now.board.sized.few c.args.table.now.room i.going c.loop-p-test.true h.0 h.1 i.placed i.upto c.row.ensures
 
 pub loop-p-preserved : goal.loop-p-preserved
 loop-p-preserved c =
-    let h = c.in-Some.ensures in
+    let h = found c.args.table.now.board.vertices c.loop-p.fan (omega (arith, c.loop-p.invariant.fan_size, c.args.table.now.board.sized.few)) c.in-Some.u (c.in-Some.ensures.0, c.in-Some.ensures.1) in
     let i = c.loop-p.invariant in
     let e = turn c.args.table.now.board.vertices c.args.table.now.cells.now c.loop-p.order c.loop-p.fan c.loop-p.p c.loop-p.from c.in-Some.u c.row.result.now c.args.table.now.board.sized.few c.args.table.now.room i.going c.loop-p-test.true h.0 h.1 i.placed i.upto c.row.ensures c.lower.new.fan c.lower.ensures.0 c.lower.ensures.1 in
     record { fan_size = simp length-set c.lower.ensures.0; order_size = simp length-set i.order_size; going = e.0; upto = rw c.past-from.ensures e.1; placed = rw c.past-from.ensures e.2 }

@@ -19,7 +19,7 @@ returns-then-column_sums_fit c =
     let t = c.args.table.now.cells.now in
     let v = c.args.v in
     let d = c.args.d in
-    let lowered : to_z w32 (of_z w32 c.negated.result) ≡ neg_ℤ d = negated_is c.ranges.d c.requires.drives.legal c.negated.ensures in
+    let lowered : to_z w32 (of_z w32 c.negated.result) ≡ neg_ℤ d = negated_is d c.requires.drives.legal c.negated.ensures in
     simp (sym (rw (to_z-of_z w32 d c.ranges.d) at c.column_sums_fit.ensures) ∙ c.if-column_sums_fit.true)
     (c.row_sums_fit.ensures
     ∙ sums_row (at (to_z w32 (of_z w32 c.negated.result))) n t v _ c.row.ensures c.args.table.now.room c.requires.drives.from_below ∙ ap (λ (z : ℤ). every n (λ x. fits delay_limit (at z ⊕ graph_of n t v x))) lowered

@@ -3,11 +3,8 @@ use mir.Facts.{sfits_lit}
 use Rattle.laws.proofs.Signed.{same_bits, other_bits}
 use Rattle.timing.specs.Limits.{absent_wide}
 use Rattle.paths.specs.declared.board.Board.{Board}
-use Rattle.paths.specs.Arrivals.{Reached, Pushable}
+use Rattle.paths.specs.Arrivals.{Reached}
 use Rattle.paths.proofs.Tables.{walk_passable}
-use Rattle.paths.proofs.Rows.{lent}
-use Rattle.paths.proofs.Chaining.{lent_chain}
-use Rattle.paths.proofs.Propagating.{pushable}
 use Rattle.pruning.proofs.AliveSweep as A
 use Rattle.pruning.proofs.prune.sweep.Goals as goal
 use Rattle.paths.specs.Order.{rank_of}
@@ -28,28 +25,13 @@ mark_row-found-requires-clause-reached c =
     let bits : to_z w64 (of_z w64 a) ≡ a = search rules in
     rw c.from-u.ensures (subst Reached (sym bits) (A.reached S l.f l.marks q (going l.p c.loop-p-test.true l.invariant _ S) (other_bits w64 {b = absent_wide} (rw c.from-u.ensures at c.if-a.true))))
 
-pub mark_row-found-requires-clause-pushable : goal.mark_row-found-requires-clause-pushable
-mark_row-found-requires-clause-pushable c =
-    let l = c.loop-p in
-    let q = l.p - 1 in
-    let b = c.args.walk.now.table.board in
-    let x = get_or c.args.walk.now.order.now q 0 in
-    let p = (walk_passable c.args.walk.now) in
-    let S : A.Sweep b c.requires.from_input.input c.args.walk.now.table.cells.now c.args.walk.now.order.now c.args.f.now c.args.marks.now =
-    record { passable = p; delays = c.requires.from_input.delays; cells = c.requires.marks_room } in
-    let now = going l.p c.loop-p-test.true l.invariant _ S in
-    let vertex = A.x_in S l.f l.marks q now in
-    rw c.from-u.ensures
-    (subst (λ (z : ℕ). Pushable z (lent b.vertices c.args.walk.now.table.cells.now x p.checked.lent vertex) (lent_chain c.args.walk.now.chains x p.checked.lent vertex) l.f) (sym (A.part_length S l.f l.marks q now))
-    (pushable p c.args.walk.now.chains x vertex l.f (omega (arith, S.delays.room, now.long))))
-
 pub loop-p-preserved-then-not-is_alive : goal.loop-p-preserved-then-not-is_alive
 loop-p-preserved-then-not-is_alive c j w =
     let l = c.loop-p in
     let a = get_or l.f (get_or c.args.walk.now.order.now (l.p - 1) 0) (pos 0) in
     let bits : to_z w64 (of_z w64 a) ≡ a = search rules in
     rw c.from-u.ensures (A.turn_dead w l.f l.marks (l.p - 1) (going l.p c.loop-p-test.true l.invariant j w) c.args.walk.now.chains c.mark_row-found.new.marks c.mark_row-found.result c.is_alive.result
-    (rw (c.from-u.ensures, bits) at c.mark_row-found.ensures) (other_bits w64 {b = absent_wide} (rw c.from-u.ensures at c.if-a.true)) (rw c.from-u.ensures at c.is_alive.ensures) (rw c.from-u.ensures at c.mark_row-found.auto.marks) c.if-not-is_alive.true)
+    (rw (c.row.ensures.cells, c.row.ensures.links, c.from-u.ensures, bits) at c.mark_row-found.ensures) (other_bits w64 {b = absent_wide} (rw c.from-u.ensures at c.if-a.true)) (rw c.from-u.ensures at c.is_alive.ensures) (rw c.from-u.ensures at c.mark_row-found.auto.marks) c.if-not-is_alive.true)
 
 pub loop-p-preserved-else-not-is_alive : goal.loop-p-preserved-else-not-is_alive
 loop-p-preserved-else-not-is_alive c j w =
@@ -57,7 +39,7 @@ loop-p-preserved-else-not-is_alive c j w =
     let a = get_or l.f (get_or c.args.walk.now.order.now (l.p - 1) 0) (pos 0) in
     let bits : to_z w64 (of_z w64 a) ≡ a = search rules in
     rw c.from-u.ensures (A.turn_alive w l.f l.marks (l.p - 1) (going l.p c.loop-p-test.true l.invariant j w) c.args.walk.now.chains c.mark_row-found.new.marks c.mark_row-found.result c.is_alive.result
-    (rw (c.from-u.ensures, bits) at c.mark_row-found.ensures) (other_bits w64 {b = absent_wide} (rw c.from-u.ensures at c.if-a.true)) (rw c.from-u.ensures at c.is_alive.ensures) (rw c.from-u.ensures at c.mark_row-found.auto.marks) c.if-not-is_alive.false)
+    (rw (c.row.ensures.cells, c.row.ensures.links, c.from-u.ensures, bits) at c.mark_row-found.ensures) (other_bits w64 {b = absent_wide} (rw c.from-u.ensures at c.if-a.true)) (rw c.from-u.ensures at c.is_alive.ensures) (rw c.from-u.ensures at c.mark_row-found.auto.marks) c.if-not-is_alive.false)
 
 pub loop-p-preserved : goal.loop-p-preserved
 loop-p-preserved c j w =

@@ -26,9 +26,9 @@ shares-two-requires-clause-held c =
 quiet_1 : (c : After-shares-one) → c.shares-one.result ≡ c.args.steps → c.shares-one.new.table ≡ c.args.table.now
 quiet_1 c = let b = c.args.board in quiet_on b (side_tries b Inputs) (progress c.args.table.now c.args.steps) (progress c.shares-one.new.table c.shares-one.result) (share_tries_gain b.inputs b.outputs b.vertices Inputs) c.shares-one.ensures.leads
 
-pub shares-two-requires-clause-known : goal.shares-two-requires-clause-known
-shares-two-requires-clause-known c =
-    let one = (goal.at.shares-two-requires-clause-known c).After-shares-one in
+pub shares-two-requires-clause-given : goal.shares-two-requires-clause-given
+shares-two-requires-clause-given c =
+    let one = (goal.at.shares-two-requires-clause-given c).After-shares-one in
     (order_of_known c.args.board c.args.table.now c.shares-one.new.table c.args.known c.requires.known_of c.known_order.result c.args.steps c.shares-one.result c.known_order.ensures (quiet_1 one), tt)
 
 running_2 : (c : After-shares-two) → Running c.args.board (progress c.shares-two.new.table c.shares-two.result)

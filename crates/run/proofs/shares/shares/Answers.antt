@@ -16,7 +16,7 @@ use Rattle.run.proofs.shares.shares.Goals.{then-a-b-via-then-a-b, then-a-b-via-e
 pub returns-then-not-is_open-clause-leads : goal.returns-then-not-is_open-clause-leads
 returns-then-not-is_open-clause-leads g c =
     let a = c.args in
-    full_stays a.board a.table.now g.S.Side.side a.steps c.requires.running (c.is_open.ensures a.board a.table.now c.requires.known c.if-not-is_open.true)
+    full_stays a.board a.table.now g.S.Side.side a.steps c.requires.running (c.is_open.ensures a.board a.table.now c.begin.ensures c.if-not-is_open.true)
 
 pub seconds-init : goal.seconds-init
 seconds-init g c =

@@ -5,8 +5,8 @@ use Rattle.timing.specs.Table.{graph_of}
 use Rattle.reduction.specs.Star.{covered}
 use Rattle.stars.specs.StarCells.{gap, meeting}
 use Rattle.stars.specs.StarReady.{Bundle}
-use Rattle.stars.proofs.Members.{sum_over_turn, sum_over_end, below_at, below_wider, member_at, some-member}
-use Rattle.stars.proofs.Sets.{set-size, row_cells, row_wide}
+use Rattle.stars.proofs.Members.{sum_over_turn, sum_over_end, below_at, member_at, some-member}
+use Rattle.stars.proofs.Sets.{set-size, set_wider, row_cells, row_wide}
 use Rattle.stars.proofs.CentreCells.{first_row, meeting_few, all_sum, row_sum}
 use Rattle.stars.proofs.star.covered_arcs.Goals as goal
 
@@ -18,17 +18,17 @@ few_more n S Ts g b few row first c i e l =
 pub row-requires : goal.row-requires
 row-requires c = let b = c.requires.sources in below_at c.args.table.now.board.vertices c.args.sources.now b.under 0 (some-member c.args.sources.now b.some)
 
-pub row-row-requires : goal.row-row-requires
-row-row-requires c = below_at c.args.table.now.board.vertices c.args.sources.now c.requires.sources.under c.loop-s.s-index c.loop-s-test.true
+pub row-requires-in-loop-s : goal.row-requires-in-loop-s
+row-requires-in-loop-s c = below_at c.args.table.now.board.vertices c.args.sources.now c.requires.sources.under c.loop-s.s-index c.loop-s-test.true
 
-pub covered_of-covered-requires-clause-in_row : goal.covered_of-covered-requires-clause-in_row
-covered_of-covered-requires-clause-in_row c =
+pub invariant_of-arcs : goal.invariant_of-arcs
+invariant_of-arcs c = record { targets_set = set_wider _ 90 c.args.targets.now c.args.table.now.board.sized.few c.requires.targets }
+
+pub covered_of-covered-requires : goal.covered_of-covered-requires
+covered_of-covered-requires c =
     let n = c.args.table.now.board.vertices in
     let b = c.requires in
-    row_wide n c.args.table.now.cells.now _ _ c.row-row.ensures (below_at n _ b.sources.under c.loop-s.s-index c.loop-s-test.true) c.args.targets.now b.targets.under c.args.table.now.room
-
-pub covered_of-covered-requires-clause-in_first : goal.covered_of-covered-requires-clause-in_first
-covered_of-covered-requires-clause-in_first c = below_wider _ 90 c.args.targets.now c.args.table.now.board.sized.few c.requires.targets.under
+    row_wide n c.args.table.now.cells.now _ _ c.row-in-loop-s.ensures (below_at n _ b.sources.under c.loop-s.s-index c.loop-s-test.true) c.args.targets.now b.targets.under c.args.table.now.room
 
 pub overflow_add-covered : goal.overflow_add-covered
 overflow_add-covered c =
@@ -53,9 +53,9 @@ loop-s-preserved c =
     let first = c.row_copy-first.result in
     let head = first_row n t S first (below_at n S b.sources.under 0 (some-member S b.sources.some)) c.args.table.now.board.sized.few room c.row.ensures c.row_copy-first.ensures in
     let source = member_at S i c.loop-s-test.true in
-    let row_is = row_cells n t u _ c.row-row.ensures low in
+    let row_is = row_cells n t u _ c.row-in-loop-s.ensures low in
     let saved : ℕ → ℕ = λ s. sum n (λ t'. cond (covered S Ts (graph_of n t) s t') 1 0) in
-    let saved_is : saved u ≡ c.covered_of-covered.result = row_sum b first head u source c.row-row.result.now row_is ∙ sym c.covered_of-covered.ensures in
+    let saved_is : saved u ≡ c.covered_of-covered.result = row_sum b first head u source c.row-in-loop-s.result.now row_is ∙ sym c.covered_of-covered.ensures in
     record {
       few = omega (arith, few_more _ _ _ _ b c.args.table.now.board.sized.few _ _ c.covered_of-covered.result i c.covered_of-covered.ensures c.loop-s-test.true, l.invariant.few);
       so_far = omega (arith, saved_is, l.invariant.so_far, sum_over_turn S i c.loop-s-test.true saved);

@@ -17,6 +17,7 @@ use Rattle.reduction.specs.Star.{first_of, to_centre, starred}
 use Rattle.stars.specs.StarCells.{least_gap, cell_after}
 use Rattle.stars.specs.StarReady.{StarReady}
 use Rattle.stars.proofs.Members.{below_at, below_wider, some-member}
+use Rattle.stars.proofs.Sets.{set_wider}
 use Rattle.stars.proofs.CentreCells.{first_row, gap_is}
 use Rattle.stars.proofs.StarTable.{row_made}
 use Rattle.stars.proofs.RowCells.{of_centre, of_source, of_other}
@@ -55,6 +56,12 @@ row-requires-clause-u_lt_n c = let b = c.requires.star_ready_on.bundle.sources i
 
 pub marks-is_source-requires : goal.marks-is_source-requires
 marks-is_source-requires c = below_wider c.args.board.vertices 90 c.args.sources.now c.args.board.sized.few c.requires.star_ready_on.bundle.sources.under
+
+pub invariant_of-arcs : goal.invariant_of-arcs
+invariant_of-arcs c = record { targets_set = set_wider _ 90 c.args.targets.now c.args.board.sized.few c.requires.star_ready_on.bundle.targets }
+
+pub invariant_of-arcs-then-is_source-u : goal.invariant_of-arcs-then-is_source-u
+invariant_of-arcs-then-is_source-u c = record { targets_set = set_wider _ 90 c.args.targets.now c.args.board.sized.few c.requires.star_ready_on.bundle.targets }
 
 pub loop-u-init : goal.loop-u-init
 loop-u-init c = rows_none _ _ _

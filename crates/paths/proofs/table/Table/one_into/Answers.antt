@@ -1,8 +1,10 @@
-use Rattle.paths.proofs.Columns.{none_not_one, one_says}
+use Rattle.std.proofs.Common.{sym, ◌∙◌}
+use Rattle.laws.proofs.Booleans.{not_is}
+use Rattle.paths.proofs.Columns.{not_one, one_says}
 use Rattle.paths.proofs.table.Table.one_into.Goals as goal
 
-pub returns-then-u-n : goal.returns-then-u-n
-returns-then-u-n c = one_says _ _ _ c.next_into-u.result c.next_into-u.ensures c.if-u-n.true c.next_into.result c.next_into.ensures
+pub returns-in-Some : goal.returns-in-Some
+returns-in-Some c = not_is c.is_none.ensures ∙ sym (one_says _ _ _ c.in-Some.u c.in-Some.ensures c.next_into-in-Some.result c.next_into-in-Some.ensures)
 
-pub returns-else-u-n : goal.returns-else-u-n
-returns-else-u-n c = none_not_one _ _ _ c.next_into-u.result c.next_into-u.ensures c.if-u-n.false
+pub returns-in-None : goal.returns-in-None
+returns-in-None c = sym (not_one _ _ _ c.in-None.ensures)

@@ -1,4 +1,3 @@
-use Rattle.std.proofs.Common.{◌≡◌, w32, to_z, of_z, rules}
 use Rattle.plans.proofs.MergedTable.{row_mergeable, row_merged}
 use Rattle.plans.proofs.merge_back.MergeBackRewriting.rewrite_row.Goals as goal
 
@@ -6,10 +5,7 @@ pub merge_row-requires : goal.merge_row-requires
 merge_row-requires c =
     let h = c.requires.2 in
     let r = c.requires.3 in
-    let e : to_z w32 (of_z w32 c.args.self.now.d) ≡ c.args.self.now.d = search rules in
-    rw e (row_mergeable r.copied h.0 c.args.u r.below c.args.row.now r.is h.1)
+    row_mergeable r.copied h.0 c.args.u r.below c.args.row.now r.is h.1
 
 pub returns : goal.returns
-returns c N t h r =
-    let e : to_z w32 (of_z w32 c.args.self.now.d) ≡ c.args.self.now.d = search rules in
-    row_merged r.copied h.0 c.args.u r.below c.args.row.now r.is (rw e at c.merge_row.ensures)
+returns c N t h r = row_merged r.copied h.0 c.args.u r.below c.args.row.now r.is c.merge_row.ensures

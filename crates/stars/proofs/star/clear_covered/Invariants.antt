@@ -1,7 +1,0 @@
-use Rattle.std.proofs.Common.{get_or, pos}
-use Rattle.stars.specs.StarCells.{cleared_cell}
-use Rattle.stars.proofs.Rewriting.{Rewriting}
-use Rattle.stars.proofs.star.clear_covered.Given as goal
-
-abbrev pub invariant-loop-t : goal.invariant-loop-t
-invariant-loop-t l = Rewriting l.targets (λ v. get_or l.fn.row v (pos 0)) (cleared_cell l.fn.row l.first l.targets l.e) l.row l.t-index
