@@ -13,7 +13,7 @@
 
 #include "board.h"
 
-enum { INPUTS = 2, OUTPUTS = 3, VERTICES = 8, CELLS = VERTICES * VERTICES, PAIRS = INPUTS * OUTPUTS };
+enum { INPUTS = 2, OUTPUTS = 3, VERTICES = 8, CELLS = VERTICES * VERTICES, SCRATCH = 4 * VERTICES, PAIRS = INPUTS * OUTPUTS };
 
 enum { CARD_READER, LOOM_CLOCK, HOOK_DRIVE, WEFT_BRAKE, RUN_LAMP, LATCH, LEVEL_SHIFTER, DECODER };
 
@@ -47,7 +47,7 @@ struct matrix {
 };
 
 /* lent to every call */
-static uint8_t scratch[8 * CELLS];
+static uint8_t scratch[8 * SCRATCH];
 
 /* cells, low byte first on every machine */
 static void put_cell(uint8_t *p, int32_t x)

@@ -9,13 +9,13 @@
  *
  *   table     cells of 4 bytes. Cell N * u + v is the delay of the arc from u to v in ticks, from -1000000000 to
  *             1000000000, or BOARD_NO_ARC. The first N * N cells are used.
- *   scratch   cells of 8 bytes, at least N * N of them; what they hold does not matter, and stays.
+ *   scratch   cells of 8 bytes, at least 4 * N of them; what they hold does not matter, and stays.
  *   matrix    cells of 8 bytes. Cell n * i + j is the greatest delay of a path from input i to output j, or
  *             BOARD_NO_PATH. The first m * n cells are written.
  *
  * Lengths are in bytes. Cells past those named here stay as they were, and so do bytes after the last whole cell of a
  * run, which don't count. A run needs no alignment. No pointer may be NULL, not even with length 0, and no two runs of
- * one call may overlap. The calls keep no state, allocate nothing and take about 125 KB of stack; calls at the same time
+ * one call may overlap. The calls keep no state, allocate nothing and take about 63 KB of stack; calls at the same time
  * are fine as long as they share no run that one of them writes.
  *
  * An answer below 0 is a refusal: minus one of the numbers below, the first that applies in the order listed. A refused
@@ -23,7 +23,7 @@
  *
  *    1  m, n or N is outside the limits
  *    2  the table has fewer than N * N whole cells
- *    3  the scratch has fewer than N * N whole cells
+ *    3  the scratch has fewer than 4 * N whole cells
  *    4  a cell of the table is neither BOARD_NO_ARC nor a delay in range
  *    5  an arc leads into an input
  *    6  the arcs have a cycle, an arc from a vertex to itself included

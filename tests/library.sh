@@ -51,7 +51,7 @@ table() {
 { head -c 30 examples/mill.cl; number 2 3; } > "$work/short.cl"
 {
     number 8 3 2 9
-    number 2 81 81
+    number 2 81 36
     for ((k = 0; k < 81; k++)); do number 4 2147483648; done
     file_call 13 examples/mill.cl
     file_call 11 examples/late-card-reader.bd

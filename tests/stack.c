@@ -12,7 +12,7 @@
 
 #include "board.h"
 
-enum { N = 90, ENDS = 30, CELLS = N * N, ROOM = 1 << 21, PAINT = 0xa5 };
+enum { N = 90, ENDS = 30, CELLS = N * N, SCRATCH = 4 * N, ROOM = 1 << 21, PAINT = 0xa5 };
 
 /* the exports of crates/meter: cells, and a length in cells after each pointer */
 uint64_t meter_matrix(uint64_t, uint64_t, uint64_t, const int32_t *, uint64_t, int64_t *, uint64_t, int64_t *, uint64_t);
@@ -23,20 +23,20 @@ uint64_t meter_run(uint64_t, uint64_t, uint64_t, int32_t *, uint64_t, int64_t *,
 
 /* x86-64 keeps a number's low byte first, so that a run of cells is a run of their bytes */
 static int32_t table[CELLS];
-static int64_t scratch[CELLS], matrix[CELLS];
+static int64_t scratch[SCRATCH], matrix[CELLS];
 static int64_t given[ENDS], due[ENDS], times[3][N];
 
 #define SIZES ENDS, ENDS, N
 #define BYTES(run) (uint8_t *)(run), sizeof(run)
 
 static void none(void) {}
-static void matrix_call(void) { meter_matrix(SIZES, table, CELLS, scratch, CELLS, matrix, CELLS); }
+static void matrix_call(void) { meter_matrix(SIZES, table, CELLS, scratch, SCRATCH, matrix, CELLS); }
 static void margins_call(void)
 {
-    meter_margins(SIZES, table, CELLS, scratch, CELLS, given, ENDS, due, ENDS, times[0], N, times[1], N, times[2], N);
+    meter_margins(SIZES, table, CELLS, scratch, SCRATCH, given, ENDS, due, ENDS, times[0], N, times[1], N, times[2], N);
 }
-static void prune_call(void) { meter_prune(SIZES, table, CELLS, scratch, CELLS); }
-static void run_call(void) { meter_run(SIZES, table, CELLS, scratch, CELLS); }
+static void prune_call(void) { meter_prune(SIZES, table, CELLS, scratch, SCRATCH); }
+static void run_call(void) { meter_run(SIZES, table, CELLS, scratch, SCRATCH); }
 static void board_matrix_call(void) { board_matrix(SIZES, BYTES(table), BYTES(scratch), BYTES(matrix)); }
 static void board_prune_call(void) { board_prune(SIZES, BYTES(table), BYTES(scratch)); }
 static void board_shrink_call(void)

@@ -25,9 +25,10 @@ echo "|---|---:|---:|"
 for call in matrix margins; do row "$call" "$("$work/stack" "$call")" 12288; done
 row prune "$("$work/stack" prune)" 20480
 row run "$("$work/stack" run)" 36864
-row board_matrix "$("$work/stack" board_matrix)" 126976
-for call in board_shrink board_prune; do row "$call" "$("$work/stack" "$call")" 122880; done
-row thin "$(process crates/thin/stdin)" 290816
+row board_matrix "$("$work/stack" board_matrix)" 65536
+row board_shrink "$("$work/stack" board_shrink)" 38912
+row board_prune "$("$work/stack" board_prune)" 57344
+row thin "$(process crates/thin/stdin)" 227328
 if [ "$above" -gt 0 ]; then
     echo "stack: $above above their limit" >&2
     exit 1

@@ -53,7 +53,7 @@ fn lent(name: &str) -> Result<Lent, String> {
     }
     Ok(Lent {
         sizes,
-        scratch: vec![0; table.len()],
+        scratch: vec![0; 4 * board.vertices],
         matrix: vec![0; board.inputs * board.outputs],
         at_inputs: (0..board.inputs).map(|i| 100 * i as i64).collect(),
         at_outputs: (0..board.outputs).map(|j| 10_000 - 100 * j as i64).collect(),

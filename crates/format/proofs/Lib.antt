@@ -2,6 +2,7 @@ pub mod Examples
 pub mod Rising
 pub mod Parsing
 pub mod RoundTrip
+pub mod AnyScratch
 pub mod AcceptedRecords
 pub mod Readings
 pub mod Carrying

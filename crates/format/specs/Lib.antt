@@ -5,6 +5,7 @@ pub mod LibraryFile
 pub mod Arcs
 pub mod Writing
 pub mod RoundTrip
+pub mod AnyScratch
 pub mod InRange
 pub mod Text
 pub mod Examples

@@ -2,7 +2,7 @@
 use Rattle.std.specs.Prelude.{List, [], ◌∷◌, ◌++◌, ℕ, zero, suc, ◌+◌, ◌*◌, ◌/◌, ◌%◌, ◌^◌, ltb, ℤ, pos, negsuc}
 use Rattle.laws.specs.Bounded.{first}
 use Rattle.laws.specs.Lists.{tabulate}
-use Rattle.timing.specs.Limits.{max_vertices, absent_cell}
+use Rattle.timing.specs.Limits.{max_vertices, absent_cell, scratch_cells}
 use Rattle.timing.specs.Refusal.{Verdict, refused, accepted}
 use Rattle.timing.specs.Table.{graph_of}
 use Rattle.reduction.specs.Outcome.{Reduced}
@@ -84,18 +84,21 @@ abbrev pub run_text : BoardSizes → Verdict Reduced → List ℕ
 run_text b (refused r) = refused_line r 0
 run_text b (accepted r) = reduced_text b r
 
--- the most cells that a board has
+-- the most cells that a board has, and a scratch needs
 abbrev pub most_cells : ℕ
 most_cells = max_vertices * max_vertices
 
+abbrev pub most_scratch : ℕ
+most_scratch = scratch_cells max_vertices
+
 abbrev pub text_of : List ℤ → Reading BoardSizes → List ℕ
 text_of t (stopped r p) = refused_line r p
-text_of t (got b) = run_text b (run_call b.inputs b.outputs b.vertices most_cells t)
+text_of t (got b) = run_text b (run_call b.inputs b.outputs b.vertices most_scratch t)
 
--- a table and a scratch of the most cells, the table absent
+-- a table of the most cells, all absent
 abbrev pub blank : List ℤ
 blank = tabulate most_cells (λ _. absent_cell)
 
 -- the file is read under the built-in library
 unfoldable pub thin_text : List ℕ → List ℕ
-thin_text s = text_of (table_read built_in s blank most_cells) (read_call built_in s blank most_cells)
+thin_text s = text_of (table_read built_in s blank most_scratch) (read_call built_in s blank most_scratch)

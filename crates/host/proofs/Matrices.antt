@@ -24,7 +24,7 @@ use Rattle.host.specs.Runs.{whole_cells, cells_of, with_cells}
 use Rattle.host.specs.Shown.{shown, pairs_shown}
 use Rattle.host.specs.Answers.{matrix_answer, matrix_bytes}
 use Rattle.host.proofs.Kept.{length-cells, new_cells}
-use Rattle.host.proofs.Shown.{shown_is, shown_enough, Small, small, checked_same, checked-room, Copy}
+use Rattle.host.proofs.Shown.{shown_is, shown_enough, Small, small, checked_same, checked-room, lent_on, Copy}
 
 pub length-matrix : (m n N : ℕ) (g : Graph) → length (matrix_cells m n N g) ≡ m * n
 unfolding matrix_cells
@@ -91,7 +91,6 @@ module _ {m n N s : ℕ} {table bytes : List ℕ} {t' d' after : List ℤ} {r : 
   pub refuses : (x : Refusal) → r ≡ Err x → (neg_ℤ (pos (number x)) ≡ matrix_answer verdict) × (bytes ≡ matrix_bytes verdict bytes)
   refuses x e = let h = said (Err x) e in (h.answer, h.after)
 
--- the scratch that is lent on
-pub matrix-room : (m n N s : ℕ) (t d : List ℤ) → matrix_call m n N (shown N N s) t d ≡ matrix_call m n N s t d
+pub matrix-room : (m n N s : ℕ) (t d : List ℤ) → matrix_call m n N (lent_on s) t d ≡ matrix_call m n N s t d
 unfolding matrix_call
 matrix-room m n N s t d = ap (λ (v : Verdict Graph). v then matrix_into m n N d) (checked-room m n N s t)

@@ -1,6 +1,6 @@
 -- The cells that are shown to a call are all that it looks at: the checks say the same of them as of the whole runs.
 use mathlib.Core.Path.{◌≡◌, refl, sym, ap, ◌∙◌, fun_ext}
-use mathlib.Core.Bool.{Bool, true, false, cond, ◌&&◌}
+use mathlib.Core.Bool.{true, cond, ◌&&◌}
 use mathlib.Core.List.{List}
 use Prim.Native.Nat.{ℕ, ◌+◌, ◌*◌, ◌≤◌, ◌<◌, min}
 use native.Mathlib.Decide.{dec_le}
@@ -16,13 +16,12 @@ use Rattle.laws.proofs.Lists.{length-tabulate, get_d_tabulate}
 use Rattle.laws.proofs.Grid.{row_in}
 use Rattle.graph.specs.Delay.{absent}
 use Rattle.graph.specs.Graph.{Graph}
-use Rattle.timing.specs.declared.Refusal.{Refusal}
-use Rattle.timing.specs.declared.Refusal.TheVariants.{Sizes, TableShort, ScratchShort, OddCell}
-use Rattle.timing.specs.Limits.{max_vertices, absent_cell}
+use Rattle.timing.specs.declared.Refusal.TheVariants.{OddCell}
+use Rattle.timing.specs.Limits.{max_vertices, absent_cell, scratch_cells}
 use Rattle.timing.specs.Refusal.{Verdict, refused, accepted, require, ◌then◌}
 use Rattle.timing.specs.Table.{read_cell, graph_of}
-use Rattle.timing.specs.Checks.{sizes_fit, table_fits, scratch_fits, cells_fit, memory_checked, arcs_checked, checked}
-use Rattle.timing.proofs.Checks.{memory_accepted}
+use Rattle.timing.specs.Checks.{sizes_fit, scratch_fits, cells_fit, memory_checked, arcs_checked, checked}
+use Rattle.timing.proofs.Checks.{memory_accepted, memory_same, checked_same_scratch}
 use Rattle.timing.proofs.Most.{pairs-most}
 use Rattle.host.specs.Runs.{whole_cells, run_cell, cells_of}
 use Rattle.host.specs.Shown.{shown, most_pairs}
@@ -60,14 +59,6 @@ small m n N t =
     let roles = leb→le (m + n) N (and_e (leb 1 m && leb 1 n) (leb (m + n) N) p.0).1 in
     record { inputs = omega arith; outputs = omega arith; vertices = few; pairs = pairs-most m n (omega arith) }
 
--- the same test, and the same verdict where it holds
-require_same : {A : Type 0} (b b' : Bool) (r : Refusal) (x x' : Verdict A) → b' ≡ b → (T b → x' ≡ x) → require b' r x' ≡ require b r x
-require_same b b' r x x' e f = ap (λ (y : Bool). require y r x') e ∙ go b f
-  where
-    go : (b : Bool) → (T b → x' ≡ x) → require b r x' ≡ require b r x
-    go true f = f tt
-    go false f = refl
-
 -- t' has the first cells of t
 pub record Front (t' t : List ℤ) : Type 0 where
   pub same : (i : ℕ) → i < length t' → get_or t' i (pos 0) ≡ get_or t i (pos 0)
@@ -93,9 +84,7 @@ unfolding checked
 checked_same m n N s t' t f e = ap (λ (v : Verdict (Unit {0})). v then λ _. graph_checks m N (graph_of N t')) memory ∙ of (memory_checked m n N s t) refl
   where
     memory : memory_checked m n N s t' ≡ memory_checked m n N s t
-    memory = require_same (sizes_fit m n N) _ Sizes _ _ refl (λ p.
-        let q = (small m n N p).vertices in
-        ap (λ (b : Bool). require b TableShort (require (scratch_fits N s) ScratchShort (accepted tt))) (ap (leb (N * N)) e ∙ shown_enough N N (length t) q q))
+    memory = memory_same m n N s s t' t (λ p. let q = (small m n N p).vertices in (ap (leb (N * N)) e ∙ shown_enough N N (length t) q q, refl))
 
     of : (v : Verdict (Unit {0})) → memory_checked m n N s t ≡ v → (v then λ _. graph_checks m N (graph_of N t')) ≡ (v then λ _. graph_checks m N (graph_of N t))
     of (refused r) k = refl
@@ -104,12 +93,16 @@ checked_same m n N s t' t f e = ap (λ (v : Verdict (Unit {0})). v then λ _. gr
         let q = (small m n N p.sizes).vertices in
         ap (graph_checks m N) (graph_same N t' t f (omega (arith, e, shown_is N N (length t) q q, leb→le (N * N) (length t) p.table)))
 
--- check 3 sees of the scratch that it is long enough
-pub checked-room : (m n N s : ℕ) (t : List ℤ) → checked m n N (shown N N s) t ≡ checked m n N s t
-unfolding checked
-checked-room m n N s t = ap (λ (v : Verdict (Unit {0})). v then λ _. graph_checks m N (graph_of N t)) (require_same (sizes_fit m n N) _ Sizes _ _ refl (λ p.
-    let q = (small m n N p).vertices in
-    ap (λ (b : Bool). require (table_fits N t) TableShort (require b ScratchShort (accepted tt))) (shown_enough N N s q q)))
+-- of a scratch no more cells are lent on than a board can use
+abbrev pub lent_on : ℕ → ℕ
+lent_on s = min s (scratch_cells max_vertices)
+
+pub checked-room : (m n N s : ℕ) (t : List ℤ) → checked m n N (lent_on s) t ≡ checked m n N s t
+checked-room m n N s t = checked_same_scratch m n N (lent_on s) s t (λ p. enough (small m n N p).vertices (dec_le (scratch_cells N) s))
+  where
+    enough : N ≤ max_vertices → Dec (scratch_cells N ≤ s) → scratch_fits N (lent_on s) ≡ scratch_fits N s
+    enough h (yes e) = le-leb (scratch_cells N) _ (omega arith) ∙ sym (le-leb (scratch_cells N) s e)
+    enough h (no n) = lt-leb (scratch_cells N) _ (omega arith) ∙ sym (lt-leb (scratch_cells N) s (omega arith))
 
 -- t' is the copy of a table's cells that the calls below get
 pub record Copy (N : ℕ) (s : List ℕ) (t' : List ℤ) : Type 0 where

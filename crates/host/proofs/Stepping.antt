@@ -25,10 +25,9 @@ use Rattle.reduction.specs.Steps.{Step, plan, step_on, step_call}
 use Rattle.steps.specs.Reduces.{reduced_meaning, Reduces}
 use Rattle.codec.proofs.Places.{AreBytes}
 use Rattle.host.specs.Runs.{whole_cells, cells_of, with_cells}
-use Rattle.host.specs.Shown.{shown}
 use Rattle.host.specs.Answers.{step_answer, table_bytes}
 use Rattle.host.proofs.Kept.{length-cells, new_cells}
-use Rattle.host.proofs.Shown.{shown_is, small, checked_same, checked-room, Copy}
+use Rattle.host.proofs.Shown.{shown_is, small, checked_same, checked-room, lent_on, Copy}
 
 then_joins : {A B C : Type 0} (x : Verdict A) (f : A → Verdict B) (h : B → Verdict C) → (x then λ a. f a then h) ≡ (x then f then h)
 then_joins (refused r) f h = refl
@@ -115,7 +114,6 @@ module _ {m n N s : ℕ} {q : Step} {bytes : List ℕ} {t' after : List ℤ} {r 
   pub refuses : (x : Refusal) → r ≡ Err x → (neg_ℤ (pos (number x)) ≡ step_answer verdict) × (bytes ≡ table_bytes verdict bytes)
   refuses x e = (said_answer (Err x) e, said_bytes (Err x) e)
 
--- the scratch that is lent on
-pub step_room : (m n N s : ℕ) (q : Step) (t : List ℤ) → step_call m n N (shown N N s) q t ≡ step_call m n N s q t
+pub step_room : (m n N s : ℕ) (q : Step) (t : List ℤ) → step_call m n N (lent_on s) q t ≡ step_call m n N s q t
 unfolding step_call
 step_room m n N s q t = ap (λ (v : Verdict Graph). v then step_on m n N q t) (checked-room m n N s t)

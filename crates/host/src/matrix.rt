@@ -49,10 +49,10 @@ pub fn matrix(
     ensures matrix_after { matrix.new ≡ matrix_bytes (matrix_over inputs outputs vertices table.now scratch.now matrix.old) matrix.old }
 {
     let count = runs::shown(vertices, vertices, table.len() / 4);
-    let room = runs::shown(vertices, vertices, scratch.len() / 8);
+    let room = (scratch.len() / 8).min(Board::MAX_SCRATCH);
     let pairs = runs::pairs_shown(inputs, outputs, matrix.len() / 8);
     let mut cells = [0; Board::MAX_CELLS];
-    let mut wide = [0; Board::MAX_CELLS];
+    let mut wide = [0; Board::MAX_SCRATCH];
     let mut delays = [0; Board::MAX_PAIRS];
     matrix_in(
         inputs,

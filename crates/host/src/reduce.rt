@@ -47,9 +47,9 @@ pub fn reduce<S: Step>(
     ensures table_after { table.new ≡ table_bytes (step_over inputs outputs vertices (S.meaning step.now) table.old scratch.now) table.old }
 {
     let count = runs::shown(vertices, vertices, table.len() / 4);
-    let room = runs::shown(vertices, vertices, scratch.len() / 8);
+    let room = (scratch.len() / 8).min(Board::MAX_SCRATCH);
     let mut cells = [0; Board::MAX_CELLS];
-    let mut wide = [0; Board::MAX_CELLS];
+    let mut wide = [0; Board::MAX_SCRATCH];
     reduce_in(
         inputs,
         outputs,

@@ -2,8 +2,7 @@
 use mathlib.Core.Path.{◌≡◌, ◌∙◌, subst}
 use mathlib.Core.List.{List}
 use Prim.Native.Nat.{ℕ, ◌+◌, ◌*◌, ◌≤◌, ◌<◌}
-use native.Mathlib.Nat.{mul-suc, mul-one, mul-le-mul_left, mul-le-mul}
-use native.Mathlib.Omega.{arith}
+use native.Mathlib.Nat.{mul-suc, mul-le-mul_left, mul-le-mul}
 use lib.ListN.{get_or, take, drop}
 use lib.Seq.{get_or-take, get_or-drop}
 
@@ -16,9 +15,6 @@ row_in n u h = row_of n u n h
 
 pub area : (n b : ℕ) → n ≤ b → n * n ≤ b * b
 area n b h = mul-le-mul h h
-
-pub square : (n : ℕ) → 1 ≤ n → n ≤ n * n
-square n h = omega (arith, mul-le-mul_left n h, mul-one n)
 
 -- a cell of a row that was lent as a part
 pub row_cell {ℓ} : {A : Type ℓ} (t : List A) (at k v : ℕ) (d : A) → v < k → get_or (take k (drop at t)) v d ≡ get_or t (at + v) d

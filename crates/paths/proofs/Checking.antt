@@ -66,10 +66,10 @@ module _ (m n N s : ℕ) (t : List ℤ) where
 
     module _ (two : b.vertices * b.vertices ≤ length t) where
       pub scratch_short : s < scratch_cells b.vertices → memory_sizes m n N s t ≡ refused 3
-      scratch_short h = same ∙ simp (board_passes b, le-leb (b.vertices * b.vertices) (length t) two, lt-leb (b.vertices * b.vertices) s h)
+      scratch_short h = same ∙ simp (board_passes b, le-leb (b.vertices * b.vertices) (length t) two, lt-leb (scratch_cells b.vertices) s h)
 
       memory_passes : scratch_cells b.vertices ≤ s → memory_sizes m n N s t ≡ accepted (sizes_of b)
-      memory_passes h = same ∙ simp (board_passes b, le-leb (b.vertices * b.vertices) (length t) two, le-leb (b.vertices * b.vertices) s h)
+      memory_passes h = same ∙ simp (board_passes b, le-leb (b.vertices * b.vertices) (length t) two, le-leb (scratch_cells b.vertices) s h)
 
 pub memory_fits : (m n N s : ℕ) (x : Table) → accepted (sizes_of x.board) ≡ board_of m n N → scratch_cells x.board.vertices ≤ s → MemoryChecking m n N s x.cells.now (Ok x)
 memory_fits m n N s x e h = record {
@@ -111,12 +111,12 @@ module _ (m n N s : ℕ) (t : List ℤ) where
 
     pub odd_cell : cells_fit b.vertices g ≡ false → Checking m n N s t (Err OddCell)
     unfolding sizes_checked checked
-    odd_cell e = refusal OddCell (on_table ∙ simp (board_passes b, le-leb (b.vertices * b.vertices) (length x.cells.now) x.room, le-leb (b.vertices * b.vertices) s lent.1, e))
+    odd_cell e = refusal OddCell (on_table ∙ simp (board_passes b, le-leb (b.vertices * b.vertices) (length x.cells.now) x.room, le-leb (scratch_cells b.vertices) s lent.1, e))
 
     module _ (four : cells_fit b.vertices g ≡ true) where
       rest : sizes_checked m n N s t ≡ on_value (λ _. table_sizes x) (arcs_checked b.inputs b.vertices g)
       unfolding sizes_checked checked
-      rest = on_table ∙ simp (board_passes b, le-leb (b.vertices * b.vertices) (length x.cells.now) x.room, le-leb (b.vertices * b.vertices) s lent.1, four)
+      rest = on_table ∙ simp (board_passes b, le-leb (b.vertices * b.vertices) (length x.cells.now) x.room, le-leb (scratch_cells b.vertices) s lent.1, four)
 
       pub arcs_refused : (r : Refusal) → ArcsChecking x (Err r) → Checking m n N s t (Err r)
       arcs_refused r h = refusal r (rest ∙ go (arcs_checked b.inputs b.vertices g) (sym h.answer))

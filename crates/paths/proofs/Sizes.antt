@@ -6,7 +6,7 @@ use native.Mathlib.Nat.{mul-le-mul_left}
 use native.Mathlib.Omega.{arith}
 use lib.Dec.{T, leb, le→leb}
 use Rattle.laws.proofs.Booleans.{and_i, T_true}
-use Rattle.laws.proofs.Grid.{area, square, row_in}
+use Rattle.laws.proofs.Grid.{area}
 use Rattle.timing.specs.Limits.{max_vertices, scratch_cells}
 use Rattle.timing.specs.Checks.{sizes_fit}
 use Rattle.paths.specs.declared.board.Board.{Board}
@@ -28,12 +28,6 @@ board_area b = area b.vertices max_vertices b.sized.few
 
 -- ---- the scratch cells that a call may use
 
-pub vector_fits : (b : Board) → b.vertices ≤ scratch_cells b.vertices
-vector_fits b = square b.vertices (omega (arith, b.sized.roles, b.sized.some_inputs))
-
-pub vectors_fit : (b : Board) → b.vertices + b.vertices ≤ scratch_cells b.vertices
-vectors_fit b = omega (arith, row_in b.vertices 1 (omega (arith, b.sized.roles, b.sized.some_inputs, b.sized.some_outputs)))
-
--- four inputs and an output are five vertices
-pub lanes_fit : (b : Board) (i : ℕ) → i + 4 ≤ b.inputs → b.vertices * 4 ≤ scratch_cells b.vertices
-lanes_fit b i h = mul-le-mul_left b.vertices (omega (arith, b.sized.roles))
+-- up to four lists of a cell for each vertex
+pub lanes_fit : (N k : ℕ) → k ≤ 4 → N * k ≤ scratch_cells N
+lanes_fit N k h = omega (arith, mul-le-mul_left N h)

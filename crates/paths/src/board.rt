@@ -27,6 +27,12 @@ impl Board {
     // The cells of the largest delay matrix: half of them inputs, half outputs.
     pub const MAX_PAIRS: usize = Board::MAX_CELLS / 4;
 
+    // The scratch cells that a call may use for each vertex.
+    pub const SCRATCH_PER_VERTEX: usize = 4;
+
+    // The scratch cells that a call may use on the largest board.
+    pub const MAX_SCRATCH: usize = Board::SCRATCH_PER_VERTEX * Board::MAX_VERTICES;
+
     pub const MIN_DELAY: i64 = -1_000_000_000;
 
     pub const MAX_DELAY: i64 = 1_000_000_000;
@@ -75,10 +81,10 @@ impl Board {
         self.vertices * self.vertices
     }
 
-    // The scratch cells that a call may use: a number of document 01's own, which another document may change.
+    // The scratch cells that a call may use.
     pub fn scratch_cells(self) -> usize
         ensures { result ≡ scratch_cells self.vertices }
     {
-        self.vertices * self.vertices
+        Board::SCRATCH_PER_VERTEX * self.vertices
     }
 }

@@ -19,7 +19,7 @@ use Rattle.graph.specs.Graph.{Graph}
 use Rattle.graph.proofs.Delay.{eq_d→eq}
 use Rattle.graph.proofs.Rank.{ranked_acyclic}
 use Rattle.timing.specs.declared.Refusal.TheVariants.{ArrivalLists}
-use Rattle.timing.specs.Limits.{delay_limit, absent_wide, fits}
+use Rattle.timing.specs.Limits.{delay_limit, absent_wide, fits, scratch_cells}
 use Rattle.timing.specs.Refusal.{Verdict, accepted, ◌then◌}
 use Rattle.timing.specs.Table.{read_cell, write_cell, graph_of, with_graph}
 use Rattle.timing.specs.Checks.{sizes_fit}
@@ -195,7 +195,7 @@ fit = tt
 pub lecture_answered : lecture.0 ≡ lecture.1
 unfolding margins_call margins_into printed
 lecture_answered = ap timed (
-    ap (λ (v : Verdict Graph). v then margins_into 8 1 20 given due blank) (checked-passed 400 good tt)
+    ap (λ (v : Verdict Graph). v then margins_into 8 1 20 given due blank) (checked-passed (scratch_cells 20) good tt)
     ∙ accepted_require (arrivals_fit 8 given && arrivals_fit 1 due && times_fit 20 blank) ArrivalLists (accepted (times 8 1 20 (graph_of 20 (table 20 lecture_arcs)) given due)) fit
     ∙ ap accepted (ap (λ (h : Graph). times 8 1 20 h given due) graph_is ∙ times_are)
     )

@@ -21,7 +21,7 @@ use Rattle.paths.specs.declared.board.Board.{Board}
 use Rattle.paths.specs.Checked.{Checked}
 use Rattle.run.specs.Runs.{ran_meaning, Runs}
 use Rattle.timing.specs.Checks.{sizes}
-use Rattle.format.specs.Text.{run_text, most_cells}
+use Rattle.format.specs.Text.{run_text, most_scratch}
 
 passed-checked : (b : Board) {t : List ℤ} → Passed b.inputs b.outputs b.vertices t → Checked b t
 passed-checked b {t} p = record { lent = leb→le (b.vertices * b.vertices) (length t) p.table; sound = p.sound }
@@ -38,5 +38,5 @@ ran_checked b k t {after} runs x q =
     (passed-checked b g.kept.passed, omega (arith, g.kept.fewer, arcs_few N (graph_of N t), few), omega (arith, g.counted, arcs_few N (graph_of N after), few))
 
 module _ (m n N k : ℕ) (t : List ℤ) {after : List ℤ} {r : Result Ran Refusal} (runs : Runs (run_call m n N k t) t after r) where
-  pub ran_text : (x : Result Ran Refusal) → r ≡ x → k ≡ most_cells → run_text (sizes m n N) (ran_meaning x after) ≡ run_text (sizes m n N) (run_call m n N most_cells t)
+  pub ran_text : (x : Result Ran Refusal) → r ≡ x → k ≡ most_scratch → run_text (sizes m n N) (ran_meaning x after) ≡ run_text (sizes m n N) (run_call m n N most_scratch t)
   ran_text x q e = ap (λ (v : Verdict Reduced). run_text (sizes m n N) v) (ap (λ (y : Result Ran Refusal). ran_meaning y after) (sym q) ∙ runs.answer ∙ ap (λ (j : ℕ). run_call m n N j t) e)

@@ -14,7 +14,7 @@ use Rattle.timing.specs.Table.{with_graph}
 use Rattle.timing.specs.Checks.{BoardSizes}
 use Rattle.format.specs.Library.{built_in}
 use Rattle.format.specs.Reading.{Reading, no_arcs, read_call, table_read}
-use Rattle.format.specs.Text.{text_of, most_cells, blank, thin_text}
+use Rattle.format.specs.Text.{text_of, most_cells, most_scratch, blank, thin_text}
 use Rattle.files.specs.Read.{read_meaning}
 use Rattle.text.proofs.Offsets.{StopsBy, read_stops}
 
@@ -46,7 +46,7 @@ blank-table t e =
 
 -- ---- the call's answer
 
-module _ (s : List ℕ) {l : List ℤ} {t : List ℤ} {k : ℕ} {r : Result Board Fault} (b : l ≡ built_in) (e : t ≡ blank) (f : k ≡ most_cells) (answer : read_meaning r ≡ read_call l s t k) where
+module _ (s : List ℕ) {l : List ℤ} {t : List ℤ} {k : ℕ} {r : Result Board Fault} (b : l ≡ built_in) (e : t ≡ blank) (f : k ≡ most_scratch) (answer : read_meaning r ≡ read_call l s t k) where
   pub text_is : {after : List ℤ} → after ≡ table_read l s t k → (x : Result Board Fault) → r ≡ x → text_of after (read_meaning x) ≡ thin_text s
   unfolding thin_text
   text_is left x q =

@@ -5,7 +5,7 @@ ghost use Rattle.std.specs.Prelude.{◌≡◌, ◌≤◌, ◌<◌, ◌^◌, leng
 ghost use Rattle.timing.specs.Refusal.{number};
 ghost use Rattle.format.specs.Library.{built_in};
 ghost use Rattle.format.specs.Reading.{got};
-ghost use Rattle.format.specs.Text.{refused_line, reduced_text, most_cells, text_of, thin_text};
+ghost use Rattle.format.specs.Text.{refused_line, reduced_text, most_cells, most_scratch, text_of, thin_text};
 ghost use Rattle.paths.specs.Tables.{table_sizes, IsSound};
 ghost use Rattle.records.specs.Appending.{Appends};
 ghost use Rattle.records.specs.Writing.{HasRoom, Puts};
@@ -66,7 +66,7 @@ fn reduced_text(table: &Table, ran: Ran, out: &mut [u8]) -> usize
 
 // The text of a board that was read.
 fn run_text(board: Board, table: &mut [i32], scratch: &mut [i64], out: &mut [u8]) -> usize
-    requires scratch_len { length scratch.old ≡ most_cells }
+    requires scratch_len { length scratch.old ≡ most_scratch }
     requires text_bytes_in_bounds { text_bytes ≤ length out.old }
     ensures appends { Appends (text_of table.old (got (sizes_of board))) out.old 0 out.new result }
     ensures upper_bound { result ≤ text_bytes }
@@ -94,7 +94,7 @@ fn text_into(
     requires input_len_bound { length input.now ≤ 65536 }
     requires library_value { library.now ≡ built_in }
     requires table_len { length table.old ≡ most_cells }
-    requires scratch_len { length scratch.old ≡ most_cells }
+    requires scratch_len { length scratch.old ≡ most_scratch }
     requires text_bytes_in_bounds { text_bytes ≤ length out.old }
     ensures appends { Appends (thin_text input.now) out.old 0 out.new result }
     ensures upper_bound { result ≤ text_bytes }
@@ -116,6 +116,6 @@ pub fn thin_text(input: &[u8], out: &mut [u8]) -> usize
     let mut library = [0; CODES];
     library::built_in(&mut library);
     let mut table = [0; Board::MAX_CELLS];
-    let mut scratch = [0; Board::MAX_CELLS];
+    let mut scratch = [0; Board::MAX_SCRATCH];
     text_into(input, &library, &mut table, &mut scratch, out)
 }

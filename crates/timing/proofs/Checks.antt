@@ -1,5 +1,5 @@
 -- The checks give `Sound`, and it gives the checks.
-use mathlib.Core.Path.{◌≡◌, sym, ap, ◌∙◌}
+use mathlib.Core.Path.{◌≡◌, refl, sym, ap, ap₂, ◌∙◌}
 use mathlib.Core.Logic.{◌⊎◌, inl, inr}
 use mathlib.Core.Bool.{Bool, true, false, not, ◌&&◌}
 use mathlib.Core.List.{List}
@@ -21,7 +21,7 @@ use Rattle.timing.specs.Refusal.{Verdict, accepted, require, ◌then◌}
 use Rattle.timing.specs.Table.{graph_of}
 use Rattle.timing.specs.Sound.{LegalArc, Sound}
 use Rattle.timing.specs.Checks.{sizes_fit, table_fits, scratch_fits, cells_fit, no_arc_into_input, no_cycle, memory_checked, arcs_checked, checked, passes}
-use Rattle.timing.proofs.Verdict.{require_accepted, accepted_require, then_accepted, same_accepted}
+use Rattle.timing.proofs.Verdict.{require_accepted, accepted_require, require_same, then_accepted, same_accepted}
 use Rattle.timing.proofs.Limits.{fits_absent}
 use Rattle.timing.proofs.Table.{graph_of_within}
 
@@ -149,6 +149,10 @@ memory_passed m n N s t sizes table scratch =
     ∙ accepted_require (table_fits N t) TableShort _ table
     ∙ accepted_require (scratch_fits N s) ScratchShort _ scratch
 
+-- the scratch and the table's length count where 1 passes
+pub memory_same : (m n N s s' : ℕ) (t t' : List ℤ) → (T (sizes_fit m n N) → (table_fits N t ≡ table_fits N t') × (scratch_fits N s ≡ scratch_fits N s')) → memory_checked m n N s t ≡ memory_checked m n N s' t'
+memory_same m n N s s' t t' e = require_same (sizes_fit m n N) Sizes (λ p. ap₂ (λ (a b : Bool). require a TableShort (require b ScratchShort (accepted tt))) (e p).0 (e p).1)
+
 pub record ArcsFit (m N : ℕ) (g h : Graph) : Type 0 where
   pub inputs : T (no_arc_into_input m N g)
   pub cycle : T (no_cycle N g)
@@ -182,6 +186,12 @@ checked_accepted m n N s t g e =
       scratch = fit.scratch;
       graph = sym arcs.same;
     }
+
+-- a scratch is seen by check 3 alone
+pub checked_same_scratch : (m n N s s' : ℕ) (t : List ℤ) → (T (sizes_fit m n N) → scratch_fits N s ≡ scratch_fits N s') → checked m n N s t ≡ checked m n N s' t
+unfolding checked
+checked_same_scratch m n N s s' t e =
+    ap (λ (v : Verdict (Unit {0})). v then λ _. require (cells_fit N (graph_of N t)) OddCell (arcs_checked m N (graph_of N t))) (memory_same m n N s s' t t (λ p. (refl, e p)))
 
 pub checked-passed : {m n N : ℕ} (s : ℕ) {t : List ℤ} → Passed m n N t → T (scratch_fits N s) → checked m n N s t ≡ accepted (graph_of N t)
 unfolding checked

@@ -23,6 +23,8 @@ impl Board {
     pub const MOST_VERTICES: usize = 90;
     pub const LEAST_DELAY: i64 = -1_000_000_000;
     pub const MOST_DELAY: i64 = 1_000_000_000;
+    /// The cells of scratch that a call may use for each vertex.
+    pub const SCRATCH_PER_VERTEX: usize = 4;
     /// The cell of an arc that isn't there.
     pub const ABSENT: i32 = i32::MIN;
 
@@ -46,7 +48,7 @@ impl Board {
         if table < board.cells() {
             return Err(refusal::SHORT_TABLE);
         }
-        if scratch < board.cells() {
+        if scratch < board.scratch_cells() {
             return Err(refusal::SHORT_SCRATCH);
         }
         Ok(board)
@@ -93,6 +95,11 @@ impl Board {
     /// The cells of the table that count.
     pub fn cells(&self) -> usize {
         self.vertices * self.vertices
+    }
+
+    /// The cells of the scratch that count: on boards of 2 and 3 vertices more than the table's.
+    pub fn scratch_cells(&self) -> usize {
+        Self::SCRATCH_PER_VERTEX * self.vertices
     }
 
     pub fn rows<'t>(&self, table: &'t [i32]) -> impl Iterator<Item = &'t [i32]> {

@@ -31,10 +31,11 @@ fn reduced(
     bytes: &[u8],
 ) -> Result<String, RefusedRead> {
     const CELLS: usize = Board::MOST_VERTICES * Board::MOST_VERTICES;
+    const SCRATCH: usize = Board::SCRATCH_PER_VERTEX * Board::MOST_VERTICES;
     let at_start = |number| RefusedRead { number, offset: 0 };
     let mut table = vec![Board::ABSENT; CELLS];
-    let sizes = file::read(bytes, &mut table, CELLS, &BUILT_IN)?;
-    let outcome = run(sizes, &mut table, CELLS).map_err(at_start)?;
+    let sizes = file::read(bytes, &mut table, SCRATCH, &BUILT_IN)?;
+    let outcome = run(sizes, &mut table, SCRATCH).map_err(at_start)?;
     let board = Board::new(sizes).map_err(at_start)?;
 
     let mut text = format!("board {} {} {}\n", sizes.inputs, sizes.outputs, sizes.vertices);

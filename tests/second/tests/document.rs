@@ -1,15 +1,17 @@
 //! Document 01's boards for checking, one for the run, 003's example for the margins, ticket 2's cells
-//! under load, and ticket 3's libraries, on the second implementation.
+//! under load, ticket 3's libraries, and ticket 5's scratch, on the second implementation.
 
 use second::board::{Board, Sizes};
 use second::delays::{MOST_TIME, NONE};
-use second::file::read;
+use second::file::{read, write};
 use second::library::{read_library, BUILT_IN, CODES};
 use second::margins::{self, Answers};
 use second::records::RefusedRead;
 use second::{delays, literal, run, steps, thin};
+use std::fmt::Debug;
 
-const SCRATCH: usize = 8_100;
+/// Enough for every board.
+const SCRATCH: usize = 4 * 90;
 
 fn sizes(inputs: u64, outputs: u64, vertices: u64) -> Sizes {
     Sizes { inputs, outputs, vertices }
@@ -90,26 +92,34 @@ fn p5() -> Vec<i32> {
     table(3, &[(0, 1, 4), (1, 2, 3), (0, 2, 1)])
 }
 
+fn p7() -> Vec<i32> {
+    table(5, &[(0, 4, 2), (1, 4, 3), (4, 2, 1), (4, 3, 4)])
+}
+
+fn p8() -> Vec<i32> {
+    table(3, &[(0, 2, 600_000_000), (2, 1, 400_000_000)])
+}
+
 #[test]
 fn p1_has_nothing_to_prune() {
     let mut cells = table(2, &[]);
     let mut matrix = [9];
-    assert_eq!(delays::matrix(sizes(1, 1, 2), &cells, SCRATCH, &mut matrix), Ok(()));
+    assert_eq!(delays::matrix(sizes(1, 1, 2), &cells, 4 * 2, &mut matrix), Ok(()));
     assert_eq!(matrix, [NONE]);
-    assert_eq!(steps::prune(sizes(1, 1, 2), &mut cells, SCRATCH), Err(13));
+    assert_eq!(steps::prune(sizes(1, 1, 2), &mut cells, 4 * 2), Err(13));
 }
 
 #[test]
 fn p2_shares_inputs() {
     let mut cells = p2();
-    assert_eq!(steps::share_inputs(sizes(2, 3, 6), &mut cells, SCRATCH, 0, 1, 5), Ok(5));
+    assert_eq!(steps::share_inputs(sizes(2, 3, 6), &mut cells, 4 * 6, 0, 1, 5), Ok(5));
     assert_eq!(cells, p2_shared());
 }
 
 #[test]
 fn p3_makes_a_star() {
     let mut cells = p2();
-    let answer = steps::star(sizes(2, 3, 6), &mut cells, SCRATCH, &[0, 1], &[2, 3, 4], 5);
+    let answer = steps::star(sizes(2, 3, 6), &mut cells, 4 * 6, &[0, 1], &[2, 3, 4], 5);
     assert_eq!(answer, Ok(5));
     assert_eq!(cells, p2_shared());
 }
@@ -118,34 +128,34 @@ fn p3_makes_a_star() {
 fn p4_neither_shares_nor_makes_a_star() {
     let mut cells = p2();
     cells[6 + 4] = 8;
-    assert_eq!(steps::share_inputs(sizes(2, 3, 6), &mut cells, SCRATCH, 0, 1, 5), Err(11));
-    let answer = steps::star(sizes(2, 3, 6), &mut cells, SCRATCH, &[0, 1], &[2, 3, 4], 5);
+    assert_eq!(steps::share_inputs(sizes(2, 3, 6), &mut cells, 4 * 6, 0, 1, 5), Err(11));
+    let answer = steps::star(sizes(2, 3, 6), &mut cells, 4 * 6, &[0, 1], &[2, 3, 4], 5);
     assert_eq!(answer, Err(13));
 }
 
 #[test]
 fn p5_and_p6_share_outputs() {
     let mut cells = p5();
-    assert_eq!(steps::share_outputs(sizes(1, 2, 3), &mut cells, SCRATCH, 2, 1), Err(12));
+    assert_eq!(steps::share_outputs(sizes(1, 2, 3), &mut cells, 4 * 3, 2, 1), Err(12));
     assert_eq!(cells, p5());
-    assert_eq!(steps::share_outputs(sizes(1, 2, 3), &mut cells, SCRATCH, 1, 2), Ok(2));
+    assert_eq!(steps::share_outputs(sizes(1, 2, 3), &mut cells, 4 * 3, 1, 2), Ok(2));
     assert_eq!(cells, table(3, &[(0, 1, 4), (1, 2, 3)]));
 }
 
 #[test]
 fn p7_merges_back() {
-    let mut cells = table(5, &[(0, 4, 2), (1, 4, 3), (4, 2, 1), (4, 3, 4)]);
-    assert_eq!(steps::merge_back(sizes(2, 2, 5), &mut cells, SCRATCH, 2), Ok(3));
+    let mut cells = p7();
+    assert_eq!(steps::merge_back(sizes(2, 2, 5), &mut cells, 4 * 5, 2), Ok(3));
     assert_eq!(cells, table(5, &[(0, 2, 3), (1, 2, 4), (2, 3, 3)]));
 }
 
 #[test]
 fn p8_shrinks_up_to_the_limit() {
-    let mut cells = table(3, &[(0, 2, 600_000_000), (2, 1, 400_000_000)]);
-    assert_eq!(steps::shrink(sizes(1, 1, 3), &mut cells, SCRATCH, 2), Ok(1));
+    let mut cells = p8();
+    assert_eq!(steps::shrink(sizes(1, 1, 3), &mut cells, 4 * 3, 2), Ok(1));
     assert_eq!(cells, table(3, &[(0, 1, 1_000_000_000)]));
     let mut cells = table(3, &[(0, 2, 600_000_000), (2, 1, 400_000_001)]);
-    assert_eq!(steps::shrink(sizes(1, 1, 3), &mut cells, SCRATCH, 2), Err(14));
+    assert_eq!(steps::shrink(sizes(1, 1, 3), &mut cells, 4 * 3, 2), Err(14));
 }
 
 #[test]
@@ -432,9 +442,122 @@ fn a_code_that_the_library_lacks_is_refused() {
     for code in [0, 4, 6, 31, 32, 255] {
         let mut cells = [5; 4];
         let refused = RefusedRead { number: 17, offset: 5 };
-        assert_eq!(read(&file(1, 1, 2, &[cell(0, 1, code)]), &mut cells, 4, &own), Err(refused));
+        assert_eq!(read(&file(1, 1, 2, &[cell(0, 1, code)]), &mut cells, 8, &own), Err(refused));
         assert_eq!(cells, [Board::ABSENT; 4]);
     }
+}
+
+/// What a call answered and left: the table, and the cells that it answers in.
+#[derive(Debug, PartialEq)]
+struct Performed {
+    answer: Result<String, u64>,
+    table: Vec<i32>,
+    answers: Vec<i64>,
+}
+
+/// A call on a table and on so many cells to answer in; a refused one touches neither.
+fn perform<T: Debug>(
+    table: &[i32],
+    length: usize,
+    call: impl FnOnce(&mut [i32], &mut [i64]) -> Result<T, u64>,
+) -> Performed {
+    let before = (table.to_vec(), vec![9; length]);
+    let (mut table, mut answers) = before.clone();
+    let answer = call(&mut table, &mut answers).map(|accepted| format!("{accepted:?}"));
+    if answer.is_err() {
+        assert_eq!((&table, &answers), (&before.0, &before.1));
+    }
+    Performed { answer, table, answers }
+}
+
+fn on_table<T: Debug>(table: &[i32], call: impl FnOnce(&mut [i32]) -> Result<T, u64>) -> Performed {
+    perform(table, 0, |table, _| call(table))
+}
+
+/// A call of each kind on a table, with so many cells of scratch.
+fn calls(sizes: Sizes, table: &[i32], scratch: usize) -> [Performed; 13] {
+    let [inputs, outputs, vertices] =
+        [sizes.inputs, sizes.outputs, sizes.vertices].map(|size| size as usize);
+    let (first, last) = (sizes.inputs, sizes.vertices - 1);
+    let (at_inputs, at_outputs) = (vec![1; inputs], vec![30; outputs]);
+    let present = table.iter().enumerate().filter(|(_, &delay)| delay != Board::ABSENT);
+    let ends = |place| [place / vertices, place % vertices].map(|v| v as u8);
+    let records = present.map(|(place, &delay)| (ends(place), delay));
+    let records: Vec<_> = records.map(|([u, v], delay)| arc(u, v, delay)).collect();
+    let file = file(inputs as u8, outputs as u8, vertices as u8, &records);
+    [
+        on_table(table, |cells| steps::shrink(sizes, cells, scratch, last)),
+        on_table(table, |cells| steps::share_inputs(sizes, cells, scratch, 0, 1, last)),
+        on_table(table, |cells| steps::share_outputs(sizes, cells, scratch, first, first + 1)),
+        on_table(table, |cells| steps::prune(sizes, cells, scratch)),
+        on_table(table, |cells| steps::merge_back(sizes, cells, scratch, first)),
+        on_table(table, |cells| steps::star(sizes, cells, scratch, &[0, 1], &[2, 3, 4], last)),
+        on_table(table, |cells| run::run(sizes, cells, scratch)),
+        on_table(table, |cells| literal::run(sizes, cells, scratch)),
+        perform(table, inputs * outputs, |cells, answers| {
+            delays::matrix(sizes, cells, scratch, answers)
+        }),
+        perform(table, outputs, |cells, answers| {
+            delays::arrivals(sizes, cells, scratch, &at_inputs, answers)
+        }),
+        perform(table, 3 * vertices, |cells, answers| {
+            let (arrival, answers) = answers.split_at_mut(vertices);
+            let (required, margin) = answers.split_at_mut(vertices);
+            let lent = Answers { arrival, required, margin };
+            margins::margins(sizes, cells, scratch, &at_inputs, &at_outputs, lent)
+        }),
+        perform(table, 200, |cells, answers| {
+            let mut bytes = [9; 200];
+            let answer = write(sizes, cells, scratch, &mut bytes);
+            answers.copy_from_slice(&bytes.map(i64::from));
+            answer
+        }),
+        on_table(&vec![5; vertices * vertices], |cells| {
+            read(&file, cells, scratch, &BUILT_IN).map_err(|refused| refused.number)
+        }),
+    ]
+}
+
+/// The calls on boards of 2 to 20 vertices, each with its cells of scratch by its vertices.
+fn calls_on_all(scratch: impl Fn(usize) -> usize) -> Vec<[Performed; 13]> {
+    let boards = [
+        (sizes(1, 1, 2), table(2, &[])),
+        (sizes(1, 2, 3), p5()),
+        (sizes(1, 1, 3), p8()),
+        (sizes(2, 2, 5), p7()),
+        (sizes(2, 3, 6), p2()),
+        (sizes(8, 1, 20), lecture()),
+    ];
+    let lent = |sizes: Sizes| scratch(sizes.vertices as usize);
+    boards.into_iter().map(|(sizes, table)| calls(sizes, &table, lent(sizes))).collect()
+}
+
+#[test]
+fn four_cells_of_scratch_for_each_vertex_are_enough() {
+    let least = calls_on_all(|vertices| 4 * vertices);
+    assert!(least.iter().flatten().all(|call| call.answer != Err(3)));
+    for kind in 0..13 {
+        assert!(least.iter().any(|board| board[kind].answer.is_ok()), "{kind} is refused");
+    }
+    // all but the steps are accepted on P1 too
+    assert!(least[0][6..].iter().all(|call| call.answer.is_ok()));
+
+    assert_eq!(calls_on_all(|vertices| 4 * vertices + 1), least);
+    assert_eq!(calls_on_all(|vertices| (vertices * vertices).max(4 * vertices)), least);
+    assert_eq!(calls_on_all(|vertices| vertices * vertices + 4 * vertices), least);
+    assert_eq!(calls_on_all(|_| 8_100), least);
+}
+
+#[test]
+fn fewer_cells_of_scratch_are_refused() {
+    let refused = |scratch: fn(usize) -> usize| {
+        let calls = calls_on_all(scratch);
+        assert!(calls.iter().flatten().all(|call| call.answer == Err(3)));
+    };
+    refused(|_| 0);
+    refused(|vertices| 4 * vertices - 1);
+    // on boards of 2 and 3 vertices all that the table has
+    refused(|vertices| (vertices * vertices).min(4 * vertices - 1));
 }
 
 #[test]

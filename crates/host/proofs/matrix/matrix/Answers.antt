@@ -1,4 +1,4 @@
-use Rattle.std.proofs.Common.{ap, ◌∙◌, ℕ, ℤ, List, pos, w64}
+use Rattle.std.proofs.Common.{ap, ◌∙◌, ℕ, ℤ, List, pos, w64, arith}
 use Rattle.std.proofs.lemmas.List.{length-replicate}
 use Rattle.laws.proofs.Signed.{back}
 use Rattle.timing.specs.Refusal.{Verdict}
@@ -19,12 +19,12 @@ pub returns-clause-value : goal.returns-clause-value
 returns-clause-value c =
     let a = c.args in
     let verdict : ℕ → Verdict (List ℤ) = λ k. matrix_call a.inputs a.outputs a.vertices k (cells_of 4 a.table.now) (cells_of 8 a.matrix.now) in
-    let same = ap verdict (part_shown _ _ (length-replicate 8100 (pos 0)) _ c.shown-room.ensures) ∙ matrix-room a.inputs a.outputs a.vertices (whole_cells 8 a.scratch.now) (cells_of 4 a.table.now) (cells_of 8 a.matrix.now) in
+    let same = ap verdict (part_shown _ _ (length-replicate 360 (pos 0)) _ (c.min-room.ensures, omega (arith, c.min-room.ensures))) ∙ matrix-room a.inputs a.outputs a.vertices (whole_cells 8 a.scratch.now) (cells_of 4 a.table.now) (cells_of 8 a.matrix.now) in
     back w64 _ c.matrix_in.type_inv ∙ c.matrix_in.ensures.value ∙ ap matrix_answer same
 
 pub returns-clause-matrix_after : goal.returns-clause-matrix_after
 returns-clause-matrix_after c =
     let a = c.args in
     let verdict : ℕ → Verdict (List ℤ) = λ k. matrix_call a.inputs a.outputs a.vertices k (cells_of 4 a.table.now) (cells_of 8 a.matrix.now) in
-    let same = ap verdict (part_shown _ _ (length-replicate 8100 (pos 0)) _ c.shown-room.ensures) ∙ matrix-room a.inputs a.outputs a.vertices (whole_cells 8 a.scratch.now) (cells_of 4 a.table.now) (cells_of 8 a.matrix.now) in
+    let same = ap verdict (part_shown _ _ (length-replicate 360 (pos 0)) _ (c.min-room.ensures, omega (arith, c.min-room.ensures))) ∙ matrix-room a.inputs a.outputs a.vertices (whole_cells 8 a.scratch.now) (cells_of 4 a.table.now) (cells_of 8 a.matrix.now) in
     c.matrix_in.ensures.matrix_after ∙ ap (λ (v : Verdict (List ℤ)). matrix_bytes v a.matrix.now) same

@@ -1,10 +1,10 @@
-use Rattle.std.proofs.Common.{◌≡◌, ◌*◌, ◌≤◌, length, sym, ◌∙◌, arith, inl, inr}
+use Rattle.std.proofs.Common.{◌≡◌, ◌≤◌, length, sym, ◌∙◌, arith, inl, inr}
 use mathlib.Core.Path.{subst}
 use Rattle.timing.specs.Table.{graph_of}
 use Rattle.paths.specs.Tables.{of_table}
 use Rattle.paths.specs.declared.table.Table.{Table}
 use Rattle.paths.specs.Arrivals.{filled, Given, arrivals_from}
-use Rattle.paths.proofs.Sizes.{vector_fits}
+use Rattle.paths.proofs.Sizes.{lanes_fit}
 use Rattle.paths.proofs.Starting.{filled-drop}
 use Rattle.paths.proofs.Answering.{drop_further}
 use Rattle.paths.proofs.ArrivalLists.{lists_refused, lists_done, given_of, copied}
@@ -22,12 +22,12 @@ arrivals-requires-clause-given c =
 
 pub arrivals-requires-clause-vertices_in_bounds : goal.arrivals-requires-clause-vertices_in_bounds
 arrivals-requires-clause-vertices_in_bounds c =
-    subst (λ (x : Table). x.board.vertices ≤ length c.args.scratch.now) (sym c.over.ensures) (omega (arith, c.requires, vector_fits c.args.sorted.now.table.board))
+    subst (λ (x : Table). x.board.vertices ≤ length c.args.scratch.now) (sym c.over.ensures) (omega (arith, c.requires, lanes_fit c.args.sorted.now.table.board.vertices 1 (omega arith)))
 
 pub copy_out-requires : goal.copy_out-requires
 copy_out-requires c =
     let b = c.args.sorted.now.table.board in
-    omega (arith, c.if-answers-board.false, c.arrivals.auto.f, b.sized.roles, c.requires, vector_fits b)
+    omega (arith, c.if-answers-board.false, c.arrivals.auto.f, b.sized.roles, c.requires, lanes_fit b.vertices 1 (omega arith))
 
 pub returns-clause-fills : goal.returns-clause-fills
 returns-clause-fills c =
@@ -44,4 +44,4 @@ returns-clause-past_scratch c =
     let b = x.board in
     let f = c.args.scratch.now in
     let are = subst (λ (y : Table). c.arrivals.new.f ≡ filled y.board.vertices (of_table arrivals_from y c.args.given.now) f) c.over.ensures c.arrivals.ensures in
-    drop_further b.vertices (b.vertices * b.vertices) f c.arrivals.new.f (vector_fits b) (filled-drop b.vertices (of_table arrivals_from x c.args.given.now) f c.arrivals.new.f are)
+    drop_further b.vertices _ f c.arrivals.new.f (omega (arith, lanes_fit b.vertices 1 (omega arith))) (filled-drop b.vertices (of_table arrivals_from x c.args.given.now) f c.arrivals.new.f are)

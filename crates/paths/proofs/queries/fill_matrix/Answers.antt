@@ -7,7 +7,7 @@ use Rattle.paths.specs.Tables.{of_table}
 use Rattle.paths.specs.declared.table.Table.{Table}
 use Rattle.paths.specs.Board.{ScratchRoom}
 use Rattle.paths.specs.Queries.{RowsDone, entry, RowsMade, with_matrix}
-use Rattle.paths.proofs.Sizes.{vector_fits, lanes_fit}
+use Rattle.paths.proofs.Sizes.{lanes_fit}
 use Rattle.paths.proofs.Answering.{drop_further}
 use Rattle.paths.proofs.queries.fill_matrix.Goals as goal
 
@@ -22,7 +22,7 @@ module _ {x y : Table} (e : x ≡ y) where
 pub fill_rows-requires-clause-room : goal.fill_rows-requires-clause-room
 fill_rows-requires-clause-room c =
     let b = c.over-walk.result.table.board in
-    omega (arith, room_of c.over-walk.ensures _ c.requires.scratch_room, lanes_fit b (4 * c.loop-four.four) (omega arith), c.loop-four.invariant.long)
+    omega (arith, room_of c.over-walk.ensures _ c.requires.scratch_room, lanes_fit b.vertices 4 (omega arith), c.loop-four.invariant.long)
 
 pub fill_rows-requires-clause-destination_room : goal.fill_rows-requires-clause-destination_room
 fill_rows-requires-clause-destination_room c = omega (arith, bounds_of c.over-walk.ensures _ c.requires.inputs_in_bounds, c.loop-four.auto.destination)
@@ -31,18 +31,17 @@ pub loop-four-preserved : goal.loop-four-preserved
 loop-four-preserved c =
     let b = c.over-walk.result.table.board in
     let i = 4 * c.loop-four.four in
-    let h : i + 4 ≤ b.inputs = omega arith in
     let e : i + 4 ≡ 4 * (c.loop-four.four + 1) = omega arith in
     record {
       long = c.fill_rows.auto.scratch ∙ c.loop-four.invariant.long;
-      past = drop_further (b.vertices * 4) (scratch_cells b.vertices) c.loop-four.scratch c.fill_rows.new.scratch (lanes_fit b i h) c.fill_rows.ensures.past ∙ c.loop-four.invariant.past;
+      past = drop_further (b.vertices * 4) (scratch_cells b.vertices) c.loop-four.scratch c.fill_rows.new.scratch (lanes_fit b.vertices 4 (omega arith)) c.fill_rows.ensures.past ∙ c.loop-four.invariant.past;
       made = subst (λ (k : ℕ). of_table RowsMade c.over-walk.result.table 0 k c.args.destination.now c.fill_rows.new.destination) e (λ d₀ q. c.fill_rows.ensures.rows_made d₀ (c.loop-four.invariant.made d₀ q));
     }
 
 pub fill_rows-requires-in-loop-i-clause-room : goal.fill_rows-requires-in-loop-i-clause-room
 fill_rows-requires-in-loop-i-clause-room c =
     let b = c.over-walk.result.table.board in
-    omega (arith, room_of c.over-walk.ensures _ c.requires.scratch_room, vector_fits b, c.loop-i.invariant.long)
+    omega (arith, room_of c.over-walk.ensures _ c.requires.scratch_room, lanes_fit b.vertices 1 (omega arith), c.loop-i.invariant.long)
 
 pub fill_rows-requires-in-loop-i-clause-destination_room : goal.fill_rows-requires-in-loop-i-clause-destination_room
 fill_rows-requires-in-loop-i-clause-destination_room c = omega (arith, bounds_of c.over-walk.ensures _ c.requires.inputs_in_bounds, c.loop-i.auto.destination, c.loop-four.auto.destination)
@@ -50,10 +49,9 @@ fill_rows-requires-in-loop-i-clause-destination_room c = omega (arith, bounds_of
 pub loop-i-preserved : goal.loop-i-preserved
 loop-i-preserved c =
     let b = c.over-walk.result.table.board in
-    let one : b.vertices * 1 ≤ scratch_cells b.vertices = omega (arith, vector_fits b) in
     record {
       long = c.fill_rows-in-loop-i.auto.scratch ∙ c.loop-i.invariant.long;
-      past = drop_further (b.vertices * 1) (scratch_cells b.vertices) c.loop-i.scratch c.fill_rows-in-loop-i.new.scratch one c.fill_rows-in-loop-i.ensures.past ∙ c.loop-i.invariant.past;
+      past = drop_further (b.vertices * 1) (scratch_cells b.vertices) c.loop-i.scratch c.fill_rows-in-loop-i.new.scratch (lanes_fit b.vertices 1 (omega arith)) c.fill_rows-in-loop-i.ensures.past ∙ c.loop-i.invariant.past;
       made = λ d₀ q. c.fill_rows-in-loop-i.ensures.rows_made d₀ (c.loop-i.invariant.made d₀ q);
     }
 

@@ -5,7 +5,7 @@ use Rattle.timing.specs.Refusal.{verdict}
 use Rattle.paths.specs.declared.table.Table.{Table}
 use Rattle.paths.specs.Board.{ScratchRoom, PastScratch}
 use Rattle.paths.specs.Tables.{of_table}
-use Rattle.paths.proofs.Sizes.{vectors_fit}
+use Rattle.paths.proofs.Sizes.{lanes_fit}
 use Rattle.paths.proofs.Answering.{drop_further}
 use Rattle.paths.proofs.Tables.{walk_passable}
 use Rattle.plans.specs.OnBoards.{rows_difference}
@@ -15,7 +15,7 @@ use Rattle.plans.proofs.share_inputs.rows_difference.Goals as goal
 -- the table x that is walked is y, which was sorted
 module _ {x y : Table} (e : x ≡ y) where
   room_of : (s : List ℤ) → ScratchRoom y.board s → x.board.vertices + x.board.vertices ≤ length s
-  room_of s h = let r = subst (λ (t : Table). ScratchRoom t.board s) (sym e) h in omega (arith, vectors_fit x.board, r)
+  room_of s h = let r = subst (λ (t : Table). ScratchRoom t.board s) (sym e) h in omega (arith, lanes_fit x.board.vertices 2 (omega arith), r)
 
   input_of : (i : ℕ) → i < y.board.inputs → i < x.board.inputs
   input_of i = subst (λ (t : Table). i < t.board.inputs) (sym e)
@@ -24,7 +24,7 @@ module _ {x y : Table} (e : x ≡ y) where
   below_of i h = omega (arith, input_of i h, x.board.sized.roles)
 
   past_of : (s s' : List ℤ) → drop (x.board.vertices + x.board.vertices) s' ≡ drop (x.board.vertices + x.board.vertices) s → PastScratch y.board s s'
-  past_of s s' h = subst (λ (t : Table). PastScratch t.board s s') e (drop_further (x.board.vertices + x.board.vertices) (scratch_cells x.board.vertices) s s' (vectors_fit x.board) h)
+  past_of s s' h = subst (λ (t : Table). PastScratch t.board s s') e (drop_further (x.board.vertices + x.board.vertices) (scratch_cells x.board.vertices) s s' (omega (arith, lanes_fit x.board.vertices 2 (omega arith))) h)
 
 pub delays_from-requires-clause-i_lt_vertices : goal.delays_from-requires-clause-i_lt_vertices
 delays_from-requires-clause-i_lt_vertices c = below_of c.over-walk.ensures c.args.a c.requires.a_lt_inputs

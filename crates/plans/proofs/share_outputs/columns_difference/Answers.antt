@@ -12,7 +12,7 @@ use Rattle.paths.specs.declared.table.Table.{Table}
 use Rattle.paths.specs.Board.{ScratchRoom, PastScratch}
 use Rattle.paths.specs.Tables.{of_table}
 use Rattle.paths.specs.Checked.{Passable}
-use Rattle.paths.proofs.Sizes.{vector_fits}
+use Rattle.paths.proofs.Sizes.{lanes_fit}
 use Rattle.paths.proofs.Answering.{drop_further}
 use Rattle.paths.proofs.PathDelays.{held_past, held_near, held}
 use Rattle.plans.specs.Comparing.{compared}
@@ -46,10 +46,10 @@ two_of : {x y : Table} {a b : ℕ} → x ≡ y → TwoOutputs y.board a b → Tw
 two_of {x} {y} {a} {b} e = subst (λ (t : Table). TwoOutputs t.board a b) (sym e)
 
 room_of : {x y : Table} (s : List ℤ) → x ≡ y → ScratchRoom y.board s → x.board.vertices ≤ length s
-room_of {x} s e h = let r = subst (λ (t : Table). ScratchRoom t.board s) (sym e) h in omega (arith, vector_fits x.board, r)
+room_of {x} s e h = let r = subst (λ (t : Table). ScratchRoom t.board s) (sym e) h in omega (arith, lanes_fit x.board.vertices 1 (omega arith), r)
 
 past_of : {x y : Table} (s s' : List ℤ) → x ≡ y → drop x.board.vertices s' ≡ drop x.board.vertices s → PastScratch y.board s s'
-past_of {x} s s' e h = subst (λ (t : Table). PastScratch t.board s s') e (drop_further x.board.vertices _ s s' (vector_fits x.board) h)
+past_of {x} s s' e h = subst (λ (t : Table). PastScratch t.board s s') e (drop_further x.board.vertices _ s s' (omega (arith, lanes_fit x.board.vertices 1 (omega arith))) h)
 
 pub compare-init : goal.compare-init
 compare-init c = record { within = omega arith; past = refl; said = seen_none _ _ }

@@ -4,7 +4,7 @@ use Rattle.paths.specs.declared.table.Table.{Table}
 use Rattle.paths.specs.Board.{ScratchRoom, PastScratch}
 use Rattle.paths.specs.Tables.{of_table}
 use Rattle.paths.proofs.Answering.{drop_further}
-use Rattle.paths.proofs.Sizes.{vector_fits, lanes_fit}
+use Rattle.paths.proofs.Sizes.{lanes_fit}
 use Rattle.pruning.specs.PruneMarks.{AlsoMarked, DecidingMarked}
 use Rattle.pruning.proofs.Marking.{decider, decides_below, none_yet, more, all_inputs}
 use Rattle.pruning.proofs.prune.prune_marks.Goals as goal
@@ -22,7 +22,7 @@ loop-four-init c = let x = c.over-walk.result.table in record { past = refl; mar
 
 pub mark_from-requires-clause-f_room : goal.mark_from-requires-clause-f_room
 mark_from-requires-clause-f_room c =
-    omega (arith, room_of c.over-walk.ensures c.args.scratch.now c.requires.scratch_room, lanes_fit c.over-walk.result.table.board (4 * c.loop-four.four) (omega arith), c.loop-four.auto.scratch)
+    omega (arith, room_of c.over-walk.ensures c.args.scratch.now c.requires.scratch_room, lanes_fit c.over-walk.result.table.board.vertices 4 (omega arith), c.loop-four.auto.scratch)
 
 pub mark_from-requires-clause-marks_room : goal.mark_from-requires-clause-marks_room
 mark_from-requires-clause-marks_room c = omega (arith, marks_of c.over-walk.ensures c.args.marks.now c.requires.marks_room, c.loop-four.auto.marks)
@@ -34,17 +34,16 @@ loop-four-preserved c =
     let n = b.vertices in
     let l = c.loop-four in
     let k = c.mark_from in
-    let last : 4 * l.four + 4 ≤ b.inputs = omega arith in
     let next : 4 * l.four + 4 ≡ 4 * (l.four + 1) = omega arith in
     record {
-      past = drop_further (n * 4) (scratch_cells n) l.scratch k.new.f (lanes_fit b (4 * l.four) last) k.ensures.past ∙ l.invariant.past;
+      past = drop_further (n * 4) (scratch_cells n) l.scratch k.new.f (lanes_fit n 4 (omega arith)) k.ensures.past ∙ l.invariant.past;
       marked = subst (λ (j : ℕ). AlsoMarked n (decides_below b x.cells.now j) c.args.marks.now k.new.marks) next
           (more n (decider b x.cells.now) c.args.marks.now l.marks k.new.marks (4 * l.four) 4 l.invariant.marked k.ensures.marked_each);
     }
 
 pub mark_from-requires-in-loop-i-clause-f_room : goal.mark_from-requires-in-loop-i-clause-f_room
 mark_from-requires-in-loop-i-clause-f_room c =
-    omega (arith, room_of c.over-walk.ensures c.args.scratch.now c.requires.scratch_room, vector_fits c.over-walk.result.table.board, c.loop-i.auto.scratch, c.loop-four.auto.scratch)
+    omega (arith, room_of c.over-walk.ensures c.args.scratch.now c.requires.scratch_room, lanes_fit c.over-walk.result.table.board.vertices 1 (omega arith), c.loop-i.auto.scratch, c.loop-four.auto.scratch)
 
 pub mark_from-requires-in-loop-i-clause-marks_room : goal.mark_from-requires-in-loop-i-clause-marks_room
 mark_from-requires-in-loop-i-clause-marks_room c = omega (arith, marks_of c.over-walk.ensures c.args.marks.now c.requires.marks_room, c.loop-i.auto.marks, c.loop-four.auto.marks)
@@ -56,9 +55,8 @@ loop-i-preserved c =
     let n = b.vertices in
     let l = c.loop-i in
     let k = c.mark_from-in-loop-i in
-    let one : n * 1 ≤ scratch_cells n = omega (arith, vector_fits b) in
     record {
-      past = drop_further (n * 1) (scratch_cells n) l.scratch k.new.f one k.ensures.past ∙ l.invariant.past;
+      past = drop_further (n * 1) (scratch_cells n) l.scratch k.new.f (lanes_fit n 1 (omega arith)) k.ensures.past ∙ l.invariant.past;
       marked = more n (decider b x.cells.now) c.args.marks.now l.marks k.new.marks l.i 1 l.invariant.marked k.ensures.marked_each;
     }
 

@@ -365,6 +365,15 @@ pub fn length(rng: &mut Rng, right: usize) -> usize {
     }
 }
 
+/// The cells of scratch that a board needs, at times those of its table.
+pub fn scratch_cells(rng: &mut Rng, board: Board) -> usize {
+    if rng.chance(25) {
+        board.cells()
+    } else {
+        board.scratch_cells()
+    }
+}
+
 /// What a list starts from: mostly sensible.
 pub fn lent(rng: &mut Rng) -> Lent {
     let (board, mut cells, stars) = board(rng);
@@ -382,13 +391,15 @@ pub fn lent(rng: &mut Rng) -> Lent {
         nonsense_sizes(rng, &mut sizes);
     }
     // at times there is room for a file of any size
-    let room = if rng.chance(3) { Board::MOST_VERTICES.pow(2) } else { board.cells() };
-    let table_length = length(rng, room);
+    let vertices = if rng.chance(3) { Board::MOST_VERTICES } else { board.vertices };
+    let room = Board { vertices, ..board };
+    let table_length = length(rng, room.cells());
     // what stands after the board's cells doesn't matter
     cells.resize_with(table_length, || {
         rng.pick(&[0, 1, 5, i32::MAX, i32::MIN, i32::MIN + 1, 1_000_000_001])
     });
-    let scratch = length(rng, room);
+    let scratch_cells = scratch_cells(rng, room);
+    let scratch = length(rng, scratch_cells);
     Lent { sizes, table: cells, scratch, stars }
 }
 

@@ -218,10 +218,15 @@ impl Call {
         if matches!(answer.number(), 1..=3 | refusal::LIBRARY) || in_first_record {
             return 0;
         }
+        Board::SCRATCH_PER_VERTEX as u64 * self.vertices(sizes).unwrap_or(0)
+    }
+
+    /// N as the call takes it, where it takes one: a read from its file.
+    pub fn vertices(&self, sizes: Sizes) -> Option<u64> {
         match self {
-            Call::ReadLibrary { .. } => 0,
-            Call::Read { bytes } => u64::from(bytes[4]).pow(2),
-            _ => sizes.vertices.pow(2),
+            Call::ReadLibrary { .. } => None,
+            Call::Read { bytes } => bytes.get(4).copied().map(u64::from),
+            _ => Some(sizes.vertices),
         }
     }
 }

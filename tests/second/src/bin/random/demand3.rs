@@ -99,16 +99,16 @@ impl Claim {
 
     /// The two calls that answer path delays agree with the slow method.
     fn check_queries(&self, table: &[i32]) -> Result<(), String> {
-        let cells = self.board.cells();
+        let scratch = self.board.scratch_cells();
         let mut matrix = vec![0; self.matrix.len()];
-        let answer = delays::matrix(self.sizes, table, cells, &mut matrix);
+        let answer = delays::matrix(self.sizes, table, scratch, &mut matrix);
         let expected: Vec<i64> = self.matrix.iter().map(|d| d.unwrap_or(delays::NONE)).collect();
         if answer.is_err() || matrix != expected {
             return Err("the matrix call and the slow method differ".into());
         }
         for (inputs, outputs) in &self.arrivals {
             let mut answers = vec![0; outputs.len()];
-            let answer = delays::arrivals(self.sizes, table, cells, inputs, &mut answers);
+            let answer = delays::arrivals(self.sizes, table, scratch, inputs, &mut answers);
             if answer.is_err() || answers != *outputs {
                 return Err("demand 3: other output arrivals".into());
             }
@@ -120,12 +120,12 @@ impl Claim {
     /// the first matrix gives, which is this table's too.
     fn check_margins(&self, table: &[i32]) -> Result<(), String> {
         let board = &self.board;
+        let scratch = board.scratch_cells();
         for LeastMargin { arrivals, required, least } in &self.margins {
             let mut cells = [(); 3].map(|()| vec![0; board.vertices]);
             let [arrival_at, required_at, margin_at] = &mut cells;
             let lent = Answers { arrival: arrival_at, required: required_at, margin: margin_at };
-            let answer =
-                margins::margins(self.sizes, table, board.cells(), arrivals, required, lent);
+            let answer = margins::margins(self.sizes, table, scratch, arrivals, required, lent);
             if answer.is_err() || cells != slow_margins(board, table, arrivals, required) {
                 return Err("the margins call and the slow method differ".into());
             }
@@ -141,7 +141,7 @@ impl Claim {
         let end = self.board.vertices as u64 + 1;
         let mut copy = table.to_vec();
         let mut refused = |call: Call| match call
-            .perform(self.sizes, &mut copy, self.board.cells(), &mut [])
+            .perform(self.sizes, &mut copy, self.board.scratch_cells(), &mut [])
             .answer
         {
             Answer::Accepted(_) => Err(format!("demand 3: after a run {call:?} is accepted")),
@@ -175,14 +175,14 @@ impl Claim {
 
     /// A written file reads back as the same table, whatever the library.
     fn check_round_trip(&self, table: &[i32], library: &[i32]) -> Result<(), String> {
-        let cells = self.board.cells();
+        let (cells, scratch) = (self.board.cells(), self.board.scratch_cells());
         let mut bytes = vec![0; 9 + 8 * present(&self.board, table) as usize];
-        let written = file::write(self.sizes, table, cells, &mut bytes);
+        let written = file::write(self.sizes, table, scratch, &mut bytes);
         if written != Ok(bytes.len() as u64) {
             return Err(format!("the writer answers {written:?}"));
         }
         let mut copy = vec![0; cells];
-        let read = file::read(&bytes, &mut copy, cells, library);
+        let read = file::read(&bytes, &mut copy, scratch, library);
         if read != Ok(self.sizes) || copy != table[..cells] {
             return Err(format!("a written file reads back otherwise: {read:?}"));
         }

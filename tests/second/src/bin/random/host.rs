@@ -85,7 +85,6 @@ fn run_length(rng: &mut Rng, cells: usize, width: usize) -> usize {
 /// The host's three calls on a table, against the second implementation.
 pub fn check(rng: &mut Rng, sizes: Sizes, table: &[i32], tally: &mut Tally) -> Result<(), String> {
     let board = Board::new(sizes).ok();
-    let cells = board.map_or(9, |board| board.cells());
     let vertices = sizes.vertices;
     let destination = board.map_or(4, |board| board.inputs * board.outputs);
     let k = match board {
@@ -100,31 +99,34 @@ pub fn check(rng: &mut Rng, sizes: Sizes, table: &[i32], tally: &mut Tally) -> R
         rng,
         sizes,
         table,
-        cells,
+        board,
         &Call::Matrix { destination: matrix_length / 8 },
         matrix_length,
         tally,
     )?;
-    check_one(rng, sizes, table, cells, &Call::Shrink { k }, 0, tally)?;
-    check_one(rng, sizes, table, cells, &Call::Prune, 0, tally)
+    check_one(rng, sizes, table, board, &Call::Shrink { k }, 0, tally)?;
+    check_one(rng, sizes, table, board, &Call::Prune, 0, tally)
 }
 
 fn check_one(
     rng: &mut Rng,
     sizes: Sizes,
     table: &[i32],
-    cells: usize,
+    board: Option<Board>,
     call: &Call,
     matrix_length: usize,
     tally: &mut Tally,
 ) -> Result<(), String> {
+    let (cells, scratch_cells) =
+        board.map_or((9, 9), |board| (board.cells(), boards::scratch_cells(rng, board)));
     let mut table_bytes: Vec<u8> = table.iter().flat_map(|cell| cell.to_le_bytes()).collect();
     table_bytes.resize(run_length(rng, cells, 4), 0x5a);
     let mut table_cells: Vec<i32> = table_bytes
         .chunks_exact(4)
         .map(|cell| i32::from_le_bytes([cell[0], cell[1], cell[2], cell[3]]))
         .collect();
-    let scratch_bytes: Vec<u8> = (0..run_length(rng, cells, 8)).map(|_| rng.next() as u8).collect();
+    let scratch_bytes: Vec<u8> =
+        (0..run_length(rng, scratch_cells, 8)).map(|_| rng.next() as u8).collect();
     // what `perform` fills a destination with, so that untouched cells agree
     let matrix_fill = 9i64.to_le_bytes();
     let matrix_bytes: Vec<u8> = (0..matrix_length).map(|at| matrix_fill[at % 8]).collect();
@@ -175,9 +177,11 @@ fn check_one(
         }),
     };
 
-    let performed = call.perform(sizes, &mut table_cells, scratch_bytes.len() / 8, &mut []);
+    let scratch = scratch_bytes.len() / 8;
+    let performed = call.perform(sizes, &mut table_cells, scratch, &mut []);
     let number = performed.answer.number();
     tally.count(kind, number);
+    tally.count_scratch(kind, call.vertices(sizes), scratch, number);
     let expected = match performed.answer {
         Answer::Accepted(Accepted::Left(arcs)) => arcs as i64,
         Answer::Accepted(_) => 0,

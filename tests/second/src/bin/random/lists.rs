@@ -120,7 +120,8 @@ impl Maker<'_> {
 
     /// The most vertices of a file that fits what is lent.
     fn largest(&self, table: &[i32]) -> usize {
-        table.len().min(self.scratch).isqrt().min(Board::MOST_VERTICES)
+        let by_scratch = self.scratch / Board::SCRATCH_PER_VERTEX;
+        table.len().isqrt().min(by_scratch).min(Board::MOST_VERTICES)
     }
 
     fn length(&mut self, right: usize) -> usize {

@@ -180,7 +180,9 @@ fn one_list(
         let call = if place == 0 { maker.first(&table) } else { maker.call(&table) };
         let (before, library_before) = (table.clone(), library.clone());
         let performed = call.perform(sizes, &mut table, lent.scratch, &mut library);
-        tally.count(call.code().into(), performed.answer.number());
+        let (kind, number) = (call.code().into(), performed.answer.number());
+        tally.count(kind, number);
+        tally.count_scratch(kind, call.vertices(sizes), lent.scratch, number);
         match (&call, performed.answer) {
             (_, Answer::Accepted(Accepted::Ran(ran))) => {
                 tally.count_run(ran.rounds);

@@ -1,9 +1,10 @@
-//! How often each call was accepted, and refused by which number; how many rounds the runs took; how
-//! many margins were present and absent; which loads the cells of files had; which libraries were read,
-//! and which boards under them.
+//! How often each call was accepted, and refused by which number, and with how much scratch; how many
+//! rounds the runs took; how many margins were present and absent; which loads the cells of files had;
+//! which libraries were read, and which boards under them.
 
 use crate::libraries;
 use crate::loads::{self, Cell};
+use second::board::Board;
 use second::delays::NONE;
 use second::library::{CODES, MOST_TICKS};
 use second::records::RefusedRead;
@@ -51,6 +52,17 @@ pub const C_PRUNE: usize = 17;
 
 /// Number 0 counts the accepted calls.
 const NUMBERS: usize = 24;
+
+/// The calls by their cells of scratch. The first are those of boards where N × N is more than 4N, the
+/// last those of boards where it is less.
+const SCRATCHES: [&str; 6] = [
+    "accepted with 4N",
+    "accepted with more, below N x N",
+    "accepted with N x N",
+    "accepted with more",
+    "refused by 3 with 4N - 1, below N x N",
+    "refused by 3 with N x N and more",
+];
 
 /// Runs with more rounds are counted with the last.
 const ROUNDS: usize = 8;
@@ -110,6 +122,7 @@ const OTHERWISE: [u64; 12] = [0, 1, 2, 3, 5, 6, 15, 16, 17, 18, 19, 20];
 #[derive(Default)]
 pub struct Tally {
     counts: [[u64; NUMBERS]; KINDS.len()],
+    scratches: [[u64; SCRATCHES.len()]; KINDS.len()],
     runs: [u64; ROUNDS],
     margins: [u64; MARGINS.len()],
     cells: [[u64; CELLS.len()]; READERS.len()],
@@ -124,6 +137,19 @@ pub struct Tally {
 impl Tally {
     pub fn count(&mut self, kind: usize, number: u64) {
         self.counts[kind][number as usize] += 1;
+    }
+
+    /// A call's N, if it has one, the cells of its scratch, and the number, 0 if accepted.
+    pub fn count_scratch(
+        &mut self,
+        kind: usize,
+        vertices: Option<u64>,
+        scratch: usize,
+        number: u64,
+    ) {
+        if let Some(class) = vertices.and_then(|n| scratch_class(n as usize, scratch, number)) {
+            self.scratches[kind][class] += 1;
+        }
     }
 
     /// A run, by its rounds that accepted something.
@@ -201,7 +227,8 @@ impl Tally {
     }
 
     fn all(&self) -> impl Iterator<Item = &u64> {
-        let counts = self.counts.as_flattened().iter().chain(&self.runs).chain(&self.margins);
+        let counts = self.counts.as_flattened().iter().chain(self.scratches.as_flattened());
+        let counts = counts.chain(&self.runs).chain(&self.margins);
         let counts = counts.chain(self.cells.as_flattened()).chain(self.overloaded.as_flattened());
         let counts = counts.chain(&self.libraries).chain(&self.faults);
         counts.chain(&self.boards).chain(&self.otherwise)
@@ -209,6 +236,7 @@ impl Tally {
 
     fn all_mut(&mut self) -> impl Iterator<Item = &mut u64> {
         let counts = self.counts.as_flattened_mut().iter_mut();
+        let counts = counts.chain(self.scratches.as_flattened_mut());
         let counts = counts.chain(&mut self.runs).chain(&mut self.margins);
         let counts =
             counts.chain(self.cells.as_flattened_mut()).chain(self.overloaded.as_flattened_mut());
@@ -229,6 +257,11 @@ impl Tally {
         print!("every call    accepted {:6}", self.total(0));
         for number in 1..NUMBERS {
             print!("  {number}:{}", self.total(number));
+        }
+        println!();
+        print!("calls by scratch");
+        for (class, which) in SCRATCHES.iter().enumerate() {
+            print!("  {which}:{}", self.scratches.iter().map(|row| row[class]).sum::<u64>());
         }
         println!();
         print!("runs by rounds that accepted something");
@@ -292,6 +325,15 @@ impl Tally {
                 }
             }
         }
+        let has_scratch = |kind: &Kind| kind.refusals.contains(&refusal::SHORT_SCRATCH);
+        let kinds = KINDS.iter().zip(&self.scratches).take(kinds);
+        for (kind, row) in kinds.filter(|(kind, _)| has_scratch(kind)) {
+            for (which, &count) in SCRATCHES.iter().zip(row) {
+                if count == 0 {
+                    faults.push(format!("{} was never {which} cells of scratch", kind.name));
+                }
+            }
+        }
         for (rounds, least) in LEAST_RUNS {
             let count = self.runs[rounds];
             if count < least {
@@ -340,6 +382,21 @@ impl Tally {
             }
         }
         faults
+    }
+}
+
+/// A call's place among `SCRATCHES`.
+fn scratch_class(vertices: usize, scratch: usize, number: u64) -> Option<usize> {
+    // by another number any N is refused
+    if !matches!(number, 0 | refusal::SHORT_SCRATCH) {
+        return None;
+    }
+    let (least, cells) = (Board::SCRATCH_PER_VERTEX * vertices, vertices * vertices);
+    match number {
+        0 if scratch < cells => Some(usize::from(scratch > least)),
+        0 => Some(if scratch == cells { 2 } else { 3 }),
+        _ if scratch >= cells => Some(5),
+        _ => (scratch + 1 == least).then_some(4),
     }
 }
 
