@@ -1,4 +1,4 @@
--- How many cells of a run are handed to the calls below: those of r rows of c cells, or fewer where the run has fewer. Sizes that check 1 refuses show none.
+-- How many cells of a table's or a matrix's run are handed to the calls below: those of r rows of c cells, or fewer where the run has fewer. Sizes that check 1 refuses show none.
 use Rattle.std.specs.Prelude.{cond, ◌&&◌, ℕ, ◌*◌, min, leb}
 use Rattle.timing.specs.Limits.{max_vertices}
 
