@@ -10,5 +10,7 @@ pub mod MergedTable
 pub mod Differences
 pub mod DifferenceCells
 pub mod SharedRows
+pub mod Undriven
+pub mod SoleDrivers
 pub mod ShareConditions
 pub mod Vectors

@@ -13,10 +13,13 @@ use Rattle.timing.specs.declared.Refusal.{Refusal}
 use Rattle.timing.specs.declared.Refusal.TheVariants.{WrongVertex, NumberTaken}
 use Rattle.timing.specs.Refusal.{Verdict, refused, require, ◌then◌, verdict}
 use Rattle.timing.specs.Delays.{matrix, column}
+use Rattle.timing.specs.Sound.{Sound}
 use Rattle.reduction.specs.Outcome.{is_input, is_output, is_inner, unused}
 use Rattle.reduction.specs.Common.{common_difference}
-use Rattle.reduction.specs.ShareInputs.{inputs_saved, share_inputs_verdict}
+use Rattle.reduction.specs.ShareInputs.{share_inputs_verdict}
+use Rattle.reduction.specs.DeletionMeaning.{saved_before}
 use Rattle.reduction.specs.ShareOutputs.{outputs_saved, share_outputs_verdict}
+use Rattle.reduction.proofs.ShareDeletion.{share_inputs_before}
 
 module _ (N : ℕ) (g : Graph) (k : ℕ) where
   pub used : (fan_out N g k ≡ 0 → ⊥) → unused N g k ≡ false
@@ -49,7 +52,7 @@ module _ (m n N a b : ℕ) (g : Graph) where
 
 -- ---- the verdict of share inputs
 
-module _ (m n N a b k : ℕ) (g : Graph) where
+module _ (m n N a b k : ℕ) {g : Graph} (s : Sound m n N g) where
   abbrev inputs : Bool
   inputs = is_input m a && is_input m b && not (eqb a b) && ltb k N
 
@@ -60,23 +63,20 @@ module _ (m n N a b k : ℕ) (g : Graph) where
   common = common_difference n (matrix m N g a) (matrix m N g b)
 
   pub inputs_wrong : (is_input m a && is_input m b && not (eqb a b) && ltb k N) ≡ false → refused 7 ≡ share_inputs_verdict m n N a b k g
-  unfolding share_inputs_verdict
-  inputs_wrong e = sym (ap (λ (c : Bool). require c WrongVertex (require free NumberTaken (common then inputs_saved N g b))) e)
+  inputs_wrong e = sym (share_inputs_before a b k s ∙ ap (λ (c : Bool). require c WrongVertex (require free NumberTaken (common then saved_before m n N g b))) e)
 
   module _ (e : (is_input m a && is_input m b && not (eqb a b) && ltb k N) ≡ true) where
     pub number_taken : (is_inner m n N k && unused N g k) ≡ false → refused 8 ≡ share_inputs_verdict m n N a b k g
-    unfolding share_inputs_verdict
-    number_taken f = sym (ap (λ (c : Bool). require c WrongVertex (require free NumberTaken (common then inputs_saved N g b))) e ∙ ap (λ (c : Bool). require c NumberTaken (common then inputs_saved N g b)) f)
+    number_taken f = sym (share_inputs_before a b k s ∙ ap (λ (c : Bool). require c WrongVertex (require free NumberTaken (common then saved_before m n N g b))) e ∙ ap (λ (c : Bool). require c NumberTaken (common then saved_before m n N g b)) f)
 
     module _ (f : (is_inner m n N k && unused N g k) ≡ true) (found : Result ℤ Refusal) (said : verdict found ≡ common_difference n (matrix m N g a) (matrix m N g b)) where
-      inputs_right : (verdict found then inputs_saved N g b) ≡ share_inputs_verdict m n N a b k g
-      unfolding share_inputs_verdict
+      inputs_right : (verdict found then saved_before m n N g b) ≡ share_inputs_verdict m n N a b k g
       inputs_right =
-          ap (λ (x : Verdict ℤ). x then inputs_saved N g b) said
-          ∙ sym (ap (λ (c : Bool). require c WrongVertex (require free NumberTaken (common then inputs_saved N g b))) e ∙ ap (λ (c : Bool). require c NumberTaken (common then inputs_saved N g b)) f)
+          ap (λ (x : Verdict ℤ). x then saved_before m n N g b) said
+          ∙ sym (share_inputs_before a b k s ∙ ap (λ (c : Bool). require c WrongVertex (require free NumberTaken (common then saved_before m n N g b))) e ∙ ap (λ (c : Bool). require c NumberTaken (common then saved_before m n N g b)) f)
 
-      pub inputs_common : (z : ℤ) → found ≡ Ok z → inputs_saved N g b z ≡ share_inputs_verdict m n N a b k g
-      inputs_common z q = sym (ap (λ (x : Result ℤ Refusal). verdict x then inputs_saved N g b) q) ∙ inputs_right
+      pub inputs_common : (z : ℤ) → found ≡ Ok z → saved_before m n N g b z ≡ share_inputs_verdict m n N a b k g
+      inputs_common z q = sym (ap (λ (x : Result ℤ Refusal). verdict x then saved_before m n N g b) q) ∙ inputs_right
 
       pub inputs_refused : (r : Refusal) → found ≡ Err r → verdict found ≡ share_inputs_verdict m n N a b k g
-      inputs_refused r q = ap verdict q ∙ sym (ap (λ (x : Result ℤ Refusal). verdict x then inputs_saved N g b) q) ∙ inputs_right
+      inputs_refused r q = ap verdict q ∙ sym (ap (λ (x : Result ℤ Refusal). verdict x then saved_before m n N g b) q) ∙ inputs_right

@@ -1,7 +1,7 @@
 -- Rows that the shares leave, and what they are in the table.
 use mathlib.Core.Path.{◌≡◌, refl, sym, ap, ap₂, ◌∙◌}
 use mathlib.Core.Logic.{◌≢◌}
-use mathlib.Core.Bool.{Bool, true, false, cond}
+use mathlib.Core.Bool.{Bool, true, false, not, cond}
 use mathlib.Core.List.{List}
 use Prim.Native.Nat.{ℕ, ◌*◌, ◌<◌}
 use native.Mathlib.Decide.{ℕ_discrete}
@@ -14,13 +14,16 @@ use Rattle.laws.specs.Lists.{tabulate}
 use Rattle.laws.proofs.Booleans.{eqb_same, eqb_other}
 use Rattle.laws.proofs.Lists.{tabulate_same, is_tabulate}
 use Rattle.graph.specs.Delay.{Delay, absent, at, immediate}
+use Rattle.graph.specs.Graph.{Graph}
 use Rattle.timing.specs.Limits.{absent_cell}
 use Rattle.timing.specs.Table.{write_cell, graph_of}
 use Rattle.timing.proofs.Table.{written_read}
 use Rattle.reduction.specs.ShareInputs.{inputs_shared}
 use Rattle.reduction.specs.ShareOutputs.{outputs_shared}
 use Rattle.paths.specs.Cells.{cell_at}
-use Rattle.plans.specs.SharedRow.{inputs_cell, outputs_cell}
+use Rattle.sets.specs.declared.Set.{Set}
+use Rattle.sets.specs.Sets.{holds}
+use Rattle.plans.specs.SharedRow.{inputs_cell, outputs_cell, without_arcs}
 use Rattle.plans.specs.Rewritten.{new_cell, Copied}
 use Rattle.plans.proofs.CopiedRow.{row_size, lent_at}
 
@@ -76,3 +79,16 @@ module _ {N : ℕ} {t via : List ℤ} {a : ℕ} (c : Copied N t via a) (u : ℕ)
   unfolding outputs_shared
   outputs_row p b d q = q ∙ rw (row_size c u l x e) (tabulate_same N (outputs_cell x p b d u) (new_cell (outputs_shared p b d (graph_of N t)) u) (λ v h.
       ap₂ (cond (eqb v b)) (write_cond (eqb u p) (at d) absent) (row_reads v h) ∙ write_cond (eqb v b) (cond (eqb u p) (at d) absent) (graph_of N t u v)))
+
+-- the row of u without the arcs of the members of s
+module _ (N : ℕ) (s : Set) (g : Graph) (u : ℕ) where
+  abbrev thin : Bool → List ℤ
+  thin b = tabulate N (λ v. write_cell absent_cell (cond (not b) (g u v) absent))
+
+  pub undriven_row : {ys : List ℤ} → holds s u ≡ true → ys ≡ tabulate N (λ _. absent_cell) → ys ≡ tabulate N (new_cell (without_arcs s g) u)
+  unfolding without_arcs
+  undriven_row h q = q ∙ ap thin (sym h)
+
+  pub driven_row : {ys : List ℤ} → holds s u ≡ false → ys ≡ tabulate N (new_cell g u) → ys ≡ tabulate N (new_cell (without_arcs s g) u)
+  unfolding without_arcs
+  driven_row h q = q ∙ ap thin (sym h)

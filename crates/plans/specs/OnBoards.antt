@@ -13,7 +13,8 @@ use Rattle.timing.specs.Delays.{matrix, column, arrival_in}
 use Rattle.reduction.specs.Outcome.{is_input, is_output, is_inner, unused}
 use Rattle.reduction.specs.Common.{common_difference}
 use Rattle.reduction.specs.Shrink.{shrink_verdict}
-use Rattle.reduction.specs.ShareInputs.{inputs_saved, share_inputs_verdict}
+use Rattle.reduction.specs.ShareInputs.{share_inputs_verdict}
+use Rattle.reduction.specs.DeletionMeaning.{leaves_undriven, saved_before}
 use Rattle.reduction.specs.ShareOutputs.{outputs_saved, share_outputs_verdict}
 use Rattle.reduction.specs.MergeBack.{merge_back_verdict}
 use Rattle.reduction.specs.Steps.{Step, plan}
@@ -59,10 +60,14 @@ merge_back_on b t o = merge_back_verdict b.inputs b.outputs b.vertices o (graph_
 
 -- what is left to ask of a share whose difference is e
 abbrev pub inputs_saved_on : Board → List ℤ → ℕ → ℤ → Verdict ℤ
-inputs_saved_on b t j e = inputs_saved b.vertices (graph_in b t) j e
+inputs_saved_on b t j e = saved_before b.inputs b.outputs b.vertices (graph_in b t) j e
 
 abbrev pub outputs_saved_on : Board → List ℤ → ℕ → ℕ → ℤ → Verdict ℤ
 outputs_saved_on b t i j e = outputs_saved b.vertices (graph_in b t) i j e
+
+-- after a share of input j with another, arcs are left that go
+abbrev pub leaves_undriven_on : Board → List ℤ → ℕ → Bool
+leaves_undriven_on b t j = leaves_undriven b.inputs b.outputs b.vertices (graph_in b t) j
 
 -- of two rows, or two columns, of the delay matrix
 abbrev pub rows_difference : Board → List ℤ → ℕ → ℕ → Verdict ℤ

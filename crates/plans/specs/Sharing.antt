@@ -9,7 +9,9 @@ use Rattle.paths.specs.declared.board.Board.{Board}
 use Rattle.paths.specs.Board.{graph_in}
 use Rattle.paths.specs.Order.{TopologicalOrder, stands_before}
 use Rattle.sets.specs.declared.Set.{Set}
+use Rattle.sets.specs.Sets.{holds}
 use Rattle.reach.specs.RowSets.{RowSets}
+use Rattle.plans.specs.OnBoards.{leaves_undriven_on}
 
 -- two outputs
 pub record TwoOutputs (board : Board) (a b : ℕ) : Type 0 where
@@ -22,6 +24,14 @@ pub record TwoOutputs (board : Board) (a b : ℕ) : Type 0 where
 -- the sets, where they are made, are the table's rows
 abbrev pub Indexed : Board → List ℤ → Option (List Set) → Type 0
 Indexed board t rows = IfSome rows (RowSets board.vertices (graph_in board t))
+
+-- the members are the inputs after a share of which arcs are left that go
+abbrev pub SoleDrivers : Board → List ℤ → Set → Type 0
+SoleDrivers board t drivers = (v : ℕ) → v < board.vertices → holds drivers v ≡ leaves_undriven_on board t v
+
+-- the same of a set, where it is made
+abbrev pub DriversOf : Board → List ℤ → Option Set → Type 0
+DriversOf board t drivers = IfSome drivers (SoleDrivers board t)
 
 -- the order, where there is one, is one of the table's
 abbrev pub OrderOf : Board → List ℤ → Option (Bor (List ℕ)) → Type 0

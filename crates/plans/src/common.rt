@@ -52,7 +52,7 @@ pub fn common_difference(xs: &[i64], ys: &[i64]) -> Result<i64, Refusal>
     }
 }
 
-// What is left to ask where e is the common difference: whether the second vertex has arcs enough, and whether e is a delay.
+// What is left to ask where e is the common difference: whether the share saves enough arcs, and whether e is a delay.
 pub fn saved(enough: bool, e: i64) -> Result<i64, Refusal>
     ensures { verdict result ≡ require enough NothingSaved (require (fits delay_limit (at e)) DelayOutOfRange (accepted e)) }
 {

@@ -37,10 +37,10 @@ pub trait Rewriting {
 // prover knows nothing once it has been lent for reading (tried in run). An order stays beside them, for a `Sorted` lends the table for reading only, and the
 // step writes it afterwards.
 
-// The structs with an `impl Rewriting` are what an accepted verdict gives; a shrink is the same before it. Before it the other steps' vertices stay parameters, here, in
-// paths/src/order.rt, in reach and in run, as document 01's calls name them: there is no e, d or driver yet, or a refusal can still follow (`inputs_saved`,
-// `outputs_saved`, `merge_fits`, and run's `share`). After it, what keeps an order or the sets of the rows up to date (`still_sorted`, `keep_up`, `one_source`) has no
-// use for e.
+// The structs with an `impl Rewriting` are what an accepted verdict gives, and what a share of inputs finds out besides; a shrink is the same before it. Before it
+// the other steps' vertices stay parameters, here, in paths/src/order.rt, in reach and in run, as document 01's calls name them: there is no e, d or driver yet,
+// or a refusal can still follow (`inputs_saved`, `outputs_saved`, `merge_fits`, and run's `share`). After it, what keeps an order or the sets of the rows up to
+// date (`still_sorted`, `keep_up`, `one_source`) has no use for e.
 
 // The one row is copied first, for two rows of one table cannot be lent together.
 pub fn rewrite<R: Rewriting>(board: Board, table: &mut [i32], how: &R)

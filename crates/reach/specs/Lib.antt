@@ -1,1 +1,2 @@
 pub mod RowSets
+pub mod Spread

@@ -1,7 +1,7 @@
 // The rows of a table as sets of vertices, and whether a path leads from one vertex to another.
 #![tactic(auto)]
 
-ghost use Rattle.std.specs.Prelude.{◌≡◌, ◌&&◌, ℕ, ◌<◌, ◌≤◌, ltb, length};
+ghost use Rattle.std.specs.Prelude.{◌≡◌, ◌&&◌, ℕ, ◌<◌, ◌≤◌, T, ltb, length};
 ghost use Rattle.graph.specs.Delay.{present};
 ghost use Rattle.graph.specs.Graph.{Graph, longest};
 ghost use Rattle.timing.specs.Limits.{max_vertices};
@@ -9,6 +9,7 @@ ghost use Rattle.paths.specs.Cells.{cell_at};
 ghost use Rattle.paths.specs.Tables.{timing_graph};
 ghost use Rattle.sets.specs.Sets.{holds};
 ghost use Rattle.reach.specs.RowSets.{Targets, RowSets, Rowed, OneSource};
+ghost use Rattle.reach.specs.Spread.{barred, Spread};
 
 use paths::{Board, Table, cells};
 use sets::Set;
@@ -76,4 +77,19 @@ pub fn leads(sets: &[Set], v: usize, u: usize) -> bool
         met = met.or(sets[x]);
     }
     true
+}
+
+// What is met from the members of `from`, by arcs that do not leave `without`: each vertex met adds its targets, until none is left.
+pub fn spread(table: &Table, from: Set, without: usize) -> Set
+    requires from_below { (u : ℕ) → T (holds from u) → u < table.now.board.vertices }
+    requires without_below { without < table.now.board.vertices }
+    ensures { Spread (barred without (timing_graph table.now)) from result }
+{
+    let mut met = from;
+    let mut done = Set::empty().plus(without);
+    while let Some(x) = met.without(done).first() {
+        done = done.plus(x);
+        met = met.or(targets(table, x));
+    }
+    met
 }

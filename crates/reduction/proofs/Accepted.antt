@@ -23,7 +23,8 @@ use Rattle.timing.proofs.Verdict.{require_accepted, accepted_require, then_accep
 use Rattle.reduction.specs.Outcome.{is_input, is_output, is_inner, unused}
 use Rattle.reduction.specs.Common.{first_difference, common_difference}
 use Rattle.reduction.specs.Shrink.{shrink_verdict}
-use Rattle.reduction.specs.ShareInputs.{enough_out, inputs_saved, share_inputs_verdict}
+use Rattle.reduction.specs.Deletion.{deletes}
+use Rattle.reduction.specs.ShareInputs.{inputs_shared, enough_out, two_out, inputs_saved, share_inputs_verdict}
 use Rattle.reduction.specs.ShareOutputs.{enough_in, outputs_saved, share_outputs_verdict}
 use Rattle.reduction.specs.Prune.{pruned, prune_verdict}
 use Rattle.reduction.specs.MergeBack.{driver, driver_delay, merge_fits, merge_back_verdict}
@@ -59,7 +60,7 @@ pub record ShareInputsAccepted (m n N a b k : ℕ) (g : Graph) (e : ℤ) : Type 
   pub inner : Inner m n N k
   pub free : T (unused N g k)
   pub difference : common_difference n (matrix m N g a) (matrix m N g b) ≡ accepted e
-  pub enough : T (enough_out N g b)
+  pub pays : T (enough_out N g b || (two_out N g b && deletes m n N (inputs_shared a b k e g)))
   pub in_range : T (fits delay_limit (at e))
 
 pub share_inputs_accepted : (m n N a b k : ℕ) (g : Graph) (e : ℤ) → share_inputs_verdict m n N a b k g ≡ accepted e → ShareInputsAccepted m n N a b k g e
@@ -67,8 +68,8 @@ unfolding share_inputs_verdict
 share_inputs_accepted m n N a b k g e q =
     let p7 = require_accepted (is_input m a && is_input m b && not (eqb a b) && ltb k N) WrongVertex _ e q in
     let p8 = require_accepted (is_inner m n N k && unused N g k) NumberTaken _ e p7.1 in
-    let p11 = then_accepted (common_difference n (matrix m N g a) (matrix m N g b)) (inputs_saved N g b) e p8.1 in
-    let p13 = require_accepted (enough_out N g b) NothingSaved _ e p11.2 in
+    let p11 = then_accepted (common_difference n (matrix m N g a) (matrix m N g b)) (inputs_saved m n N a b k g) e p8.1 in
+    let p13 = require_accepted (enough_out N g b || (two_out N g b && deletes m n N (inputs_shared a b k p11.0 g))) NothingSaved _ e p11.2 in
     let p14 = require_accepted (fits delay_limit (at p11.0)) DelayOutOfRange _ e p13.1 in
     let h = and_e (is_input m a && is_input m b) (not (eqb a b)) (and_e (is_input m a && is_input m b && not (eqb a b)) (ltb k N) p7.0).0 in
     let i = and_e (is_input m a) (is_input m b) h.0 in
@@ -80,13 +81,13 @@ share_inputs_accepted m n N a b k g e q =
       inner = inner_of m n N k f.0;
       free = f.1;
       difference = p11.1 ∙ p14.1;
-      enough = p13.0;
+      pays = subst (λ (z : ℤ). T (enough_out N g b || (two_out N g b && deletes m n N (inputs_shared a b k z g)))) (same_accepted p14.1) p13.0;
       in_range = subst (λ (z : ℤ). T (fits delay_limit (at z))) (same_accepted p14.1) p14.0;
     }
 
 -- the verdict once the vertices are right
 pub inputs_asked : (m n N a b k : ℕ) (g : Graph) → a < m → b < m → a ≢ b → Inner m n N k → T (unused N g k)
-    → share_inputs_verdict m n N a b k g ≡ (common_difference n (matrix m N g a) (matrix m N g b) then inputs_saved N g b)
+    → share_inputs_verdict m n N a b k g ≡ (common_difference n (matrix m N g a) (matrix m N g b) then inputs_saved m n N a b k g)
 unfolding share_inputs_verdict
 inputs_asked m n N a b k g ha hb ab hk free =
     let low = lt→ltb k N hk.1 in

@@ -1,5 +1,5 @@
 -- What every accepted step does to a graph: `Better`. And what the tests of roles say.
-use mathlib.Core.Path.{◌≡◌, sym, ◌∙◌}
+use mathlib.Core.Path.{◌≡◌, refl, sym, ◌∙◌}
 use mathlib.Core.Logic.{◌≢◌, ◌⊎◌, inl, inr}
 use mathlib.Core.Bool.{Bool}
 use Prim.Native.Nat.{ℕ, ◌+◌, ◌≤◌, ◌<◌}
@@ -41,6 +41,10 @@ pub record Better (counts : ℕ → ℕ → Bool) (m n N : ℕ) (g g' : Graph) :
   pub same : Same counts m n N g g'
   pub fewer : arcs N g' < arcs N g
 
+-- no change
+pub same_self : {counts : ℕ → ℕ → Bool} {m n N : ℕ} {g : Graph} → Sound m n N g → Same counts m n N g g
+same_self s = record { sound = s; matrix = λ i j hi hj c. refl }
+
 -- one change after another
 pub same_on : {counts : ℕ → ℕ → Bool} {m n N : ℕ} {g g' g'' : Graph} → Same counts m n N g g' → Same counts m n N g' g'' → Same counts m n N g g''
 same_on a b = record { sound = b.sound; matrix = λ i j hi hj c. b.matrix i j hi hj c ∙ a.matrix i j hi hj c }
@@ -50,7 +54,7 @@ pub same_for : {counts : ℕ → ℕ → Bool} {m n N : ℕ} {g g' : Graph} → 
 same_for a = record { sound = a.sound; matrix = λ i j hi hj _. a.matrix i j hi hj tt }
 
 -- where none of the first N is counted, and there are no others
-none_counted : (N : ℕ) (f : ℕ → Delay) → ((u : ℕ) → T (present (f u)) → u < N) → sum N (λ u. bit (f u)) ≡ 0 → (u : ℕ) → f u ≡ absent
+pub none_counted : (N : ℕ) (f : ℕ → Delay) → ((u : ℕ) → T (present (f u)) → u < N) → sum N (λ u. bit (f u)) ≡ 0 → (u : ℕ) → f u ≡ absent
 none_counted N f below e u = go (absent_or (f u))
   where
     go : (f u ≡ absent) ⊎ T (present (f u)) → f u ≡ absent

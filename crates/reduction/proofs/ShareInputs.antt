@@ -1,14 +1,14 @@
 -- Sharing inputs: first b's row becomes a's row and e, which is what b's arrivals are at every output; then the new vertex is brought in as a shrink
 -- read backwards.
-use mathlib.Core.Path.{◌≡◌, sym, ap, ◌∙◌, subst}
+use mathlib.Core.Path.{◌≡◌, refl, sym, ap, ◌∙◌, subst}
 use mathlib.Core.Logic.{◌≢◌, ◌⊎◌, inl, inr}
-use mathlib.Core.Bool.{Bool}
+use mathlib.Core.Bool.{Bool, not, true, false, cond, ◌&&◌, ◌||◌}
 use Prim.Native.Nat.{ℕ, suc, ◌+◌, ◌-◌, ◌≤◌, ◌<◌}
 use native.Mathlib.Decide.{ℕ_discrete}
 use native.Mathlib.Omega.{arith}
-use lib.Dec.{T, leb→le}
+use lib.Dec.{T, eqb→eq, leb→le, ltb→lt}
 use lib.IntN.{ℤ}
-use Rattle.laws.proofs.Booleans.{eqb_same, eqb_other}
+use Rattle.laws.proofs.Booleans.{eqb_same, eqb_other, and_e, true_is, cond_elim}
 use Rattle.laws.proofs.Update.{update, update_same, update_other, update_elim}
 use Rattle.laws.proofs.Sums.{sum_le, sum_eq, sum_but_three, sum_single}
 use Rattle.graph.specs.Delay.{Delay, absent, at, present, immediate, ◌⋓◌, ◌⊕◌, ◌⊑◌}
@@ -23,12 +23,14 @@ use Rattle.timing.specs.Limits.{delay_limit, fits}
 use Rattle.timing.specs.Refusal.{accepted}
 use Rattle.timing.specs.Sound.{LegalArc, Sound}
 use Rattle.timing.proofs.Checks.{sound_within, sound_inputs}
-use Rattle.reduction.specs.Outcome.{every_pair, unused}
-use Rattle.reduction.proofs.Better.{Output, Inner, Same, Better, unused_in, unused_out, rank_of, longest_of, input_output, input_inner, output_inner, same}
+use Rattle.reduction.specs.Outcome.{is_inner, every_pair, unused}
+use Rattle.reduction.proofs.Better.{Output, Inner, Same, Better, unused_in, unused_out, rank_of, longest_of, input_output, input_inner, output_inner, same, same_on}
 use Rattle.graph.proofs.Longest.{Within, longest_is}
 use Rattle.timing.specs.Delays.{matrix}
-use Rattle.reduction.specs.ShareInputs.{share_inputs_verdict, inputs_shared}
+use Rattle.reduction.specs.Deletion.{deleted, deletes}
+use Rattle.reduction.specs.ShareInputs.{inputs_shared, enough_out, two_out, share_inputs_verdict, inputs_reduced}
 use Rattle.reduction.proofs.Accepted.{common_accepted, share_inputs_accepted}
+use Rattle.reduction.proofs.Deletion.{deleted_keeps, outside_stays}
 use Rattle.reduction.proofs.Shrink.{Shrunk}
 use Rattle.reduction.proofs.Unshrink.{unshrunk_ranked, unshrunk_same}
 
@@ -178,6 +180,18 @@ shared_count {N} {a} {b} {k} {e} {g} {g'} s ab ka kb out in' aN bN kN =
       sum_eq N (λ t. bit (g' k t)) (λ t. bit (g a t)) (λ t _. ap bit (s.hub t)),
     )
 
+pub shared_within : {N a b k : ℕ} {e : ℤ} {g g' : Graph} → Shared a b k e g g' → Within N g → a < N → b < N → k < N → Within N g'
+shared_within {N} {a} {b} {k} {e} {g} {g'} s w aN bN kN = record { in_range = λ u t h. go u t h (ℕ_discrete u k) (ℕ_discrete t k) (ℕ_discrete u a) (ℕ_discrete u b) }
+  where
+    go : (u t : ℕ) → T (present (g' u t)) → Dec (u ≡ k) → Dec (t ≡ k) → Dec (u ≡ a) → Dec (u ≡ b) → (u < N) × (t < N)
+    go u t h (yes z) _ _ _ = (rw z kN, (w.in_range a t (rw (z, s.hub t) at h)).1)
+    go u t h (no _) (yes z) (yes q) _ = (rw q aN, rw z kN)
+    go u t h (no _) (yes z) (no _) (yes f) = (rw f bN, rw z kN)
+    go u t h (no _) (yes z) (no q) (no f) = absurd (not-present (g' u t) (rw z (s.else_k u q f)) h)
+    go u t h (no _) (no z) (yes q) _ = absurd (not-present (g' u t) (rw q (s.a_out t z)) h)
+    go u t h (no _) (no z) (no q) (yes f) = absurd (not-present (g' u t) (rw f (s.b_out t z)) h)
+    go u t h (no p) (no z) (no q) (no f) = w.in_range u t (rw (s.rest u t q f p z) at h)
+
 -- ---- the step
 
 inputs_shared_is : (a b k : ℕ) (e : ℤ) (g : Graph) → a ≢ k → b ≢ k → k ≢ a → k ≢ b → b ≢ a → ((u : ℕ) → g u k ≡ absent) → Shared a b k e g (inputs_shared a b k e g)
@@ -195,6 +209,13 @@ inputs_shared_is a b k e g ak bk ka kb ba fresh = record {
     other : (u : ℕ) → u ≢ a → u ≢ b → Dec (u ≡ k) → inputs_shared a b k e g u k ≡ absent
     other u p q (yes x) = rw (x, eqb_other k a ka, eqb_other k b kb, eqb_same k) (fresh a)
     other u p q (no n) = rw (eqb_other u a p, eqb_other u b q, eqb_other u k n) (fresh u)
+
+-- of two inputs and a free number
+pub inputs_shared_by : {m n N : ℕ} (a b k : ℕ) {g : Graph} (e : ℤ) → Sound m n N g → a < m → b < m → a ≢ b → Inner m n N k → T (unused N g k) → Shared a b k e g (inputs_shared a b k e g)
+inputs_shared_by a b k {g} e s ha hb ab hk free =
+    let ak = input_inner s a k ha hk in
+    let bk = input_inner s b k hb hk in
+    inputs_shared_is a b k e g ak bk (λ z. ak (sym z)) (λ z. bk (sym z)) (λ z. ab (sym z)) (unused_in (sound_within s) k free)
 
 -- From the facts that the verdict gives, where b's delays that count are a's and e.
 module _ (counts : ℕ → ℕ → Bool) {m n N : ℕ} (a b k : ℕ) {g : Graph} (e : ℤ) (s : Sound m n N g) (ha : a < m) (hb : b < m) (ab : a ≢ b) (hk : Inner m n N k) (free : T (unused N g k))
@@ -224,7 +245,7 @@ module _ (counts : ℕ → ℕ → Bool) {m n N : ℕ} (a b k : ℕ) {g : Graph}
   b<N = omega (arith, s.room)
 
   c : Shared a b k e g (inputs_shared a b k e g)
-  c = inputs_shared_is a b k e g ak bk ka kb (λ z. ab (sym z)) in'
+  c = inputs_shared_by a b k e s ha hb ab hk free
 
   none : (u : ℕ) → g u b ≡ absent
   none u = sound_inputs s u b hb
@@ -252,7 +273,7 @@ module _ (counts : ℕ → ℕ → Bool) {m n N : ℕ} (a b k : ℕ) {g : Graph}
       go (no p) (no z) (no q) (no f) h = rw (c.rest u t q f p z) (s.legal u t (rw (c.rest u t q f p z) at h))
 
   w' : Within N (inputs_shared a b k e g)
-  w' = record { in_range = λ u t h. ((legal u t h).from_below, (legal u t h).to_below) }
+  w' = shared_within c (sound_within s) a<N b<N hk.1
 
   ranked : Ranked (inputs_shared a b k e g)
   ranked = shared_ranked c ab ka kb out in' none (rank_of s) w'
@@ -266,12 +287,34 @@ module _ (counts : ℕ → ℕ → Bool) {m n N : ℕ} (a b k : ℕ) {g : Graph}
   pub inputs_shared_count : arcs N (inputs_shared a b k e g) + fan_out N g b ≤ arcs N g + 2
   inputs_shared_count = shared_count c ab ka kb out in' a<N b<N hk.1
 
-  pub inputs_shared_better : 3 ≤ fan_out N g b → Better counts m n N g (inputs_shared a b k e g)
-  inputs_shared_better three = record { same = inputs_shared_keeps; fewer = omega (arith, inputs_shared_count) }
+  -- three arcs of b's pay for the two; with two the deletion pays
+  pub inputs_reduced_better : T (enough_out N g b || (two_out N g b && deletes m n N (inputs_shared a b k e g))) → Better counts m n N g (inputs_reduced m n N a b k e g)
+  unfolding inputs_reduced
+  inputs_reduced_better = go (enough_out N g b) refl
+    where
+      g' : Graph
+      g' = inputs_shared a b k e g
 
-pub share_inputs_better : {m n N : ℕ} (a b k : ℕ) {g : Graph} (e : ℤ) → Sound m n N g → share_inputs_verdict m n N a b k g ≡ accepted e → Better every_pair m n N g (inputs_shared a b k e g)
+      go : (enough : Bool) → enough_out N g b ≡ enough → T (enough || (two_out N g b && deletes m n N (inputs_shared a b k e g)))
+          → Better counts m n N g (λ u t. cond enough (inputs_shared a b k e g u t) (deleted m n N (inputs_shared a b k e g) u t))
+      go true q _ = record { same = inputs_shared_keeps; fewer = omega (arith, inputs_shared_count, leb→le 3 (fan_out N g b) (true_is q)) }
+      go false q p =
+          let d = and_e (two_out N g b) (deletes m n N g') p in
+          record {
+            same = same_on inputs_shared_keeps (deleted_keeps m n N counts inputs_shared_keeps.sound);
+            fewer = omega (arith, inputs_shared_count, eqb→eq (fan_out N g b) 2 d.0, ltb→lt (arcs N (deleted m n N g')) (arcs N g') d.1);
+          }
+
+pub share_inputs_better : {m n N : ℕ} (a b k : ℕ) {g : Graph} (e : ℤ) → Sound m n N g → share_inputs_verdict m n N a b k g ≡ accepted e → Better every_pair m n N g (inputs_reduced m n N a b k e g)
 unfolding matrix
 share_inputs_better {m} {n} {N} a b k {g} e s q =
     let h = share_inputs_accepted m n N a b k g e q in
-    inputs_shared_better every_pair a b k e s h.input_a h.input_b h.two h.inner h.free
-    (λ j l _. common_accepted n (matrix m N g a) (matrix m N g b) e h.difference j l) h.in_range (leb→le 3 (fan_out N g b) h.enough)
+    inputs_reduced_better every_pair a b k e s h.input_a h.input_b h.two h.inner h.free
+    (λ j l _. common_accepted n (matrix m N g a) (matrix m N g b) e h.difference j l) h.in_range h.pays
+
+-- the arcs of a vertex that is not inner are those that the share leaves
+pub reduced_outside : (m n N a b k : ℕ) (e : ℤ) (g : Graph) (u t : ℕ) → T (not (is_inner m n N u)) → inputs_reduced m n N a b k e g u t ≡ inputs_shared a b k e g u t
+unfolding inputs_reduced
+reduced_outside m n N a b k e g u t h =
+    cond_elim (λ (d : Delay). d ≡ inputs_shared a b k e g u t) (enough_out N g b) (inputs_shared a b k e g u t) (deleted m n N (inputs_shared a b k e g) u t)
+    (λ _. refl) (λ _. outside_stays m n N (inputs_shared a b k e g) N u t h)

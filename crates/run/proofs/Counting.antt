@@ -6,16 +6,19 @@ use mathlib.Core.List.{List}
 use Prim.Native.Nat.{ℕ, ◌<◌}
 use native.Mathlib.Decide.{ℕ_discrete}
 use native.Mathlib.Omega.{arith}
-use lib.Dec.{leb}
+use lib.Dec.{leb, not_T}
 use lib.IntN.{ℤ}
 use lib.ListN.{length, get_or, set, length-set}
 use lib.Seq.{get_or-set_same, get_or-set_other}
 use Rattle.laws.proofs.Booleans.{eqb_other}
 use Rattle.laws.proofs.Sums.{sum_eq}
 use Rattle.graph.specs.Graph.{Graph}
-use Rattle.graph.specs.Count.{fan_in, fan_out}
+use Rattle.graph.specs.Count.{bit, fan_in, fan_out}
 use Rattle.timing.specs.Table.{graph_of}
-use Rattle.reduction.specs.ShareInputs.{inputs_shared}
+use Rattle.reduction.specs.Outcome.{is_inner}
+use Rattle.reduction.specs.ShareInputs.{inputs_shared, inputs_reduced}
+use Rattle.reduction.proofs.Better.{inner_of}
+use Rattle.reduction.proofs.ShareInputs.{reduced_outside}
 use Rattle.reduction.specs.ShareOutputs.{outputs_shared}
 use Rattle.reduction.specs.Run.{fresh_number}
 use Rattle.paths.specs.declared.board.Board.{Board}
@@ -28,10 +31,11 @@ use Rattle.run.proofs.Lines.{side_fits}
 use Rattle.run.proofs.TriedShares.{shared, share_graph}
 
 module _ (N : ℕ) (g : Graph) (a b : ℕ) (e : ℤ) (v : ℕ) (v-a : v ≢ a) (v-b : v ≢ b) where
-  -- share inputs changes the rows a, b and k alone
-  row_stays : (k : ℕ) → v ≢ k → fan_out N (inputs_shared a b k e g) v ≡ fan_out N g v
+  -- of inputs share inputs changes the rows a and b alone
+  row_stays : (m n k : ℕ) → v < m → v ≢ k → fan_out N (inputs_reduced m n N a b k e g) v ≡ fan_out N g v
   unfolding fan_out inputs_shared
-  row_stays k v-k = sum_eq N _ _ (λ t _. rw (eqb_other v a v-a, eqb_other v b v-b, eqb_other v k v-k) refl)
+  row_stays m n k input v-k = sum_eq N _ _ (λ t _. ap bit (reduced_outside m n N a b k e g v t (not_T (is_inner m n N v) (λ h. omega (arith, (inner_of m n N v h).0)))
+      ∙ rw (eqb_other v a v-a, eqb_other v b v-b, eqb_other v k v-k) refl))
 
   -- share outputs the column b alone
   column-stays : fan_in N (outputs_shared a b e g) v ≡ fan_in N g v
@@ -40,9 +44,9 @@ module _ (N : ℕ) (g : Graph) (a b : ℕ) (e : ℤ) (v : ℕ) (v-a : v ≢ a) (
 
 module _ (board : Board) (t : List ℤ) (a b : ℕ) where
   others_stay : (side : Side) (e : ℤ) (v : ℕ) → OnSide board side v → v ≢ a → v ≢ b
-      → is_rich side board.vertices (shared side a b (fresh_on board t) (graph_of board.vertices t) e) v ≡ is_rich side board.vertices (graph_of board.vertices t) v
+      → is_rich side board.vertices (shared board.inputs board.outputs board.vertices side a b (fresh_on board t) (graph_of board.vertices t) e) v ≡ is_rich side board.vertices (graph_of board.vertices t) v
   unfolding fresh_number
-  others_stay Inputs e v on v-a v-b = ap (leb 3) (row_stays board.vertices (graph_of board.vertices t) a b e v v-a v-b (fresh_on board t) (λ q. omega (arith, q, on.below)))
+  others_stay Inputs e v on v-a v-b = ap (leb 2) (row_stays board.vertices (graph_of board.vertices t) a b e v v-a v-b board.inputs board.outputs (fresh_on board t) (omega (arith, on.below)) (λ q. omega (arith, q, on.below)))
   others_stay Outputs e v on v-a v-b = ap (leb 2) (column-stays board.vertices (graph_of board.vertices t) a b e v v-a v-b)
 
   -- x and y are the new counts of a and b

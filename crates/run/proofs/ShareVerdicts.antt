@@ -4,9 +4,11 @@ use mathlib.Core.Bool.{Bool, true, false, not}
 use mathlib.Core.List.{List}
 use Prim.Native.Nat.{ℕ, ◌+◌, ◌-◌, ◌≤◌, ◌<◌}
 use native.Mathlib.Omega.{arith}
-use lib.Dec.{T, not_T}
+use lib.Dec.{T, not_T, eqb→eq, le→leb, leb→le}
 use lib.IntN.{ℤ}
+use Rattle.laws.proofs.Booleans.{and_e, or_cases, split}
 use Rattle.laws.proofs.Bounded.{first_holds}
+use Rattle.graph.specs.Count.{fan_out}
 use Rattle.graph.specs.Delay.{at, present}
 use Rattle.graph.specs.Graph.{Graph, longest}
 use Rattle.timing.specs.Limits.{delay_limit, fits}
@@ -15,11 +17,14 @@ use Rattle.timing.specs.Refusal.{Verdict, refused, accepted, is_accepted, requir
 use Rattle.timing.specs.Table.{graph_of}
 use Rattle.timing.proofs.Verdict.{is_accepted_lem}
 use Rattle.reduction.specs.Outcome.{unused}
-use Rattle.reduction.specs.ShareInputs.{inputs_saved, share_inputs_verdict}
+use Rattle.reduction.specs.ShareInputs.{enough_out, two_out, share_inputs_verdict}
+use Rattle.reduction.proofs.ShareDeletion.{inputs_asked_before}
 use Rattle.reduction.specs.ShareOutputs.{enough_in, outputs_saved, share_outputs_verdict}
 use Rattle.reduction.specs.Run.{fresh_number}
-use Rattle.reduction.proofs.Accepted.{share_inputs_accepted, inputs_asked, share_outputs_accepted, outputs_asked}
+use Rattle.reduction.proofs.Accepted.{share_inputs_accepted, share_outputs_accepted, outputs_asked}
 use Rattle.paths.specs.declared.board.Board.{Board}
+use Rattle.paths.specs.Checked.{Checked}
+use Rattle.plans.specs.OnBoards.{inputs_saved_on}
 use Rattle.run.specs.Sides.{Side, Inputs, Outputs}
 use Rattle.run.specs.Sides.{is_rich}
 use Rattle.run.specs.Pairs.{Pair, compared_by, Compared}
@@ -48,22 +53,24 @@ share_apart board t Outputs a b k r q = never _ (λ x e. clash r x (sym q ∙ (s
 
 module _ (m n N a b k : ℕ) (g : Graph) where
   pub share_poor : (side : Side) → is_rich side N g b ≡ false → T (not (is_accepted (share_verdict side m n N a b k g)))
-  share_poor Inputs low = never (share_inputs_verdict m n N a b k g) (λ x e. subst T low (share_inputs_accepted m n N a b k g x e).enough)
+  share_poor Inputs low = never (share_inputs_verdict m n N a b k g) (λ x e. subst T low (split (or_cases (enough_out N g b) _ (share_inputs_accepted m n N a b k g x e).pays)
+      (λ h. le→leb 2 (fan_out N g b) (omega (arith, leb→le 3 (fan_out N g b) h)))
+      (λ h. le→leb 2 (fan_out N g b) (omega (arith, eqb→eq (fan_out N g b) 2 (and_e (two_out N g b) _ h).0)))))
   share_poor Outputs low = never (share_outputs_verdict m n N a b g) (λ x e. subst T low (share_outputs_accepted m n N a b g x e).enough)
 
 -- ---- the common difference e
 
 module _ (board : Board) (t : List ℤ) (a b : ℕ) (e : ℤ) where
-  pub rows_saved : Pair Inputs board a b → Compared Inputs board t a b e → (k : ℕ) → k ≡ fresh_number board.inputs board.outputs board.vertices (graph_of board.vertices t) → k < board.vertices
-      → share_inputs_verdict board.inputs board.outputs board.vertices a b k (graph_of board.vertices t) ≡ inputs_saved board.vertices (graph_of board.vertices t) b e
+  pub rows_saved : Checked board t → Pair Inputs board a b → Compared Inputs board t a b e → (k : ℕ) → k ≡ fresh_number board.inputs board.outputs board.vertices (graph_of board.vertices t) → k < board.vertices
+      → share_inputs_verdict board.inputs board.outputs board.vertices a b k (graph_of board.vertices t) ≡ inputs_saved_on board t b e
   unfolding fresh_number
-  rows_saved p q k is low =
+  rows_saved ok p q k is low =
       let m = board.inputs in
       let n = board.outputs in
       let N = board.vertices in
       let g = graph_of N t in
       let free = subst (λ (x : ℕ). T (unused N g x)) (sym is) (first_holds (N - (m + n)) (λ x. unused N g (m + n + x)) (omega arith)) in
-      inputs_asked m n N a b k g (omega (arith, p.one.below)) (omega (arith, p.other.below)) p.two (omega arith, low) free ∙ ap (λ (x : Verdict ℤ). x then inputs_saved N g b) q
+      inputs_asked_before a b k ok.sound (omega (arith, p.one.below)) (omega (arith, p.other.below)) p.two (omega arith, low) free ∙ ap (λ (x : Verdict ℤ). x then inputs_saved_on board t b) q
 
   -- no number is free
   pub rows_full : (k : ℕ) → board.vertices ≤ k → T (not (is_accepted (share_inputs_verdict board.inputs board.outputs board.vertices a b k (graph_of board.vertices t))))

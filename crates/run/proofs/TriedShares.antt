@@ -10,7 +10,7 @@ use Rattle.graph.specs.Graph.{Graph}
 use Rattle.timing.specs.Refusal.{Verdict, refused, accepted, is_accepted, ◌then◌}
 use Rattle.timing.specs.Table.{graph_of, with_graph}
 use Rattle.timing.proofs.Verdict.{then_accepted, same_accepted}
-use Rattle.reduction.specs.ShareInputs.{inputs_shared}
+use Rattle.reduction.specs.ShareInputs.{inputs_reduced}
 use Rattle.reduction.specs.ShareOutputs.{outputs_shared}
 use Rattle.reduction.specs.Steps.{plan}
 use Rattle.reduction.specs.Run.{round}
@@ -27,11 +27,11 @@ use Rattle.run.proofs.ShareVerdicts.{share_verdict, share_poor}
 
 -- ---- from its verdict
 
-abbrev pub shared : Side → ℕ → ℕ → ℕ → Graph → ℤ → Graph
-shared Inputs a b k g e = inputs_shared a b k e g
-shared Outputs a b k g e = outputs_shared a b e g
+abbrev pub shared : ℕ → ℕ → ℕ → Side → ℕ → ℕ → ℕ → Graph → ℤ → Graph
+shared m n N Inputs a b k g e = inputs_reduced m n N a b k e g
+shared m n N Outputs a b k g e = outputs_shared a b e g
 
-share_plan : (m n N : ℕ) (side : Side) (a b k : ℕ) (g : Graph) → plan m n N (share_step side a b k) g ≡ (share_verdict side m n N a b k g then λ e. accepted (shared side a b k g e))
+share_plan : (m n N : ℕ) (side : Side) (a b k : ℕ) (g : Graph) → plan m n N (share_step side a b k) g ≡ (share_verdict side m n N a b k g then λ e. accepted (shared m n N side a b k g e))
 unfolding plan
 share_plan m n N Inputs a b k g = refl
 share_plan m n N Outputs a b k g = refl
@@ -54,7 +54,7 @@ module _ (board : Board) (t : List ℤ) (side : Side) (a b k : ℕ) where
 
   -- the try, from its verdict
   abbrev put : Verdict ℤ → Verdict (List ℤ)
-  put v = v then (λ e. accepted (shared side a b k g e)) then λ g'. accepted (with_graph N g' t)
+  put v = v then (λ e. accepted (shared m n N side a b k g e)) then λ g'. accepted (with_graph N g' t)
 
   abbrev pub Trying : List ℤ → Bool → Type 0
   Trying after r = Tries (table_by board (share_step side a b k) t) t after r
@@ -63,7 +63,7 @@ module _ (board : Board) (t : List ℤ) (side : Side) (a b k : ℕ) where
   known v e after r h = subst (λ (y : Verdict (List ℤ)). Tries y t after r) (sym (ap (λ (y : Verdict Graph). y then λ g'. accepted (with_graph N g' t)) (share_plan m n N side a b k g) ∙ ap put e)) h
 
   -- the code hands the difference on as y
-  pub share_taken : {e y : ℤ} → verdict ≡ accepted e → y ≡ e → (after : List ℤ) → after ≡ with_graph board.vertices (shared side a b k (graph_of board.vertices t) y) t → Trying after true
+  pub share_taken : {e y : ℤ} → verdict ≡ accepted e → y ≡ e → (after : List ℤ) → after ≡ with_graph board.vertices (shared board.inputs board.outputs board.vertices side a b k (graph_of board.vertices t) y) t → Trying after true
   share_taken {e} {y} q same after w = known (accepted y) (q ∙ ap accepted (sym same)) after true (record { taken = λ _. ap accepted (sym w); refused = λ z. absurd (apart z) })
     where
       apart : true ≡ false → ⊥
@@ -80,7 +80,7 @@ module _ (board : Board) (t : List ℤ) (side : Side) (a b k : ℕ) where
       go (accepted x) e low = absurd low
 
   -- the new table's graph
-  pub share_graph : Checked board t → (after : List ℤ) → Trying after true → (e : ℤ) × (graph_of board.vertices after ≡ shared side a b k (graph_of board.vertices t) e)
+  pub share_graph : Checked board t → (after : List ℤ) → Trying after true → (e : ℤ) × (graph_of board.vertices after ≡ shared board.inputs board.outputs board.vertices side a b k (graph_of board.vertices t) e)
   share_graph ok after h =
       let put = then_accepted (plan m n N (share_step side a b k) g) _ after (h.taken refl) in
       let made = then_accepted verdict _ put.0 (sym (share_plan m n N side a b k g) ∙ put.1) in

@@ -1,9 +1,9 @@
 -- The two sides of the delay matrix: share inputs compares its rows, share outputs its columns.
-use Rattle.std.specs.Prelude.{Bool, List, [], ◌∷◌, ℕ, ◌+◌, ◌-◌, ◌*◌, ◌≤◌, ◌<◌, ℤ}
+use Rattle.std.specs.Prelude.{Bool, List, [], ◌∷◌, ℕ, ◌+◌, ◌-◌, ◌*◌, ◌≤◌, ◌<◌, leb, ℤ}
 use Rattle.graph.specs.Delay.{Delay}
 use Rattle.graph.specs.Graph.{Graph}
+use Rattle.graph.specs.Count.{fan_out}
 use Rattle.timing.specs.Delays.{matrix, column}
-use Rattle.reduction.specs.ShareInputs.{enough_out}
 use Rattle.reduction.specs.ShareOutputs.{enough_in}
 use Rattle.reduction.specs.Steps.{Step, share_inputs, share_outputs}
 use Rattle.reduction.specs.Run.{Try, numbers, pairs, try_step, try_share_inputs}
@@ -47,7 +47,7 @@ share_step Outputs a b k = share_outputs a b
 
 -- whether vertex v has arcs enough to be the second of a share
 abbrev pub is_rich : Side → ℕ → Graph → ℕ → Bool
-is_rich Inputs N g v = enough_out N g v
+is_rich Inputs N g v = leb 2 (fan_out N g v)
 is_rich Outputs N g v = enough_in N g v
 
 -- its tries in a round

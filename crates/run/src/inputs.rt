@@ -1,17 +1,19 @@
 // Share inputs, as a side of the delay matrix.
+ghost use Rattle.plans.specs.Sharing.{DriversOf};
 ghost use Rattle.run.specs.Sides;
 ghost use Rattle.run.specs.Running.{Free};
 
 use crate::fresh;
 use crate::side::Side;
 use paths::{Board, Table, cells};
-use plans::share_inputs::ShareInputs;
-use plans::{rewrite, share_inputs};
+use plans::share_inputs;
+use sets::Set;
 
-// The smallest free number, for a share's new vertex.
+// The smallest free number, for a share's new vertex, and the vertices that alone drive some inner vertex with arcs out, once a try has asked for them.
 #[derive(Drop)]
 pub struct Inputs {
     pub free: Option<usize>,
+    pub drivers: Option<Set>,
 }
 
 impl Side for Inputs {
@@ -19,11 +21,12 @@ impl Side for Inputs {
 
     ghost given = { λ it board t. Unit {0} };
 
-    ghost knows = { λ it board t. Free board t it.free };
+    ghost knows = { λ it board t. Free board t it.free × DriversOf board t it.drivers };
 
     fn begin(&mut self, table: &Table) {
         let free = fresh::fresh_number(table);
         self.free = free;
+        self.drivers = None;
     }
 
     fn first(_inputs: usize) -> usize {
@@ -43,7 +46,7 @@ impl Side for Inputs {
     }
 
     fn is_rich(table: &Table, v: usize) -> bool {
-        share_inputs::enough_out(table, v)
+        table.fan_out(v) >= 2
     }
 
     fn is_open(&self) -> bool {
@@ -58,12 +61,12 @@ impl Side for Inputs {
             board,
             cells: table,
         };
-        let Ok(d) = share_inputs::inputs_saved(&read, b, e) else {
+        let Ok(d) = share_inputs::inputs_saved(&read, &mut self.drivers, b, e) else {
             return false;
         };
         let e = cells::narrow(d);
-        rewrite::rewrite(board, table, &ShareInputs { a, b, k, e });
-        self.free = fresh::fresh_number(&Table {
+        share_inputs::share(board, table, a, b, k, e);
+        self.begin(&Table {
             board,
             cells: table,
         });

@@ -97,7 +97,10 @@ pub fn round(
     ensures lean_on { LeanOn board table.new }
     ensures past_scratch { PastScratch board scratch.old scratch.new }
 {
-    let mut inputs = Inputs { free: None };
+    let mut inputs = Inputs {
+        free: None,
+        drivers: None,
+    };
     let one = shares::shares(board, table, matrix, &mut inputs, steps);
     let mut outputs = Outputs {
         order: known_order(known, steps, one),

@@ -1,7 +1,7 @@
 // Sets of numbers below 128, a bit for each: two words.
 #![tactic(auto)]
 
-ghost use Rattle.std.specs.Prelude.{◌≡◌, true, false, not, ◌&&◌, ◌||◌, ℕ, ◌<◌, T, eqb, MatchOption};
+ghost use Rattle.std.specs.Prelude.{◌≡◌, true, false, not, ◌&&◌, ◌||◌, ℕ, ◌≤◌, ◌<◌, T, leb, ltb, eqb, MatchOption};
 ghost use Rattle.sets.specs.Words.{odd};
 ghost use Rattle.sets.specs.Sets.{room, holds};
 
@@ -34,6 +34,19 @@ impl Set {
         ensures { (u : ℕ) → holds result u ≡ false }
     {
         Set { low: 0, high: 0 }
+    }
+
+    // The numbers from `from` on, below `to`.
+    pub fn range(from: usize, to: usize) -> Set
+        requires ordered { from ≤ to }
+        requires to_bound { to ≤ room }
+        ensures { (u : ℕ) → holds result u ≡ (leb from u && ltb u to) }
+    {
+        let mut set = Set::empty();
+        for v in from..to {
+            set = set.plus(v);
+        }
+        set
     }
 
     pub fn has(self, v: usize) -> bool

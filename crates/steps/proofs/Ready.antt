@@ -1,5 +1,5 @@
 -- What each step's new table asks, from its accepted verdict.
-use mathlib.Core.Path.{◌≡◌, sym, ◌∙◌, subst}
+use mathlib.Core.Path.{◌≡◌, sym, ap, ◌∙◌, subst}
 use mathlib.Core.List.{List}
 use Prim.Native.Nat.{ℕ, ◌+◌, ◌^◌, ◌<◌, ◌≤◌}
 use native.Mathlib.Omega.{arith}
@@ -14,7 +14,7 @@ use Rattle.laws.proofs.Signed.{back, widens}
 use Rattle.graph.specs.Delay.{at, ◌⊕◌}
 use Rattle.graph.specs.Graph.{Graph}
 use Rattle.timing.specs.Limits.{delay_limit, fits}
-use Rattle.timing.specs.Refusal.{accepted}
+use Rattle.timing.specs.Refusal.{Verdict, accepted}
 use Rattle.timing.specs.Table.{graph_of}
 use Rattle.timing.proofs.Checks.{sound_fits}
 use Rattle.reduction.specs.MergeBack.{merge_fits, merge_back_verdict}
@@ -50,8 +50,11 @@ module _ (e : ℤ) (r : T (fits delay_limit (at e))) where
   pub narrowed : (z : ℤ) → mag z < 2 ^ hbits w32 → z ≡ to_z w64 (of_z w64 e) → to_z w32 (of_z w32 z) ≡ e
   narrowed z ok p = back w32 z ok ∙ p ∙ wide_back
 
-pub share_inputs_ready : (m n N a b k : ℕ) (g : Graph) (e : ℤ) → m + n ≤ N → share_inputs_verdict m n N a b k g ≡ accepted e → (a < N) × (k < N) × T (fits delay_limit (at e))
-share_inputs_ready m n N a b k g e room q = let h = share_inputs_accepted m n N a b k g e q in (omega (arith, h.input_a), h.inner.1, h.in_range)
+  pub narrowed_accepted : {v : Verdict ℤ} → v ≡ accepted e → (z : ℤ) → mag z < 2 ^ hbits w32 → z ≡ to_z w64 (of_z w64 e) → v ≡ accepted (to_z w32 (of_z w32 z))
+  narrowed_accepted q z ok p = q ∙ ap accepted (sym (narrowed z ok p))
+
+pub share_inputs_ready : (m n N a b k : ℕ) (g : Graph) (e : ℤ) → share_inputs_verdict m n N a b k g ≡ accepted e → T (fits delay_limit (at e))
+share_inputs_ready m n N a b k g e q = (share_inputs_accepted m n N a b k g e q).in_range
 
 pub share_outputs_ready : (m n N a b : ℕ) (g : Graph) (e : ℤ) → m + n ≤ N → share_outputs_verdict m n N a b g ≡ accepted e → (b < N) × T (fits delay_limit (at e))
 share_outputs_ready m n N a b g e room q = let h = share_outputs_accepted m n N a b g e q in (omega (arith, h.output_b.1), h.in_range)

@@ -94,7 +94,7 @@ impl Step for ShareInputs {
         };
         let e = share_inputs::share_inputs_verdict(&sorted, scratch, a, b, k)?;
         let e = cells::narrow(e);
-        rewrite::rewrite(board, table, &share_inputs::ShareInputs { a, b, k, e });
+        share_inputs::share(board, table, a, b, k, e);
         Ok(())
     }
 }

@@ -4,35 +4,56 @@
 //! All is `inline`, which compiles it with the test alone and leaves the benchmark's code as it is.
 
 use crate::board::{Board, Sizes};
-use crate::refusal::Refusal;
+use crate::refusal::{self, Refusal};
 use crate::run::Outcome;
 use crate::steps;
 
-/// What a run answers, and how many of its rounds accepted something.
+/// What a run answers, how many of its rounds accepted something, and its tries of ticket 6.
 #[derive(Clone, Copy, Debug, PartialEq, Eq)]
 pub struct Ran {
     pub outcome: Outcome,
     pub rounds: u64,
+    pub forks: Forks,
+}
+
+/// Tries to share inputs where b had two arcs out: accepted, and refused by these numbers.
+#[derive(Clone, Copy, Debug, Default, PartialEq, Eq)]
+pub struct Forks {
+    pub accepted: u64,
+    pub nothing_saved: u64,
+    pub new_delay: u64,
+}
+
+impl Forks {
+    #[inline]
+    fn count(&mut self, answer: Result<u64, Refusal>) {
+        match answer {
+            Ok(_) => self.accepted += 1,
+            Err(refusal::NOTHING_SAVED) => self.nothing_saved += 1,
+            Err(refusal::NEW_DELAY) => self.new_delay += 1,
+            Err(_) => {}
+        }
+    }
 }
 
 #[inline]
 pub fn run(sizes: Sizes, table: &mut [i32], scratch: usize) -> Result<Ran, Refusal> {
     let (board, _) = Board::open(sizes, table, scratch)?;
-    let (mut steps, mut rounds) = (0, 0);
+    let (mut steps, mut rounds, mut forks) = (0, 0, Forks::default());
     loop {
-        let accepted = round(sizes, table, scratch);
+        let accepted = round(sizes, table, scratch, &mut forks);
         if accepted == 0 {
             break;
         }
         steps += accepted;
         rounds += 1;
     }
-    Ok(Ran { outcome: Outcome { steps, arcs: board.arcs(table) }, rounds })
+    Ok(Ran { outcome: Outcome { steps, arcs: board.arcs(table) }, rounds, forks })
 }
 
 /// One round's tries; answers how many weren't refused.
 #[inline]
-fn round(sizes: Sizes, table: &mut [i32], scratch: usize) -> u64 {
+fn round(sizes: Sizes, table: &mut [i32], scratch: usize, forks: &mut Forks) -> u64 {
     let inputs = 0..sizes.inputs;
     let outputs = sizes.inputs..sizes.inputs + sizes.outputs;
     let inner = sizes.inputs + sizes.outputs..sizes.vertices;
@@ -43,7 +64,12 @@ fn round(sizes: Sizes, table: &mut [i32], scratch: usize) -> u64 {
         for b in inputs.clone().filter(|&b| b != a) {
             let unused = |&k: &u64| !in_use(sizes, table, k);
             if let Some(k) = inner.clone().find(unused) {
-                tried(steps::share_inputs(sizes, table, scratch, a, b, k));
+                let forked = is_fork(sizes, table, b);
+                let answer = steps::share_inputs(sizes, table, scratch, a, b, k);
+                if forked {
+                    forks.count(answer);
+                }
+                tried(answer);
             }
         }
     }
@@ -67,4 +93,11 @@ fn round(sizes: Sizes, table: &mut [i32], scratch: usize) -> u64 {
 fn in_use(sizes: Sizes, table: &[i32], k: u64) -> bool {
     let arc = |u: u64, v: u64| table[(sizes.vertices * u + v) as usize] != Board::ABSENT;
     (0..sizes.vertices).any(|v| arc(k, v) || arc(v, k))
+}
+
+/// Whether two arcs leave the vertex.
+#[inline]
+fn is_fork(sizes: Sizes, table: &[i32], u: u64) -> bool {
+    let arc = |&v: &u64| table[(sizes.vertices * u + v) as usize] != Board::ABSENT;
+    (0..sizes.vertices).filter(arc).count() == 2
 }

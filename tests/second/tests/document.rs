@@ -1,10 +1,12 @@
 //! Document 01's boards for checking, one for the run, 003's example for the margins, ticket 2's cells
-//! under load, ticket 3's libraries, and ticket 5's scratch, on the second implementation.
+//! under load, ticket 3's libraries, ticket 5's scratch, and ticket 6's shares, on the second
+//! implementation.
 
 use second::board::{Board, Sizes};
 use second::delays::{MOST_TIME, NONE};
 use second::file::{read, write};
 use second::library::{read_library, BUILT_IN, CODES};
+use second::literal::Forks;
 use second::margins::{self, Answers};
 use second::records::RefusedRead;
 use second::{delays, literal, run, steps, thin};
@@ -162,7 +164,7 @@ fn p8_shrinks_up_to_the_limit() {
 fn ninety_vertices_are_the_most() {
     let mut cells = table(91, &[]);
     let outcome = run::Outcome { steps: 0, arcs: 0 };
-    let ran = literal::Ran { outcome, rounds: 0 };
+    let ran = literal::Ran { outcome, rounds: 0, forks: Forks::default() };
     assert_eq!(run::run(sizes(1, 1, 90), &mut cells, SCRATCH), Ok(outcome));
     assert_eq!(run::run(sizes(1, 1, 91), &mut cells, 91 * 91), Err(1));
     assert_eq!(literal::run(sizes(1, 1, 90), &mut cells, SCRATCH), Ok(ran));
@@ -182,11 +184,113 @@ fn a_shrink_opens_a_share() {
     let outcome = run::Outcome { steps: 4, arcs: 9 };
 
     let mut cells = first.clone();
-    let ran = literal::Ran { outcome, rounds: 2 };
+    let ran = literal::Ran { outcome, rounds: 2, forks: Forks::default() };
     assert_eq!(literal::run(sizes(4, 3, 9), &mut cells, SCRATCH), Ok(ran));
     assert_eq!(cells, last);
     let mut cells = first;
     assert_eq!(run::run(sizes(4, 3, 9), &mut cells, SCRATCH), Ok(outcome));
+    assert_eq!(cells, last);
+}
+
+/// Sharing inputs 0 and 1: the answer, and the table, which a refused call leaves.
+fn share(sizes: Sizes, arcs: &[(usize, usize, i32)], k: u64) -> (Result<u64, u64>, Vec<i32>) {
+    let before = table(sizes.vertices as usize, arcs);
+    let mut cells = before.clone();
+    let answer = steps::share_inputs(sizes, &mut cells, SCRATCH, 0, 1, k);
+    if answer.is_err() {
+        assert_eq!(cells, before);
+    }
+    (answer, cells)
+}
+
+/// Each time b is 1 and has two arcs.
+#[test]
+fn a_share_with_two_arcs_after_which_none_goes_is_refused() {
+    // to outputs alone
+    let arcs = [(0, 2, 3), (0, 3, 4), (1, 2, 5), (1, 3, 6)];
+    assert_eq!(share(sizes(2, 2, 5), &arcs, 4).0, Err(13));
+    // 4 hears of 0 too, and then of the new vertex
+    let arcs = [(0, 4, 1), (1, 4, 2), (1, 2, 4), (4, 2, 2), (4, 3, 3)];
+    assert_eq!(share(sizes(2, 2, 6), &arcs, 5).0, Err(13));
+    // 4 hears of output 3 too, which nothing drives and which keeps its arc
+    let arcs = [(0, 2, 3), (1, 4, 2), (1, 2, 0), (4, 2, 2), (3, 4, 7)];
+    assert_eq!(share(sizes(2, 2, 6), &arcs, 5).0, Err(13));
+    // without that arc 4 goes
+    let (answer, cells) = share(sizes(2, 2, 6), &arcs[..4], 5);
+    assert_eq!(answer, Ok(3));
+    assert_eq!(cells, table(6, &[(0, 5, 0), (1, 5, 1), (5, 2, 3)]));
+}
+
+/// 1 leads to 4, 4 to 3, 3 to output 2: first 4's arc goes, then 3's.
+#[test]
+fn arcs_go_in_two_rounds() {
+    let arcs = [(0, 2, 7), (1, 2, 0), (1, 4, 1), (4, 3, 2), (3, 2, 6)];
+    let (answer, cells) = share(sizes(2, 1, 6), &arcs, 5);
+    assert_eq!(answer, Ok(3));
+    assert_eq!(cells, table(6, &[(0, 5, 0), (1, 5, 2), (5, 2, 7)]));
+    // with one arc out of 1 they would go just so
+    let one: Vec<_> = arcs.into_iter().filter(|&arc| arc != (1, 2, 0)).collect();
+    assert_eq!(share(sizes(2, 1, 6), &one, 5).0, Err(13));
+}
+
+/// Nothing drives inner 5, before the share as little as after it; nor output 4, whose arc stays.
+#[test]
+fn arcs_go_where_nothing_led_before_the_share() {
+    let arcs = [(0, 2, 3), (0, 3, 4), (1, 2, 5), (1, 3, 6), (4, 3, 1), (5, 3, 9)];
+    let (answer, cells) = share(sizes(2, 3, 7), &arcs, 6);
+    assert_eq!(answer, Ok(5));
+    assert_eq!(cells, table(7, &[(0, 6, 0), (1, 6, 2), (6, 2, 3), (6, 3, 4), (4, 3, 1)]));
+    assert_eq!(share(sizes(2, 3, 7), &arcs[..5], 6).0, Err(13));
+}
+
+/// Inner 5 heard of 1 alone.
+#[test]
+fn a_share_with_three_arcs_deletes_nothing() {
+    let arcs = [(0, 2, 3), (0, 3, 4), (0, 4, 5), (1, 2, 5), (1, 3, 6), (1, 5, 1), (5, 4, 6)];
+    let (answer, cells) = share(sizes(2, 3, 7), &arcs, 6);
+    assert_eq!(answer, Ok(6));
+    let shared = [(0, 6, 0), (1, 6, 2), (6, 2, 3), (6, 3, 4), (6, 4, 5), (5, 4, 6)];
+    assert_eq!(cells, table(7, &shared));
+}
+
+/// 1 is later than 0 by so much; with inner 4, which nothing drives, an arc goes.
+#[test]
+fn a_share_with_two_arcs_saves_before_its_difference_is_checked() {
+    let arcs = |half: i32| [(0, 2, -half), (0, 3, -half), (1, 2, half), (1, 3, half), (4, 3, 0)];
+    let (refused, limit) = (arcs(500_000_001), arcs(500_000_000));
+    assert_eq!(share(sizes(2, 2, 6), &refused[..4], 5).0, Err(13));
+    assert_eq!(share(sizes(2, 2, 6), &refused, 5).0, Err(14));
+    assert_eq!(share(sizes(2, 2, 6), &limit[..4], 5).0, Err(13));
+    let (answer, cells) = share(sizes(2, 2, 6), &limit, 5);
+    assert_eq!(answer, Ok(4));
+    let shared = [(0, 5, 0), (1, 5, 1_000_000_000), (5, 2, -500_000_000), (5, 3, -500_000_000)];
+    assert_eq!(cells, table(6, &shared));
+    // 11 before both
+    let mut odd = refused;
+    odd[3].2 += 1;
+    assert_eq!(share(sizes(2, 2, 6), &odd, 5).0, Err(11));
+    assert_eq!(share(sizes(2, 2, 6), &odd[..4], 5).0, Err(11));
+}
+
+/// 0 and 1 have two arcs each, one of them to an inner vertex of their own; 1's goes when they are shared
+/// at 7, and 0's is shrunk. Input 2 keeps the outputs apart.
+#[test]
+fn a_run_shares_where_two_arcs_leave_b() {
+    let odd = [(2, 3, 1), (2, 4, 2), (2, 5, 4)];
+    let forks =
+        [(0, 3, 1), (0, 8, 0), (8, 4, 1), (8, 5, 1), (1, 3, 1), (1, 6, 0), (6, 4, 1), (6, 5, 1)];
+    let first = table(9, &[&odd[..], &forks].concat());
+    let hub = [(0, 7, 0), (1, 7, 0), (7, 3, 1), (7, 4, 1), (7, 5, 1)];
+    let last = table(9, &[&odd[..], &hub].concat());
+    let outcome = run::Outcome { steps: 2, arcs: 8 };
+
+    let mut cells = first.clone();
+    let forks = Forks { accepted: 1, ..Forks::default() };
+    let ran = literal::Ran { outcome, rounds: 1, forks };
+    assert_eq!(literal::run(sizes(3, 3, 9), &mut cells, SCRATCH), Ok(ran));
+    assert_eq!(cells, last);
+    let mut cells = first;
+    assert_eq!(run::run(sizes(3, 3, 9), &mut cells, SCRATCH), Ok(outcome));
     assert_eq!(cells, last);
 }
 

@@ -1,22 +1,26 @@
-use Rattle.std.proofs.Common.{refl, sym, ◌∙◌}
+use Rattle.std.proofs.Common.{sym, ◌∙◌, subst}
+use lib.Dec.{T}
 use Rattle.laws.proofs.Booleans.{T-not-false}
 use Rattle.sets.proofs.Counting.{plus_fewer}
-use Rattle.reach.proofs.Reaching.{within, walked_start, walked_turn, walked_there, walked_all, is_left, none_left, left_below}
+use Rattle.reach.proofs.Spreading.{spreading_start, spreading_turn}
+use Rattle.reach.proofs.Reaching.{within, met_in, met_there, met_all, is_left, none_left}
 use Rattle.reach.proofs.leads.Goals as goal
 
 pub loop-met-init : goal.loop-met-init
-loop-met-init c g r = walked_start _ g (within r) c.args.sets.now r.rows c.args.v c.requires.v_in_bounds _ _ refl c.empty-done.ensures
+loop-met-init c g r = spreading_start _ (λ x y t. absurd (subst T (c.empty-done.ensures x) t))
 
 pub returns-in_default : goal.returns-in_default
 returns-in_default c g r =
     let l = c.loop-met in
-    walked_all _ g (within r) c.args.v l.met l.done (l.invariant g r) c.args.u (sym c.has.ensures ∙ c.loop-met-test.true)
+    met_all _ g (within r) c.args.sets.now r.rows c.args.v c.requires.v_in_bounds l.met l.done (l.invariant g r) c.args.u (sym c.has.ensures ∙ c.loop-met-test.true)
     (none_left l.met l.done c.without.result c.without.ensures c.in_default.ensures)
 
 pub bounds-sets-x : goal.bounds-sets-x
 bounds-sets-x c =
     let l = c.loop-met in
-    left_below l.met l.done c.without.result c.without.ensures c.args.sets.now c.args.v c.requires.rowed l.invariant c.in-Some.x c.in-Some.ensures.1
+    let g = c.requires.rowed.0 in
+    let r = c.requires.rowed.1 in
+    met_in _ g (within r) c.args.sets.now r.rows c.args.v c.requires.v_in_bounds l.met l.done (l.invariant g r) c.in-Some.x (is_left l.met l.done c.without.result c.without.ensures c.in-Some.x c.in-Some.ensures.1).0
 
 pub loop-met-smaller : goal.loop-met-smaller
 loop-met-smaller c =
@@ -26,10 +30,11 @@ loop-met-smaller c =
 pub loop-met-preserved : goal.loop-met-preserved
 loop-met-preserved c g r =
     let l = c.loop-met in
-    walked_turn _ g (within r) c.args.sets.now r.rows c.args.v l.met l.done (l.invariant g r) c.in-Some.x (is_left l.met l.done c.without.result c.without.ensures c.in-Some.x c.in-Some.ensures.1).0
-    _ c.or-met.result c.plus-done.result refl c.or-met.ensures c.plus-done.ensures
+    let met = (is_left l.met l.done c.without.result c.without.ensures c.in-Some.x c.in-Some.ensures.1).0 in
+    spreading_turn (l.invariant g r) c.in-Some.x met _ c.or-met.result c.plus-done.result
+    (r.rows.row c.in-Some.x (met_in _ g (within r) c.args.sets.now r.rows c.args.v c.requires.v_in_bounds l.met l.done (l.invariant g r) c.in-Some.x met)) c.or-met.ensures c.plus-done.ensures
 
 pub returns : goal.returns
 returns c g r =
     let l = c.loop-met in
-    walked_there _ g (within r) c.args.v l.met l.done (l.invariant g r) c.args.u (sym c.has.ensures ∙ c.loop-met-test.false)
+    met_there _ g (within r) c.args.sets.now r.rows c.args.v c.requires.v_in_bounds l.met l.done (l.invariant g r) c.args.u (sym c.has.ensures ∙ c.loop-met-test.false)

@@ -1,7 +1,7 @@
 //! Random boards: sizes, a table, and the shapes that steps look for.
 
-use crate::ladders;
 use crate::rng::Rng;
+use crate::{forks, ladders};
 use second::board::{Board, Sizes};
 
 /// The sources and the targets of a star.
@@ -247,10 +247,14 @@ impl Draft {
     }
 }
 
-/// A board that passes the checks, at times a ladder, with the stars planted in it.
+/// A board that passes the checks, at times a ladder or one with forks, with the stars planted in it.
 pub fn board(rng: &mut Rng) -> (Board, Vec<i32>, Vec<Star>) {
     if rng.chance(15) {
         let (board, table) = ladders::board(rng);
+        return (board, table, Vec::new());
+    }
+    if rng.chance(15) {
+        let (board, table) = forks::board(rng);
         return (board, table, Vec::new());
     }
     let board = sizes(rng);

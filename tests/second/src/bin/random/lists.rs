@@ -26,12 +26,13 @@ pub struct Maker<'r> {
 }
 
 impl Maker<'_> {
-    /// A list's first call, often a run, which finds the most to do then.
+    /// A list's first call, often a run, which finds the most to do then, or a share of inputs that are as
+    /// they were planted.
     pub fn first(&mut self, table: &[i32]) -> Call {
-        if self.rng.chance(25) {
-            Call::Run
-        } else {
-            self.call(table)
+        match self.rng.below(100) {
+            0..=24 => Call::Run,
+            25..=34 => self.one(2, table),
+            _ => self.call(table),
         }
     }
 
@@ -86,6 +87,7 @@ impl Maker<'_> {
             2 => {
                 let a = self.input(board);
                 let b = self.another(a, |maker| maker.input(board));
+                let b = self.fork(a, board, table).unwrap_or(b);
                 Call::ShareInputs { a, b, k: self.new_number(board, table) }
             }
             3 => {
@@ -160,6 +162,14 @@ impl Maker<'_> {
             Some(board) if self.rng.chance(94) => self.rng.below(board.inputs) as u64,
             _ => self.any_vertex(),
         }
+    }
+
+    /// At times an input other than `a` with two arcs out.
+    fn fork(&mut self, a: u64, board: Option<Board>, table: &[i32]) -> Option<u64> {
+        let board = board.filter(|_| self.rng.chance(40))?;
+        let mut forks: Vec<usize> = (0..board.inputs).collect();
+        forks.retain(|&b| b as u64 != a && board.arcs_out(table, b).count() == 2);
+        (!forks.is_empty()).then(|| self.rng.pick(&forks) as u64)
     }
 
     /// Mostly another number than `one`, where there is one.

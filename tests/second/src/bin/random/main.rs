@@ -11,6 +11,7 @@ mod boards;
 mod calls;
 mod demand3;
 mod files;
+mod forks;
 #[cfg(feature = "host")]
 mod host;
 mod ladders;
@@ -19,6 +20,7 @@ mod lists;
 mod loads;
 mod programs;
 mod rng;
+mod shares;
 mod tally;
 
 use calls::{Accepted, Answer, Call};
@@ -30,6 +32,7 @@ use second::board::Sizes;
 use second::library::BUILT_IN;
 use second::literal::{self, Ran};
 use second::{file, run, thin};
+use shares::Share;
 use std::panic::{catch_unwind, AssertUnwindSafe};
 use std::path::{Path, PathBuf};
 use std::process::ExitCode;
@@ -185,8 +188,12 @@ fn one_list(
         tally.count_scratch(kind, call.vertices(sizes), lent.scratch, number);
         match (&call, performed.answer) {
             (_, Answer::Accepted(Accepted::Ran(ran))) => {
-                tally.count_run(ran.rounds);
+                tally.count_run(&ran);
                 check_peer(sizes, before, lent.scratch, ran, &table)?;
+            }
+            (&Call::ShareInputs { a, b, .. }, answer) => {
+                let (before, after) = (&before, &table);
+                tally.count_share(&Share { sizes, a, b, number: answer.number(), before, after });
             }
             (Call::Read { bytes }, answer) => {
                 count_read(bytes, before, lent.scratch, &library, answer, tally);
@@ -276,7 +283,7 @@ fn check_thin(
 ) -> Result<(), String> {
     let run = |sizes, table: &mut [i32], scratch| {
         let ran = literal::run(sizes, table, scratch)?;
-        tally.count_run(ran.rounds);
+        tally.count_run(&ran);
         Ok(ran.outcome)
     };
     let expected = thin::thin_by(run, bytes);

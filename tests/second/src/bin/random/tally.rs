@@ -1,12 +1,14 @@
-//! How often each call was accepted, and refused by which number, and with how much scratch; how many
-//! rounds the runs took; how many margins were present and absent; which loads the cells of files had;
-//! which libraries were read, and which boards under them.
+//! How often each call was accepted, and refused by which number, and with how much scratch; which cases
+//! of ticket 6 the shares of inputs were; how many rounds the runs took; how many margins were present
+//! and absent; which loads the cells of files had; which libraries were read, and which boards under them.
 
 use crate::libraries;
 use crate::loads::{self, Cell};
+use crate::shares::{self, Share};
 use second::board::Board;
 use second::delays::NONE;
 use second::library::{CODES, MOST_TICKS};
+use second::literal::Ran;
 use second::records::RefusedRead;
 use second::refusal;
 
@@ -63,6 +65,9 @@ const SCRATCHES: [&str; 6] = [
     "refused by 3 with 4N - 1, below N x N",
     "refused by 3 with N x N and more",
 ];
+
+/// The tries of runs to share inputs where b had two arcs out.
+const TRIES: [&str; 3] = ["accepted", "13", "14"];
 
 /// Runs with more rounds are counted with the last.
 const ROUNDS: usize = 8;
@@ -123,6 +128,8 @@ const OTHERWISE: [u64; 12] = [0, 1, 2, 3, 5, 6, 15, 16, 17, 18, 19, 20];
 pub struct Tally {
     counts: [[u64; NUMBERS]; KINDS.len()],
     scratches: [[u64; SCRATCHES.len()]; KINDS.len()],
+    shares: [u64; shares::CASES.len()],
+    tries: [u64; TRIES.len()],
     runs: [u64; ROUNDS],
     margins: [u64; MARGINS.len()],
     cells: [[u64; CELLS.len()]; READERS.len()],
@@ -152,9 +159,20 @@ impl Tally {
         }
     }
 
-    /// A run, by its rounds that accepted something.
-    pub fn count_run(&mut self, rounds: u64) {
-        self.runs[(rounds as usize).min(ROUNDS - 1)] += 1;
+    /// A share of inputs in a list.
+    pub fn count_share(&mut self, share: &Share) {
+        for (count, is) in self.shares.iter_mut().zip(share.cases()) {
+            *count += u64::from(is);
+        }
+    }
+
+    /// A run, by its rounds that accepted something, and its tries to share inputs.
+    pub fn count_run(&mut self, ran: &Ran) {
+        self.runs[(ran.rounds as usize).min(ROUNDS - 1)] += 1;
+        let tries = [ran.forks.accepted, ran.forks.nothing_saved, ran.forks.new_delay];
+        for (count, tries) in self.tries.iter_mut().zip(tries) {
+            *count += tries;
+        }
     }
 
     /// The answers of an accepted call, one for each vertex.
@@ -228,6 +246,7 @@ impl Tally {
 
     fn all(&self) -> impl Iterator<Item = &u64> {
         let counts = self.counts.as_flattened().iter().chain(self.scratches.as_flattened());
+        let counts = counts.chain(&self.shares).chain(&self.tries);
         let counts = counts.chain(&self.runs).chain(&self.margins);
         let counts = counts.chain(self.cells.as_flattened()).chain(self.overloaded.as_flattened());
         let counts = counts.chain(&self.libraries).chain(&self.faults);
@@ -237,6 +256,7 @@ impl Tally {
     fn all_mut(&mut self) -> impl Iterator<Item = &mut u64> {
         let counts = self.counts.as_flattened_mut().iter_mut();
         let counts = counts.chain(self.scratches.as_flattened_mut());
+        let counts = counts.chain(&mut self.shares).chain(&mut self.tries);
         let counts = counts.chain(&mut self.runs).chain(&mut self.margins);
         let counts =
             counts.chain(self.cells.as_flattened_mut()).chain(self.overloaded.as_flattened_mut());
@@ -262,6 +282,16 @@ impl Tally {
         print!("calls by scratch");
         for (class, which) in SCRATCHES.iter().enumerate() {
             print!("  {which}:{}", self.scratches.iter().map(|row| row[class]).sum::<u64>());
+        }
+        println!();
+        print!("shares of inputs by ticket 6");
+        for (which, count) in shares::CASES.iter().zip(&self.shares) {
+            print!("  {which}:{count}");
+        }
+        println!();
+        print!("tries of runs by ticket 6");
+        for (which, count) in TRIES.iter().zip(&self.tries) {
+            print!("  {which}:{count}");
         }
         println!();
         print!("runs by rounds that accepted something");
@@ -332,6 +362,18 @@ impl Tally {
                 if count == 0 {
                     faults.push(format!("{} was never {which} cells of scratch", kind.name));
                 }
+            }
+        }
+        for (which, &count) in shares::CASES.iter().zip(&self.shares) {
+            if count == 0 {
+                faults.push(format!("no share of inputs was {which}"));
+            }
+        }
+        for (which, &count) in TRIES.iter().zip(&self.tries) {
+            if count == 0 {
+                faults.push(format!(
+                    "no try of a run to share inputs with two arcs out of b was {which}"
+                ));
             }
         }
         for (rounds, least) in LEAST_RUNS {
