@@ -6,14 +6,12 @@ use mathlib.Core.Bool.{Bool, true, false, not, cond, ◌&&◌, ◌||◌}
 use Prim.Native.Nat.{ℕ, ◌+◌, ◌<◌}
 use native.Mathlib.Decide.{ℕ_discrete, dec_lt}
 use native.Mathlib.Omega.{arith}
-use lib.Dec.{T, T_not, not_T, eqb, eqb→eq, leb, ltb, le→leb, leb→le, ltb→lt, lt→ltb}
+use lib.Dec.{T, T_not, not_T, eqb, eqb→eq, leb, ltb, le→leb, ltb→lt, lt→ltb}
 use lib.IntN.{ℤ}
-use Rattle.laws.specs.Bounded.{some}
 use Rattle.laws.proofs.Booleans.{and_i, and_e, or_l, or_r, or_cases, true_or-not, split, eq→eqb}
-use Rattle.laws.proofs.Bounded.{some_at}
 use Rattle.laws.proofs.Truth.{same_truth}
 use Rattle.graph.specs.Delay.{Delay, absent, present}
-use Rattle.graph.specs.Graph.{Graph, longest}
+use Rattle.graph.specs.Graph.{Graph}
 use Rattle.graph.proofs.Presence.{not-present, at_present}
 use Rattle.timing.specs.Refusal.{accepted}
 use Rattle.timing.specs.Sound.{Sound}
@@ -22,9 +20,9 @@ use Rattle.reduction.specs.Outcome.{is_inner}
 use Rattle.reduction.specs.ShareInputs.{inputs_shared, enough_out, share_inputs_verdict, inputs_reduced}
 use Rattle.reduction.specs.DeletionMeaning.{driven}
 use Rattle.reduction.proofs.Accepted.{ShareInputsAccepted, share_inputs_accepted}
-use Rattle.reduction.proofs.Better.{unused_in, unused_out}
+use Rattle.reduction.proofs.Better.{inner_of, inner_is, unused_in, unused_out}
 use Rattle.reduction.proofs.ShareInputs.{Shared, inputs_shared_by, inputs_shared_keeps}
-use Rattle.reduction.proofs.DeletionMeaning.{driven_outside, driven_onward, deletion_meaning}
+use Rattle.reduction.proofs.DeletionMeaning.{driven_outside, driven_from, driven_onward, deletion_meaning}
 use Rattle.sets.specs.declared.Set.{Set}
 use Rattle.sets.specs.Sets.{holds}
 use Rattle.reach.specs.Spread.{Spread, barred}
@@ -53,7 +51,7 @@ module _ {m n N : ℕ} {g : Graph} (a b k : ℕ) (e : ℤ) (s : Sound m n N g) (
   s' = (inputs_shared_keeps (λ _ _. false) a b k e s h.input_a h.input_b h.two h.inner h.free (λ j l t. absurd t) h.in_range).sound
 
   low : (u : ℕ) → u < m + n → T (not (is_inner m n N u))
-  low u l = not_T (is_inner m n N u) (λ t. omega (arith, leb→le (m + n) u (and_e (leb (m + n) u) (ltb u N) t).0))
+  low u l = not_T (is_inner m n N u) (λ t. omega (arith, (inner_of m n N u t).0))
 
   module _ (others met : Set) (first : (u : ℕ) → holds others u ≡ (eqb u k || (leb 0 u && ltb u (m + n)))) (spread : Spread (barred b g) others met) where
     begin_low : (u : ℕ) → u < m + n → T (holds met u)
@@ -96,21 +94,14 @@ module _ {m n N : ℕ} {g : Graph} (a b k : ℕ) (e : ℤ) (s : Sound m n N g) (
         go (no w) (no f) (no p) (no r) = spread.closed.onward x y t (subst (λ (d : Delay). T (present d)) (c.rest x y f p r w ∙ sym (barred_other b g x y p)) there)
 
     driven_met : (u : ℕ) → u < N → T (driven m n N (inputs_shared a b k e g) u) → T (holds met u)
-    driven_met u l d = go (or_cases (not (is_inner m n N u)) (some N (λ v. not (is_inner m n N v) && present (longest g' N v u))) d)
+    driven_met u l d = split (driven_from s' u d) (outside u l) (λ v. closed N g' (sound_within s') (λ x. T (holds met x)) onward v.0 u (outside v.0 v.1 v.2) v.3)
       where
         outside : (v : ℕ) → v < N → T (not (is_inner m n N v)) → T (holds met v)
         outside v l t = pick (dec_lt v (m + n))
           where
             pick : Dec (v < m + n) → T (holds met v)
             pick (yes k) = begin_low v k
-            pick (no k) = absurd (T_not (is_inner m n N v) t (and_i (leb (m + n) v) (ltb v N) (le→leb (m + n) v (omega arith)) (lt→ltb v N l)))
-
-        go : T (not (is_inner m n N u)) ⊎ T (some N (λ v. not (is_inner m n N v) && present (longest (inputs_shared a b k e g) N v u))) → T (holds met u)
-        go (inl t) = outside u l t
-        go (inr t) =
-            let v = some_at N (λ v. not (is_inner m n N v) && present (longest g' N v u)) t in
-            let p = and_e (not (is_inner m n N v.0)) (present (longest g' N v.0 u)) v.2 in
-            closed N g' (sound_within s') (λ x. T (holds met x)) onward v.0 u (outside v.0 v.1 p.0) p.1
+            pick (no k) = absurd (T_not (is_inner m n N v) t (inner_is m n N v (omega arith, l)))
 
     -- ---- the others among the inner vertices
 

@@ -29,7 +29,7 @@ use Rattle.reduction.specs.ShareOutputs.{enough_in, outputs_saved, share_outputs
 use Rattle.reduction.specs.Prune.{pruned, prune_verdict}
 use Rattle.reduction.specs.MergeBack.{driver, driver_delay, merge_fits, merge_back_verdict}
 use Rattle.reduction.specs.Star.{non_empty, distinct, to_centre, covered_arcs, star_verdict}
-use Rattle.reduction.proofs.Better.{Output, Inner, output_of, inner_of}
+use Rattle.reduction.proofs.Better.{Output, Inner, output_of, inner_of, inner_is}
 
 -- b is a plus e at every place
 pub common_accepted : (n : ℕ) (a b : ℕ → Delay) (e : ℤ) → common_difference n a b ≡ accepted e → (j : ℕ) → j < n → b j ≡ a j ⊕ at e
@@ -93,7 +93,7 @@ inputs_asked m n N a b k g ha hb ab hk free =
     let low = lt→ltb k N hk.1 in
     accepted_require (is_input m a && is_input m b && not (eqb a b) && ltb k N) WrongVertex _
     (and_i (is_input m a && is_input m b && not (eqb a b)) (ltb k N) (and_i (is_input m a && is_input m b) (not (eqb a b)) (and_i (is_input m a) (is_input m b) (lt→ltb a m ha) (lt→ltb b m hb)) (ne→neqb a b ab)) low)
-    ∙ accepted_require (is_inner m n N k && unused N g k) NumberTaken _ (and_i (is_inner m n N k) (unused N g k) (and_i (leb (m + n) k) (ltb k N) (le→leb (m + n) k hk.0) low) free)
+    ∙ accepted_require (is_inner m n N k && unused N g k) NumberTaken _ (and_i (is_inner m n N k) (unused N g k) (inner_is m n N k hk) free)
 
 pub record ShareOutputsAccepted (m n N a b : ℕ) (g : Graph) (e : ℤ) : Type 0 where
   pub output_a : Output m n a

@@ -5,9 +5,9 @@ use mathlib.Core.Bool.{Bool}
 use Prim.Native.Nat.{ℕ, ◌+◌, ◌≤◌, ◌<◌}
 use native.Mathlib.Decide.{ℕ_discrete}
 use native.Mathlib.Omega.{arith}
-use lib.Dec.{T, eqb→eq, leb, ltb, leb→le, ltb→lt}
+use lib.Dec.{T, eqb→eq, leb, ltb, leb→le, le→leb, ltb→lt, lt→ltb}
 use Rattle.laws.specs.Bounded.{sum}
-use Rattle.laws.proofs.Booleans.{and_e}
+use Rattle.laws.proofs.Booleans.{and_i, and_e}
 use Rattle.laws.proofs.Sums.{sum_term}
 use Rattle.graph.specs.Delay.{Delay, absent, present}
 use Rattle.graph.specs.Graph.{Graph, Longest, longest}
@@ -31,6 +31,9 @@ output_of m n j t = let p = and_e (leb m j) (ltb j (m + n)) t in (leb→le m j p
 
 pub inner_of : (m n N k : ℕ) → T (is_inner m n N k) → Inner m n N k
 inner_of m n N k t = let p = and_e (leb (m + n) k) (ltb k N) t in (leb→le (m + n) k p.0, ltb→lt k N p.1)
+
+pub inner_is : (m n N k : ℕ) → Inner m n N k → T (is_inner m n N k)
+inner_is m n N k h = and_i (leb (m + n) k) (ltb k N) (le→leb (m + n) k h.0) (lt→ltb k N h.1)
 
 -- what a change of a graph keeps, whatever it costs: the greatest delays of the pairs that count
 pub record Same (counts : ℕ → ℕ → Bool) (m n N : ℕ) (g g' : Graph) : Type 0 where

@@ -9,7 +9,7 @@ use native.Mathlib.Omega.{arith}
 use lib.Dec.{T, T_not, not_T, eqb, eqb→eq}
 use lib.IntN.{ℤ}
 use Rattle.laws.specs.Bounded.{some}
-use Rattle.laws.proofs.Booleans.{T_true, T-not-false, true_or-not, and_i, and_e, or_l, or_r, or_cases, eq→eqb}
+use Rattle.laws.proofs.Booleans.{T_true, T-not-false, true_or-not, and_i, and_e, or_l, or_r, or_cases, split, eq→eqb}
 use Rattle.laws.proofs.Bounded.{some_at, some_of}
 use Rattle.laws.proofs.Sums.{sum_term, sum_zero}
 use Rattle.graph.specs.Delay.{Delay, absent, present, ◌⊕◌, ◌⊑◌}
@@ -42,37 +42,28 @@ module _ {m n N : ℕ} {g : Graph} (s : Sound m n N g) where
   pub driven_outside : (u : ℕ) → T (not (is_inner m n N u)) → T (driven m n N g u)
   driven_outside u t = or_l (not (is_inner m n N u)) (some N (led u)) t
 
-  pub driven_onward : (x u : ℕ) → T (driven m n N g x) → T (present (g x u)) → T (driven m n N g u)
-  driven_onward x u d t = go (or_cases (not (is_inner m n N x)) (some N (led x)) d)
-    where
-      by : (v : ℕ) → v < N → T (not (is_inner m n N v)) → T (present (longest g N v u)) → T (driven m n N g u)
-      by v k h p = or_r (not (is_inner m n N u)) (some N (led u)) (some_of N (led u) v k (and_i (not (is_inner m n N v)) (present (longest g N v u)) h p))
+  driven_by : (v u : ℕ) → v < N → T (not (is_inner m n N v)) → T (present (longest g N v u)) → T (driven m n N g u)
+  driven_by v u k h p = or_r (not (is_inner m n N u)) (some N (led u)) (some_of N (led u) v k (and_i (not (is_inner m n N v)) (present (longest g N v u)) h p))
 
-      go : T (not (is_inner m n N x)) ⊎ T (some N (led x)) → T (driven m n N g u)
-      go (inl h) = by x (s.legal x u t).from_below h (present-⊑ (arc_⊑ l x u) t)
-      go (inr h) =
-          let v = some_at N (led x) h in
-          let p = and_e (not (is_inner m n N v.0)) (present (longest g N v.0 x)) v.2 in
-          by v.0 v.1 p.0 (present-⊑ (extend l v.0 x u) (present-⊕ (longest g N v.0 x) (g x u) p.1 t))
+  pub driven_from : (u : ℕ) → T (driven m n N g u) → T (not (is_inner m n N u)) ⊎ ((v : ℕ) × (v < N) × T (not (is_inner m n N v)) × T (present (longest g N v u)))
+  driven_from u d = split (or_cases (not (is_inner m n N u)) (some N (led u)) d) inl (λ h.
+      let v = some_at N (led u) h in
+      let p = and_e (not (is_inner m n N v.0)) (present (longest g N v.0 u)) v.2 in
+      inr (v.0, v.1, p.0, p.1))
+
+  pub driven_onward : (x u : ℕ) → T (driven m n N g x) → T (present (g x u)) → T (driven m n N g u)
+  driven_onward x u d t = split (driven_from x d)
+      (λ h. driven_by x u (s.legal x u t).from_below h (present-⊑ (arc_⊑ l x u) t))
+      (λ v. driven_by v.0 u v.1 v.2 (present-⊑ (extend l v.0 x u) (present-⊕ (longest g N v.0 x) (g x u) v.3 t)))
 
   -- an inner one has an arc in from another
   driver_of : (u : ℕ) → T (is_inner m n N u) → T (driven m n N g u) → (x : ℕ) × T (driven m n N g x) × T (present (g x u))
-  driver_of u inner d = go (or_cases (not (is_inner m n N u)) (some N (led u)) d)
+  driver_of u inner d = split (driven_from u d) (λ h. absurd (T_not (is_inner m n N u) h inner)) (λ v. last v.0 v.1 v.2 v.3 (last_arc l v.0 u))
     where
       last : (v : ℕ) → v < N → T (not (is_inner m n N v)) → T (present (longest g N v u)) → (longest g N v u ⊑ g v u) ⊎ ((x : ℕ) × (longest g N v u ⊑ longest g N v x ⊕ g x u))
           → (x : ℕ) × T (driven m n N g x) × T (present (g x u))
       last v k h p (inl q) = (v, driven_outside v h, present-⊑ q p)
-      last v k h p (inr (x, q)) =
-          let b = present-⊑ q p in
-          let before = present_l (longest g N v x) (g x u) b in
-          (x, or_r (not (is_inner m n N x)) (some N (led x)) (some_of N (led x) v k (and_i (not (is_inner m n N v)) (present (longest g N v x)) h before)), present_r (longest g N v x) (g x u) b)
-
-      go : T (not (is_inner m n N u)) ⊎ T (some N (led u)) → (x : ℕ) × T (driven m n N g x) × T (present (g x u))
-      go (inl h) = absurd (T_not (is_inner m n N u) h inner)
-      go (inr h) =
-          let v = some_at N (led u) h in
-          let p = and_e (not (is_inner m n N v.0)) (present (longest g N v.0 u)) v.2 in
-          last v.0 v.1 p.0 p.1 (last_arc l v.0 u)
+      last v k h p (inr (x, q)) = let b = present-⊑ q p in (x, driven_by v x k h (present_l (longest g N v x) (g x u) b), present_r (longest g N v x) (g x u) b)
 
   -- ---- their arcs stay
 

@@ -1,14 +1,14 @@
 -- When the deletion after a share of inputs takes an arc, seen before the share; and the verdict by it.
 use mathlib.Core.Path.{◌≡◌, refl, sym, ap, ◌∙◌, subst, fun_ext}
-use mathlib.Core.Logic.{◌≢◌, ◌⊎◌, inl, inr}
+use mathlib.Core.Logic.{◌≢◌}
 use mathlib.Core.Bool.{Bool, true, not, ◌&&◌, ◌||◌}
 use Prim.Native.Nat.{ℕ, ◌<◌}
 use native.Mathlib.Decide.{ℕ_discrete}
 use native.Mathlib.Omega.{arith}
-use lib.Dec.{T, not_T, eqb, eqb→eq, ltb, ltb→lt}
+use lib.Dec.{T, not_T, eqb, eqb→eq, ltb, ltb→lt, lt→ltb}
 use lib.IntN.{ℤ}
 use Rattle.laws.specs.Bounded.{every}
-use Rattle.laws.proofs.Booleans.{and_i, and_e, or_l, or_r, or_cases, eq→eqb, neqb→ne, cases, true_is}
+use Rattle.laws.proofs.Booleans.{and_i, and_e, or_l, or_r, or_cases, split, eq→eqb, neqb→ne, cases, true_is}
 use Rattle.laws.proofs.Truth.{same_truth}
 use Rattle.laws.proofs.Bounded.{some_at, some_of, every_at, every_all}
 use Rattle.laws.proofs.Sums.{sum_eq, sum_zero}
@@ -16,7 +16,7 @@ use Rattle.graph.specs.Delay.{absent, present}
 use Rattle.graph.specs.Graph.{Graph}
 use Rattle.graph.specs.Count.{bit, fan_in, fan_out}
 use Rattle.graph.proofs.Longest.{Within}
-use Rattle.graph.proofs.Presence.{absent_or, not-present, at_present, absent_unless, bit_absent}
+use Rattle.graph.proofs.Presence.{not-present, at_present, absent_unless, bit_absent}
 use Rattle.timing.specs.declared.Refusal.TheVariants.{WrongVertex, NumberTaken}
 use Rattle.timing.specs.Refusal.{Verdict, require, ◌then◌}
 use Rattle.timing.specs.Delays.{matrix}
@@ -25,12 +25,33 @@ use Rattle.timing.proofs.Checks.{sound_within}
 use Rattle.reduction.specs.Outcome.{is_input, is_inner, unused}
 use Rattle.reduction.specs.Common.{common_difference}
 use Rattle.reduction.specs.Deletion.{undriven}
-use Rattle.reduction.specs.DeletionMeaning.{leaves_undriven, ShareDeletion, saved_before}
+use Rattle.reduction.specs.DeletionMeaning.{hangs_on, leaves_undriven, ShareDeletion, saved_before}
 use Rattle.reduction.specs.ShareInputs.{inputs_shared, enough_out, two_out, where_it_pays, share_inputs_verdict}
 use Rattle.reduction.proofs.Accepted.{inputs_asked}
-use Rattle.reduction.proofs.Better.{Inner, inner_of, unused_in, unused_out}
+use Rattle.reduction.proofs.Better.{Inner, inner_of, inner_is, unused_in, unused_out}
 use Rattle.reduction.proofs.Deletion.{undriven_parts, has_undriven, deletes_first}
 use Rattle.reduction.proofs.ShareInputs.{Shared, inputs_shared_by, shared_within}
+
+module _ (m n N : ℕ) (g : Graph) (b u : ℕ) where
+  pub hangs_by : Inner m n N u → 0 < fan_out N g u → ((x : ℕ) → x < N → x ≢ b → g x u ≡ absent) → T (hangs_on m n N g b u)
+  hangs_by inner out none =
+      and_i (is_inner m n N u && ltb 0 (fan_out N g u)) (every N (λ x. eqb x b || not (present (g x u))))
+      (and_i (is_inner m n N u) (ltb 0 (fan_out N g u)) (inner_is m n N u inner) (lt→ltb 0 (fan_out N g u) out))
+      (every_all N (λ x. eqb x b || not (present (g x u))) (λ x l. go x l (ℕ_discrete x b)))
+    where
+      go : (x : ℕ) → x < N → Dec (x ≡ b) → T (eqb x b || not (present (g x u)))
+      go x l (yes z) = or_l (eqb x b) (not (present (g x u))) (eq→eqb x b z)
+      go x l (no z) = or_r (eqb x b) (not (present (g x u))) (not_T (present (g x u)) (not-present (g x u) (none x l z)))
+
+  pub hangs_parts : T (hangs_on m n N g b u) → Inner m n N u × (0 < fan_out N g u) × ((x : ℕ) → x < N → x ≢ b → g x u ≡ absent)
+  hangs_parts t =
+      let p = and_e (is_inner m n N u && ltb 0 (fan_out N g u)) (every N (λ x. eqb x b || not (present (g x u)))) t in
+      let q = and_e (is_inner m n N u) (ltb 0 (fan_out N g u)) p.0 in (
+        inner_of m n N u q.0,
+        ltb→lt 0 (fan_out N g u) q.1,
+        λ x l z. split (or_cases (eqb x b) (not (present (g x u))) (every_at N (λ x. eqb x b || not (present (g x u))) p.1 x l))
+            (λ e. absurd (z (eqb→eq x b e))) (absent_unless (g x u)),
+      )
 
 module _ {m n N : ℕ} (a b k : ℕ) {g : Graph} (s : Sound m n N g) (ha : a < m) (hb : b < m) (ab : a ≢ b) (hk : Inner m n N k) (free : T (unused N g k)) where
   out : (v : ℕ) → g k v ≡ absent
@@ -73,14 +94,14 @@ module _ {m n N : ℕ} (a b k : ℕ) {g : Graph} (s : Sound m n N g) (ha : a < m
         go (no _) (yes z) = rw z (out u)
         go (no p) (no q) = sym (c.rest x u p xb q n) ∙ none x
 
-    in_goes : (u : ℕ) → u ≢ k → ((x : ℕ) → x ≢ b → g x u ≡ absent) → (x : ℕ) → inputs_shared a b k e g x u ≡ absent
-    in_goes u n none x = go (ℕ_discrete x a) (ℕ_discrete x b) (ℕ_discrete x k)
+    in_goes : (u : ℕ) → u ≢ k → ((x : ℕ) → x < N → x ≢ b → g x u ≡ absent) → (x : ℕ) → x < N → inputs_shared a b k e g x u ≡ absent
+    in_goes u n none x l = go (ℕ_discrete x a) (ℕ_discrete x b) (ℕ_discrete x k)
       where
         go : Dec (x ≡ a) → Dec (x ≡ b) → Dec (x ≡ k) → inputs_shared a b k e g x u ≡ absent
         go (yes z) _ _ = rw z (c.a_out u n)
         go (no _) (yes z) _ = rw z (c.b_out u n)
-        go (no _) (no _) (yes z) = rw z (c.hub u ∙ none a ab)
-        go (no p) (no q) (no r) = c.rest x u p q r n ∙ none x q
+        go (no _) (no _) (yes z) = rw z (c.hub u ∙ none a (omega (arith, s.room)) ab)
+        go (no p) (no q) (no r) = c.rest x u p q r n ∙ none x l q
 
     there : T (has_undriven m n N (inputs_shared a b k e g)) → T (leaves_undriven m n N g b)
     unfolding leaves_undriven
@@ -89,41 +110,19 @@ module _ {m n N : ℕ} (a b k : ℕ) {g : Graph} (s : Sound m n N g) (ha : a < m
         let p = and_e (undriven m n N g' u.0) (ltb 0 (fan_out N g' u.0)) u.2 in
         let q = undriven_parts m n N w' u.0 p.0 in
         let uk : u.0 ≢ k = λ z. not-present (g' a k) (subst (λ (y : ℕ). g' a y ≡ absent) z (q.1 a)) (at_present c.a_k) in
-        some_of N (λ u. is_inner m n N u && ltb 0 (fan_out N g u) && every N (λ x. eqb x b || not (present (g x u)))) u.0 u.1
-        (and_i (is_inner m n N u.0 && ltb 0 (fan_out N g u.0)) (every N (λ x. eqb x b || not (present (g x u.0))))
-        (and_i (is_inner m n N u.0) (ltb 0 (fan_out N g u.0)) (and_e (is_inner m n N u.0) (eqb (fan_in N g' u.0) 0) p.0).0 (subst (λ (y : ℕ). T (ltb 0 y)) (out_stays u.0 q.0 uk) p.1))
-        (every_all N (λ x. eqb x b || not (present (g x u.0))) (λ x _. alone u.0 (in_stays u.0 uk q.1) x (ℕ_discrete x b))))
-      where
-        alone : (u : ℕ) → ((x : ℕ) → x ≢ b → g x u ≡ absent) → (x : ℕ) → Dec (x ≡ b) → T (eqb x b || not (present (g x u)))
-        alone u none x (yes z) = or_l (eqb x b) (not (present (g x u))) (eq→eqb x b z)
-        alone u none x (no z) = or_r (eqb x b) (not (present (g x u))) (not_T (present (g x u)) (not-present (g x u) (none x z)))
+        some_of N (hangs_on m n N g b) u.0 u.1 (hangs_by m n N g b u.0 q.0 (omega (arith, ltb→lt 0 (fan_out N g' u.0) p.1, out_stays u.0 q.0 uk)) (λ x _. in_stays u.0 uk q.1 x))
 
     back : T (leaves_undriven m n N g b) → T (has_undriven m n N (inputs_shared a b k e g))
     unfolding leaves_undriven fan_in fan_out
     back t =
-        let u = some_at N (λ u. is_inner m n N u && ltb 0 (fan_out N g u) && every N (λ x. eqb x b || not (present (g x u)))) t in
-        let p = and_e (is_inner m n N u.0 && ltb 0 (fan_out N g u.0)) (every N (λ x. eqb x b || not (present (g x u.0)))) u.2 in
-        let q = and_e (is_inner m n N u.0) (ltb 0 (fan_out N g u.0)) p.0 in
-        let uk : u.0 ≢ k = λ z. omega (arith, ltb→lt 0 (fan_out N g u.0) q.1, ap (fan_out N g) z, sum_zero N (λ t. bit (g k t)) (λ t _. bit_absent (out t))) in
+        let u = some_at N (hangs_on m n N g b) t in
+        let h = hangs_parts m n N g b u.0 u.2 in
+        let uk : u.0 ≢ k = λ z. omega (arith, h.1, ap (fan_out N g) z, sum_zero N (λ t. bit (g k t)) (λ t _. bit_absent (out t))) in
         some_of N (λ u. undriven m n N g' u && ltb 0 (fan_out N g' u)) u.0 u.1
         (and_i (undriven m n N g' u.0) (ltb 0 (fan_out N g' u.0))
-        (and_i (is_inner m n N u.0) (eqb (fan_in N g' u.0) 0) q.0 (eq→eqb (fan_in N g' u.0) 0
-        (sum_zero N (λ x. bit (g' x u.0)) (λ x _. bit_absent (in_goes u.0 uk (λ x n. alone u.0 x n (every_all_at u.0 p.1 x)) x)))))
-        (subst (λ (y : ℕ). T (ltb 0 y)) (sym (out_stays u.0 (inner_of m n N u.0 q.0) uk)) q.1))
-      where
-        every_all_at : (u : ℕ) → T (every N (λ x. eqb x b || not (present (g x u)))) → (x : ℕ) → x < N → T (eqb x b || not (present (g x u)))
-        every_all_at u h x l = every_at N (λ x. eqb x b || not (present (g x u))) h x l
-
-        alone : (u x : ℕ) → x ≢ b → (x < N → T (eqb x b || not (present (g x u)))) → g x u ≡ absent
-        alone u x n h = go (absent_or (g x u))
-          where
-            go : (g x u ≡ absent) ⊎ T (present (g x u)) → g x u ≡ absent
-            go (inl z) = z
-            go (inr y) = pick (or_cases (eqb x b) (not (present (g x u))) (h ((sound_within s).in_range x u y).0))
-              where
-                pick : T (eqb x b) ⊎ T (not (present (g x u))) → g x u ≡ absent
-                pick (inl z) = absurd (n (eqb→eq x b z))
-                pick (inr z) = absent_unless (g x u) z
+        (and_i (is_inner m n N u.0) (eqb (fan_in N g' u.0) 0) (inner_is m n N u.0 h.0)
+        (eq→eqb (fan_in N g' u.0) 0 (sum_zero N (λ x. bit (g' x u.0)) (λ x l. bit_absent (in_goes u.0 uk h.2 x l)))))
+        (lt→ltb 0 (fan_out N g' u.0) (omega (arith, h.1, out_stays u.0 h.0 uk))))
 
     pub share_deletion : ShareDeletion m n N a b k e g
     share_deletion = deletes_first m n N g' w' ∙ same_truth (has_undriven m n N g') (leaves_undriven m n N g b) there back
@@ -135,13 +134,14 @@ module _ {m n N : ℕ} (a b k : ℕ) {g : Graph} (s : Sound m n N g) (ha : a < m
       ∙ ap (λ (f : ℤ → Verdict ℤ). common_difference n (matrix m N g a) (matrix m N g b) then f)
       (fun_ext (λ e. ap (λ (c : Bool). where_it_pays (enough_out N g b || (two_out N g b && c)) e) (share_deletion e)))
 
--- whatever the numbers
+-- the verdict, seen so
 abbrev pub verdict_before : ℕ → ℕ → ℕ → ℕ → ℕ → ℕ → Graph → Verdict ℤ
 verdict_before m n N a b k g =
     require (is_input m a && is_input m b && not (eqb a b) && ltb k N) WrongVertex
     (require (is_inner m n N k && unused N g k) NumberTaken
     (common_difference n (matrix m N g a) (matrix m N g b) then saved_before m n N g b))
 
+-- it is that, whatever the numbers
 pub share_inputs_before : {m n N : ℕ} (a b k : ℕ) {g : Graph} → Sound m n N g → share_inputs_verdict m n N a b k g ≡ verdict_before m n N a b k g
 unfolding share_inputs_verdict
 share_inputs_before {m} {n} {N} a b k {g} s = cases vertices (λ e. cases number (λ f. right e f) (λ f. rw (e, f) refl)) (λ e. rw e refl)

@@ -180,17 +180,22 @@ shared_count {N} {a} {b} {k} {e} {g} {g'} s ab ka kb out in' aN bN kN =
       sum_eq N (λ t. bit (g' k t)) (λ t. bit (g a t)) (λ t _. ap bit (s.hub t)),
     )
 
-pub shared_within : {N a b k : ℕ} {e : ℤ} {g g' : Graph} → Shared a b k e g g' → Within N g → a < N → b < N → k < N → Within N g'
-shared_within {N} {a} {b} {k} {e} {g} {g'} s w aN bN kN = record { in_range = λ u t h. go u t h (ℕ_discrete u k) (ℕ_discrete t k) (ℕ_discrete u a) (ℕ_discrete u b) }
+-- what holds of a's arcs as k's, of the two new ones and of all old ones holds of each arc
+shared_arcs : {a b k : ℕ} {e : ℤ} {g g' : Graph} → Shared a b k e g g' → (P : ℕ → ℕ → Delay → Type 0) → ((t : ℕ) → T (present (g a t)) → P k t (g a t)) → P a k immediate → P b k (at e)
+    → ((u t : ℕ) → T (present (g u t)) → P u t (g u t)) → (u t : ℕ) → T (present (g' u t)) → P u t (g' u t)
+shared_arcs {a} {b} {k} {e} {g} {g'} s P taken new_a new_b old u t = go (ℕ_discrete u k) (ℕ_discrete t k) (ℕ_discrete u a) (ℕ_discrete u b)
   where
-    go : (u t : ℕ) → T (present (g' u t)) → Dec (u ≡ k) → Dec (t ≡ k) → Dec (u ≡ a) → Dec (u ≡ b) → (u < N) × (t < N)
-    go u t h (yes z) _ _ _ = (rw z kN, (w.in_range a t (rw (z, s.hub t) at h)).1)
-    go u t h (no _) (yes z) (yes q) _ = (rw q aN, rw z kN)
-    go u t h (no _) (yes z) (no _) (yes f) = (rw f bN, rw z kN)
-    go u t h (no _) (yes z) (no q) (no f) = absurd (not-present (g' u t) (rw z (s.else_k u q f)) h)
-    go u t h (no _) (no z) (yes q) _ = absurd (not-present (g' u t) (rw q (s.a_out t z)) h)
-    go u t h (no _) (no z) (no q) (yes f) = absurd (not-present (g' u t) (rw f (s.b_out t z)) h)
-    go u t h (no p) (no z) (no q) (no f) = w.in_range u t (rw (s.rest u t q f p z) at h)
+    go : Dec (u ≡ k) → Dec (t ≡ k) → Dec (u ≡ a) → Dec (u ≡ b) → T (present (g' u t)) → P u t (g' u t)
+    go (yes z) _ _ _ h = rw (z, s.hub t) (taken t (rw (z, s.hub t) at h))
+    go (no _) (yes z) (yes q) _ h = rw (z, q, s.a_k) new_a
+    go (no _) (yes z) (no _) (yes f) h = rw (z, f, s.b_k) new_b
+    go (no _) (yes z) (no q) (no f) h = absurd (not-present (g' u t) (rw z (s.else_k u q f)) h)
+    go (no _) (no z) (yes q) _ h = absurd (not-present (g' u t) (rw q (s.a_out t z)) h)
+    go (no _) (no z) (no q) (yes f) h = absurd (not-present (g' u t) (rw f (s.b_out t z)) h)
+    go (no p) (no z) (no q) (no f) h = rw (s.rest u t q f p z) (old u t (rw (s.rest u t q f p z) at h))
+
+pub shared_within : {N a b k : ℕ} {e : ℤ} {g g' : Graph} → Shared a b k e g g' → Within N g → a < N → b < N → k < N → Within N g'
+shared_within {N} {a} s w aN bN kN = record { in_range = shared_arcs s (λ u t _. (u < N) × (t < N)) (λ t h. (kN, (w.in_range a t h).1)) (aN, kN) (bN, kN) w.in_range }
 
 -- ---- the step
 
@@ -256,21 +261,12 @@ module _ (counts : ℕ → ℕ → Bool) {m n N : ℕ} (a b k : ℕ) {g : Graph}
       subst (λ (x : ℕ). T (counts b x) → longest g N b x ≡ longest g N a x ⊕ at e) z (dif (j - m) (omega arith))
 
   legal : (u t : ℕ) → T (present (inputs_shared a b k e g u t)) → LegalArc m N u t (inputs_shared a b k e g u t)
-  legal u t = go (ℕ_discrete u k) (ℕ_discrete t k) (ℕ_discrete u a) (ℕ_discrete u b)
+  legal = shared_arcs c (LegalArc m N)
+      (λ t h. let x = s.legal a t h in record { from_below = hk.1; to_below = x.to_below; not_input = x.not_input; in_range = x.in_range })
+      (record { from_below = a<N; to_below = hk.1; not_input = m≤k; in_range = tt }) (record { from_below = b<N; to_below = hk.1; not_input = m≤k; in_range = low }) s.legal
     where
       m≤k : m ≤ k
       m≤k = omega arith
-
-      go : Dec (u ≡ k) → Dec (t ≡ k) → Dec (u ≡ a) → Dec (u ≡ b) → T (present (inputs_shared a b k e g u t)) → LegalArc m N u t (inputs_shared a b k e g u t)
-      go (yes z) _ _ _ h =
-          let x = s.legal a t (rw (z, c.hub t) at h) in
-          rw (z, c.hub t) (record { from_below = hk.1; to_below = x.to_below; not_input = x.not_input; in_range = x.in_range })
-      go (no p) (yes z) (yes q) _ h = rw (z, q, c.a_k) (record { from_below = a<N; to_below = hk.1; not_input = m≤k; in_range = tt })
-      go (no p) (yes z) (no q) (yes f) h = rw (z, f, c.b_k) (record { from_below = b<N; to_below = hk.1; not_input = m≤k; in_range = low })
-      go (no p) (yes z) (no q) (no f) h = absurd (not-present (inputs_shared a b k e g u t) (rw z (c.else_k u q f)) h)
-      go (no p) (no z) (yes q) _ h = absurd (not-present (inputs_shared a b k e g u t) (rw q (c.a_out t z)) h)
-      go (no p) (no z) (no q) (yes f) h = absurd (not-present (inputs_shared a b k e g u t) (rw f (c.b_out t z)) h)
-      go (no p) (no z) (no q) (no f) h = rw (c.rest u t q f p z) (s.legal u t (rw (c.rest u t q f p z) at h))
 
   w' : Within N (inputs_shared a b k e g)
   w' = shared_within c (sound_within s) a<N b<N hk.1

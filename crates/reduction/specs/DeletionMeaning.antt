@@ -20,9 +20,13 @@ pub record DeletionMeaning (m n N : ℕ) (g : Graph) : Type 0 where
   -- and one round more takes none
   pub settled : (u t : ℕ) → deletion_round m n N (deleted m n N g) u t ≡ deleted m n N g u t
 
--- some inner vertex with an arc out has no arc in, or has b's as its only one
+-- u is an inner vertex with an arc out, and has no arc in, or b's as its only one
+abbrev pub hangs_on : ℕ → ℕ → ℕ → Graph → ℕ → ℕ → Bool
+hangs_on m n N g b u = is_inner m n N u && ltb 0 (fan_out N g u) && every N (λ x. eqb x b || not (present (g x u)))
+
+-- there is such a vertex
 unfoldable pub leaves_undriven : ℕ → ℕ → ℕ → Graph → ℕ → Bool
-leaves_undriven m n N g b = some N (λ u. is_inner m n N u && ltb 0 (fan_out N g u) && every N (λ x. eqb x b || not (present (g x u))))
+leaves_undriven m n N g b = some N (hangs_on m n N g b)
 
 -- exactly then the deletion after a share of inputs a, b takes an arc, whatever a, the number k and the difference e
 abbrev pub ShareDeletion : ℕ → ℕ → ℕ → ℕ → ℕ → ℕ → ℤ → Graph → Type 0
