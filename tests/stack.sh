@@ -28,7 +28,7 @@ row run "$("$work/stack" run)" 36864
 row board_matrix "$("$work/stack" board_matrix)" 65536
 row board_shrink "$("$work/stack" board_shrink)" 38912
 row board_prune "$("$work/stack" board_prune)" 57344
-row thin "$(process crates/thin/stdin)" 227328
+row thin "$(process crates/thin/stdin)" 231424
 if [ "$above" -gt 0 ]; then
     echo "stack: $above above their limit" >&2
     exit 1

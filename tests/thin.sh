@@ -68,8 +68,8 @@ silent 'on no input'
 echo 'refused 15 at 0' | cmp -s - "$work/text" || fail "on no input: $(cat "$work/text")"
 
 # Inputs 0 and 1, outputs 2 and 3, all else inner, vertex v at v times 11,000,000 ticks and the outputs after them; an arc from each vertex to each later one lasts as
-# long as the time between them, save that 1 -> 3 lasts five more. So every arc decides, no rows or columns differ by one number and all fans are two or more: no step
-# applies, and the text has all 4,003 arcs.
+# long as the time between them, save that 1 -> 3 lasts five more. So every arc decides, no rows or columns differ by one number, all fans are two or more and no number is
+# free for a star's centre: no step applies, no star is found, and the text has all 4,003 arcs.
 arc() {
     local delay=$3 bytes
     printf -v bytes 'AR\\%03o\\%03o\\%03o\\%03o\\%03o\\%03o' "$1" "$2" $((delay & 255)) $((delay >> 8 & 255)) $((delay >> 16 & 255)) $((delay >> 24))

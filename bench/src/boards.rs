@@ -3,12 +3,19 @@
 use second::board::Board;
 
 /// Boards of 90 vertices.
-pub const NAMES: [&str; 9] =
-    ["dense", "ones", "layered", "sparse", "ladder", "fans", "rounds", FULLEST, CELLS];
+pub const NAMES: [&str; 12] = [
+    "dense", "ones", "layered", "sparse", "ladder", "fans", "rounds", "stars", FULLEST, CELLS,
+    SPARE, EVEN,
+];
 
 /// The one with the most arcs that a board can have, and the same with a cell for each arc.
 pub const FULLEST: &str = "full";
 pub const CELLS: &str = "cells";
+
+/// The fullest with an inner number free, for a star's centre: with random delays, of which few are
+/// covered, and with those that are as long as their ends are apart, all of which are.
+pub const SPARE: &str = "spare";
+pub const EVEN: &str = "even";
 
 /// The board of a name, or a smaller one, as `dense30`.
 pub fn board(name: &str) -> Option<(Board, Vec<i32>)> {
@@ -26,7 +33,10 @@ pub fn board(name: &str) -> Option<(Board, Vec<i32>)> {
         "ladder" => Some(ladder(vertices)),
         "fans" => Some(fans(vertices)),
         "rounds" => Some(rounds(vertices)),
+        "stars" => Some(stars(vertices)),
         FULLEST | CELLS => Some(full(&mut random, vertices)),
+        SPARE => Some(spare(vertices, |_, _| random.delay())),
+        EVEN => Some(spare(vertices, |u, v| (v - u) as i32)),
         _ => None,
     }
 }
@@ -69,6 +79,17 @@ fn full(random: &mut Random, vertices: usize) -> (Board, Vec<i32>) {
     for u in 0..vertices {
         for v in u + 1..vertices {
             table[vertices * u + v] = random.delay();
+        }
+    }
+    (board, table)
+}
+
+/// One input, and every arc to a higher number but for the last, which is free.
+fn spare(vertices: usize, mut delay: impl FnMut(usize, usize) -> i32) -> (Board, Vec<i32>) {
+    let (board, mut table) = sized(1, vertices - 2, vertices);
+    for u in 0..vertices - 1 {
+        for v in u + 1..vertices - 1 {
+            table[vertices * u + v] = delay(u, v);
         }
     }
     (board, table)
@@ -152,17 +173,34 @@ fn fans(vertices: usize) -> (Board, Vec<i32>) {
     (board, table)
 }
 
-/// Three arcs in five of those that fit one order, each as long as its ends are apart in it: all
-/// paths between two vertices take the same, so that every pair of inputs has a common difference.
-/// Six numbers are inner, so that each of many rounds shares an input and shrinks the new vertex.
+/// Three arcs in five, and six numbers inner: until runs made stars, a run shared one input in each of
+/// many rounds here and shrank the new vertex.
 fn rounds(vertices: usize) -> (Board, Vec<i32>) {
-    let inputs = vertices * 22 / 45;
-    let (board, mut table) = sized(inputs, vertices * 4 / 9, vertices);
+    apart(2_239, 60, vertices * 22 / 45, vertices * 4 / 9, vertices) // the worst of 8,000 then
+}
+
+/// Every other arc, and eight numbers inner: nine rounds make a star each.
+fn stars(vertices: usize) -> (Board, Vec<i32>) {
+    let inputs = (vertices - 8) * 11 / 21;
+    // of some 350 seeds and shares of arcs that were tried, this took most rounds
+    apart(223, 50, inputs, vertices - 8 - inputs, vertices)
+}
+
+/// So many arcs in a hundred of those that fit one order, each as long as its ends are apart in it: all
+/// paths between two vertices take the same, so that every pair of inputs has a common difference.
+fn apart(
+    seed: u64,
+    percent: usize,
+    inputs: usize,
+    outputs: usize,
+    vertices: usize,
+) -> (Board, Vec<i32>) {
+    let (board, mut table) = sized(inputs, outputs, vertices);
     let order: Vec<usize> = (0..inputs).chain((inputs..vertices).rev()).collect();
-    let mut random = Random(2_239); // the worst of 8,000 that were tried
+    let mut random = Random(seed);
     for (place, &u) in order.iter().enumerate() {
         for (beyond, &v) in order.iter().enumerate().skip(place + 1) {
-            if v >= inputs && random.below(100) < 60 {
+            if v >= inputs && random.below(100) < percent {
                 table[vertices * u + v] = (beyond - place) as i32;
             }
         }

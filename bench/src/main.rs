@@ -60,6 +60,8 @@ fn lent(name: &str) -> Result<Lent, String> {
         arrival: vec![0; board.vertices],
         required: vec![0; board.vertices],
         margin: vec![0; board.vertices],
+        vertex: 0,
+        saving: 0,
         table,
         file,
         library: BUILT_IN.to_vec(),
@@ -95,9 +97,14 @@ fn times() -> Result<(), String> {
     Ok(())
 }
 
-/// Reading is measured on the fullest files, the other calls on the other boards.
+/// Reading is measured on the fullest files and the finder where a number is free, the other calls on
+/// the other boards.
 fn is_measured(board: &str, call: &str) -> bool {
-    [boards::FULLEST, boards::CELLS].contains(&board) == (call == "read")
+    match board {
+        boards::FULLEST | boards::CELLS => call == "read",
+        boards::SPARE | boards::EVEN => call == "find_star",
+        _ => !["read", "find_star"].contains(&call),
+    }
 }
 
 /// Both sides answer the same and leave the same in the table and in the lists of answers.
@@ -107,7 +114,10 @@ fn same(first: &Lent, ours: Side, rust: Side) -> Result<(), String> {
     if answer != expected {
         return Err(format!("ours answers {answer}, Rust {expected}"));
     }
-    let left = |lent: Lent| (lent.table, lent.matrix, lent.arrival, lent.required, lent.margin);
+    let left = |lent: Lent| {
+        let found = (lent.vertex, lent.saving);
+        (lent.table, lent.matrix, lent.arrival, lent.required, lent.margin, found)
+    };
     if left(one) != left(other) {
         return Err("the two leave different cells".into());
     }

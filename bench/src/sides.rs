@@ -2,6 +2,7 @@
 //! counted: `ours_*` are the proved ones, `rust_*` the second implementation's.
 
 use second::board::Sizes;
+use second::find_star::find_star;
 use second::margins::{self, Answers};
 use second::{delays, file, run, steps};
 
@@ -36,6 +37,17 @@ extern "C" {
         required_length: u64,
         margin: *mut i64,
         margin_length: u64,
+    ) -> u64;
+    fn meter_find_star(
+        inputs: u64,
+        outputs: u64,
+        vertices: u64,
+        table: *const i32,
+        table_length: u64,
+        scratch: *const i64,
+        scratch_length: u64,
+        vertex: *mut u64,
+        saving: *mut u64,
     ) -> u64;
     fn meter_prune(
         inputs: u64,
@@ -79,16 +91,19 @@ pub struct Lent {
     pub arrival: Vec<i64>,
     pub required: Vec<i64>,
     pub margin: Vec<i64>,
+    pub vertex: u64,
+    pub saving: u64,
     pub file: Vec<u8>,
     pub library: Vec<i32>,
 }
 
 pub type Side = extern "C" fn(&mut Lent) -> u64;
 
-pub const CALLS: [(&str, Side, Side); 5] = [
+pub const CALLS: [(&str, Side, Side); 6] = [
     ("matrix", ours_matrix, rust_matrix),
     ("margins", ours_margins, rust_margins),
     ("prune", ours_prune, rust_prune),
+    ("find_star", ours_find_star, rust_find_star),
     ("run", ours_run, rust_run),
     ("read", ours_read, rust_read),
 ];
@@ -161,6 +176,26 @@ pub extern "C" fn ours_prune(lent: &mut Lent) -> u64 {
 
 #[no_mangle]
 #[inline(never)]
+pub extern "C" fn ours_find_star(lent: &mut Lent) -> u64 {
+    let Sizes { inputs, outputs, vertices } = lent.sizes;
+    // as above, and the last two are to a number each
+    unsafe {
+        meter_find_star(
+            inputs,
+            outputs,
+            vertices,
+            lent.table.as_ptr(),
+            lent.table.len() as u64,
+            lent.scratch.as_ptr(),
+            lent.scratch.len() as u64,
+            &mut lent.vertex,
+            &mut lent.saving,
+        )
+    }
+}
+
+#[no_mangle]
+#[inline(never)]
 pub extern "C" fn ours_run(lent: &mut Lent) -> u64 {
     let Sizes { inputs, outputs, vertices } = lent.sizes;
     // as above
@@ -222,6 +257,16 @@ pub extern "C" fn rust_margins(lent: &mut Lent) -> u64 {
 #[inline(never)]
 pub extern "C" fn rust_prune(lent: &mut Lent) -> u64 {
     number(steps::prune(lent.sizes, &mut lent.table, lent.scratch.len()))
+}
+
+#[no_mangle]
+#[inline(never)]
+pub extern "C" fn rust_find_star(lent: &mut Lent) -> u64 {
+    number(find_star(lent.sizes, &lent.table, lent.scratch.len()).map(|found| {
+        if let Some(found) = found {
+            (lent.vertex, lent.saving) = (found.vertex, found.saving);
+        }
+    }))
 }
 
 #[no_mangle]

@@ -5,6 +5,7 @@ pub mod Bounded
 pub mod Update
 pub mod Sums
 pub mod Lists
+pub mod Those
 pub mod Filling
 pub mod Storing
 pub mod Signed

@@ -2,7 +2,7 @@
 use mathlib.Core.Path.{◌≡◌, refl, sym, ap, ap₂, ◌∙◌}
 use mathlib.Core.Logic.{◌≢◌}
 use Prim.Native.Nat.{ℕ, zero, suc, ◌+◌, ◌*◌, ◌≤◌, ◌<◌}
-use native.Mathlib.Nat.{not-suc-le-zero, mul-suc}
+use native.Mathlib.Nat.{not-suc-le-zero, mul-suc, mul-zero, mul-add}
 use native.Mathlib.Decide.{ℕ_discrete}
 use native.Mathlib.Numerals.{add-one}
 use native.Mathlib.Omega.{arith}
@@ -43,6 +43,11 @@ pub sum-most : (n k : ℕ) (f : ℕ → ℕ) → ((i : ℕ) → f i ≤ k) → s
 unfolding sum
 sum-most zero k f h = omega arith
 sum-most (suc n) k f h = let e : k * suc n ≡ k * n + k = mul-suc k n in omega (arith, e, sum-most n k f h, h n)
+
+pub sum_scaled : (n k : ℕ) (f : ℕ → ℕ) → sum n (λ i. k * f i) ≡ k * sum n f
+unfolding sum
+sum_scaled zero k f = sym (mul-zero k)
+sum_scaled (suc n) k f = ap (λ (s : ℕ). s + k * f n) (sum_scaled n k f) ∙ sym (mul-add k (sum n f) (f n))
 
 pub sum_bound : (n : ℕ) (f : ℕ → ℕ) → ((i : ℕ) → f i ≤ 1) → sum n f ≤ n
 sum_bound n f h = omega (arith, sum-most n 1 f h)
@@ -92,6 +97,10 @@ update_le f g k i h = go (ℕ_discrete i k)
 pub sum_but_one : (n : ℕ) (f g : ℕ → ℕ) (k : ℕ) (c d : ℕ) → k < n → ((i : ℕ) → i < n → i ≢ k → f i ≤ g i) → f k + c ≤ g k + d → sum n f + c ≤ sum n g + d
 sum_but_one n f g k c d l h s =
     omega (arith, sum_pick n f k l, sum_pick n g k l, sum_le n (update f k zero) (update g k zero) (λ i j. update_le f g k i (h i j)))
+
+pub sum_same_but_one : (n : ℕ) (f g : ℕ → ℕ) (k : ℕ) (c d : ℕ) → k < n → ((i : ℕ) → i < n → i ≢ k → f i ≡ g i) → f k + c ≡ g k + d → sum n f + c ≡ sum n g + d
+sum_same_but_one n f g k c d l h s =
+    omega (arith, sum_but_one n f g k c d l (λ i j q. omega (arith, h i j q)) (omega (arith, s)), sum_but_one n g f k d c l (λ i j q. omega (arith, h i j q)) (omega (arith, s)))
 
 pub sum_but_two : (n : ℕ) (f g : ℕ → ℕ) (p k : ℕ) (c d : ℕ) → p < n → k < n → p ≢ k
     → ((i : ℕ) → i < n → i ≢ p → i ≢ k → f i ≤ g i) → f p + f k + c ≤ g p + g k + d → sum n f + c ≤ sum n g + d

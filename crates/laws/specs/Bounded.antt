@@ -1,5 +1,5 @@
 -- Tests, searches and sums over the numbers below n, and over the members of a list.
-use Rattle.std.specs.Prelude.{Bool, true, false, cond, ◌&&◌, ◌||◌, List, [], ◌∷◌, ℕ, zero, suc, ◌+◌, eqb, ltb}
+use Rattle.std.specs.Prelude.{Bool, true, false, cond, ◌&&◌, ◌||◌, List, [], ◌∷◌, ◌++◌, ℕ, zero, suc, ◌+◌, eqb, ltb}
 
 -- f holds at every number below n
 unfoldable pub every : ℕ → (ℕ → Bool) → Bool
@@ -20,6 +20,11 @@ first (suc n) f = let k = first n f in cond (ltb k n) k (cond (f n) n (suc n))
 unfoldable pub sum : ℕ → (ℕ → ℕ) → ℕ
 sum zero f = zero
 sum (suc n) f = sum n f + f n
+
+-- the numbers below n at which f holds, rising
+unfoldable pub those : ℕ → (ℕ → Bool) → List ℕ
+those zero f = []
+those (suc n) f = let xs = those n f in cond (f n) (xs ++ (n ∷ [])) xs
 
 -- x is in the list
 unfoldable pub member : ℕ → List ℕ → Bool

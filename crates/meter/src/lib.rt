@@ -5,13 +5,15 @@ ghost use Rattle.std.specs.Prelude.{◌≡◌, length};
 ghost use Rattle.timing.specs.Refusal.{verdict};
 ghost use Rattle.timing.specs.Queries.{matrix_call};
 ghost use Rattle.reduction.specs.Steps.{prune, step_call};
+ghost use Rattle.reduction.specs.FindStar.{find_star_call};
 ghost use Rattle.reduction.specs.Run.{run_call};
 ghost use Rattle.format.specs.Reading.{read_call, table_read};
 ghost use Rattle.paths.specs.Queries.{ScratchAfter};
 ghost use Rattle.paths.specs.Margins.{lists, margins};
-ghost use Rattle.meter.specs.Answers.{Measures, Tells, number_of, read_number};
+ghost use Rattle.meter.specs.Answers.{Measures, Tells, number_of, read_number, star_left};
 
 use files::read;
+use finder::calls;
 use paths::{margins, queries};
 use timing::{Refusal, numbers};
 
@@ -58,6 +60,28 @@ pub extern "C" fn meter_margins(
     number(margins::margins(
         inputs, outputs, vertices, table, scratch, given, due, arrival, required, margin,
     ))
+}
+
+// The vertex found and its saving are left, where there is one.
+#[unsafe(no_mangle)]
+pub extern "C" fn meter_find_star(
+    inputs: usize,
+    outputs: usize,
+    vertices: usize,
+    table: &[i32],
+    scratch: &[i64],
+    vertex: &mut usize,
+    saving: &mut usize,
+) -> usize
+    ensures value { result ≡ number_of (find_star_call inputs outputs vertices (length scratch.now) table.now) }
+    ensures left { (vertex.new, saving.new) ≡ star_left (find_star_call inputs outputs vertices (length scratch.now) table.now) (vertex.old, saving.old) }
+{
+    let answer = calls::find_star(inputs, outputs, vertices, table, scratch);
+    if let Ok(Some(found)) = answer {
+        *vertex = found.vertex;
+        *saving = found.saving;
+    }
+    number(answer)
 }
 
 #[unsafe(no_mangle)]

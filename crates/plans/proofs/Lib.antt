@@ -14,3 +14,4 @@ pub mod Undriven
 pub mod SoleDrivers
 pub mod ShareConditions
 pub mod Vectors
+pub mod FreshNumber

@@ -1,6 +1,7 @@
 -- Document 01's conditions and new tables, at a board's table.
 use Rattle.timing.specs.declared.Refusal.{Refusal}
-use Rattle.std.specs.Prelude.{Err, Ok, Result, Bool, not, ◌&&◌, ◌||◌, List, ℕ, ◌+◌, T, eqb, ℤ, length}
+use Rattle.std.specs.Option.{MatchOption}
+use Rattle.std.specs.Prelude.{◌≡◌, Err, Ok, Option, Result, Bool, not, ◌&&◌, ◌||◌, List, ℕ, ◌+◌, ◌≤◌, ◌<◌, T, eqb, ℤ, length}
 use Rattle.laws.specs.Bounded.{every}
 use Rattle.laws.specs.Lists.{tabulate}
 use Rattle.graph.specs.Delay.{◌⊕◌}
@@ -10,7 +11,7 @@ use Rattle.timing.specs.Limits.{delay_limit, fits}
 use Rattle.timing.specs.Refusal.{Verdict, number, refused, accepted, ◌then◌, Answers}
 use Rattle.timing.specs.Table.{with_graph}
 use Rattle.timing.specs.Delays.{matrix, column, arrival_in}
-use Rattle.reduction.specs.Outcome.{is_input, is_output, is_inner, unused}
+use Rattle.reduction.specs.Outcome.{is_input, is_output, is_inner, unused, fresh_number}
 use Rattle.reduction.specs.Common.{common_difference}
 use Rattle.reduction.specs.Shrink.{shrink_verdict}
 use Rattle.reduction.specs.ShareInputs.{share_inputs_verdict}
@@ -36,6 +37,14 @@ relays b t k = eqb (fan_in b.vertices (graph_in b t) k) 1 || eqb (fan_out b.vert
 -- k is an inner vertex that no arc touches
 abbrev pub is_free : Board → List ℤ → ℕ → Bool
 is_free b t k = is_inner b.inputs b.outputs b.vertices k && unused b.vertices (graph_in b t) k
+
+-- the smallest of these; N where there is none
+abbrev pub fresh_on : Board → List ℤ → ℕ
+fresh_on b t = fresh_number b.inputs b.outputs b.vertices (graph_in b t)
+
+-- it, where there is one
+abbrev pub Free : Board → List ℤ → Option ℕ → Type 0
+Free b t free = MatchOption free (b.vertices ≤ fresh_on b t) (λ k. (k ≡ fresh_on b t) × (k < b.vertices))
 
 -- different inputs, and different outputs
 abbrev pub two_inputs : Board → ℕ → ℕ → Bool

@@ -3,7 +3,7 @@ ghost use Rattle.std.specs.Prelude.{◌≡◌, ℕ, ◌<◌, ◌≤◌, pos, len
 ghost use Rattle.timing.specs.Limits.{max_vertices};
 ghost use Rattle.reduction.specs.Outcome.{is_output, is_inner};
 ghost use Rattle.paths.specs.Tables.{of_table};
-ghost use Rattle.plans.specs.OnBoards.{is_free};
+ghost use Rattle.plans.specs.OnBoards.{is_free, Free};
 
 use paths::{Board, Table};
 
@@ -33,6 +33,19 @@ pub fn is_free(table: &Table, k: usize) -> bool
     ensures { result ≡ of_table is_free table.now k }
 {
     is_inner(table.board, k) && table.fan_out(k) == 0 && table.none_into(k)
+}
+
+// The smallest inner number not in use.
+pub fn fresh_number(table: &Table) -> Option<usize>
+    ensures { of_table Free table.now result }
+{
+    let board = table.board;
+    for k in board.inputs + board.outputs..board.vertices {
+        if is_free(table, k) {
+            return Some(k);
+        }
+    }
+    None
 }
 
 // A row's cells in an array.

@@ -1,3 +1,4 @@
+pub mod Gathered
 pub mod Gathering
 pub mod Front
 pub mod Spreading

@@ -1,14 +1,14 @@
 // The rows of a table as sets of vertices, and whether a path leads from one vertex to another.
 #![tactic(auto)]
 
-ghost use Rattle.std.specs.Prelude.{◌≡◌, ◌&&◌, ℕ, ◌<◌, ◌≤◌, T, ltb, length};
+ghost use Rattle.std.specs.Prelude.{◌≡◌, false, ◌&&◌, ℕ, ◌<◌, ◌≤◌, T, ltb, length};
 ghost use Rattle.graph.specs.Delay.{present};
-ghost use Rattle.graph.specs.Graph.{Graph, longest};
+ghost use Rattle.graph.specs.Graph.{Graph, longest, reversed};
 ghost use Rattle.timing.specs.Limits.{max_vertices};
 ghost use Rattle.paths.specs.Cells.{cell_at};
 ghost use Rattle.paths.specs.Tables.{timing_graph};
-ghost use Rattle.sets.specs.Sets.{holds};
-ghost use Rattle.reach.specs.RowSets.{Targets, RowSets, Rowed, OneSource};
+ghost use Rattle.sets.specs.Sets.{holds, set_at};
+ghost use Rattle.reach.specs.RowSets.{Targets, RowSets, Rowed, OneSource, Added};
 ghost use Rattle.reach.specs.Spread.{barred, Spread};
 
 use paths::{Board, Table, cells};
@@ -43,6 +43,37 @@ pub fn row_sets(table: &Table, sets: &mut [Set])
 {
     for u in 0..table.board.vertices {
         sets[u] = targets(table, u);
+    }
+}
+
+// The targets of a row, which is u's, and u among the sources of each.
+fn add_row(row: &[i32], u: usize, sources: &mut [Set]) -> Set
+    requires few { length row.now ≤ max_vertices }
+    requires u_bound { u < max_vertices }
+    requires room { length row.now ≤ length sources.old }
+    ensures targets { (v : ℕ) → holds result v ≡ (ltb v (length row.now) && present (cell_at row.now v)) }
+    ensures added { Added u row.now (length row.now) sources.old sources.new }
+{
+    let mut set = Set::empty();
+    for (v, cell) in row.iter().enumerate() {
+        if cells::is_arc(*cell) {
+            set = set.plus(v);
+            sources[v] = sources[v].plus(u);
+        }
+    }
+    set
+}
+
+// The targets of every vertex, and its sources, where there were none.
+pub fn arc_sets(table: &Table, targets: &mut [Set], sources: &mut [Set])
+    requires targets_room { table.now.board.vertices ≤ length targets.old }
+    requires sources_room { table.now.board.vertices ≤ length sources.old }
+    requires none { (v u : ℕ) → holds (set_at sources.old v) u ≡ false }
+    ensures targets { RowSets table.now.board.vertices (timing_graph table.now) targets.new }
+    ensures sources { RowSets table.now.board.vertices (reversed (timing_graph table.now)) sources.new }
+{
+    for u in 0..table.board.vertices {
+        targets[u] = add_row(table.row(u), u, sources);
     }
 }
 

@@ -1,4 +1,5 @@
--- Lean tables in a run: prune leaves one and is refused on one; shrink and merge back keep one. So prune need not be tried again before a share is accepted.
+-- Lean tables in a run: prune leaves one and is refused on one; shrink, merge back and star keep one. So prune need not be tried again before a share is accepted.
+use Rattle.std.specs.Prelude.{Option, None, Some}
 use mathlib.Core.Path.{◌≡◌, refl, sym, ap, ◌∙◌, subst}
 use mathlib.Core.Bool.{Bool, true, false}
 use mathlib.Core.List.{List, [], ◌∷◌, map}
@@ -17,29 +18,32 @@ use Rattle.timing.proofs.Checks.{Passed, checked-passed}
 use Rattle.reduction.specs.Outcome.{Reduced, one_step}
 use Rattle.reduction.specs.Shrink.{shrink_verdict}
 use Rattle.reduction.specs.MergeBack.{merge_back_verdict}
+use Rattle.reduction.specs.Star.{star_verdict}
 use Rattle.reduction.specs.Prune.{pruned, prune_verdict}
 use Rattle.reduction.specs.Steps.{Step, shrink, share_inputs, share_outputs, prune, merge_back, star, plan, step_on, step_call}
-use Rattle.reduction.specs.Run.{Progress, Attempt, skipped, tried, Try, attempt, round, try_step}
+use Rattle.reduction.specs.FindStar.{Found, find_star, star_of}
+use Rattle.reduction.specs.Run.{Progress, Attempt, skipped, tried, Try, attempt, round, try_step, try_found, try_star}
 use Rattle.reduction.specs.Lean.{Lean, LeanTable}
 use Rattle.reduction.proofs.Steps.{plan_better}
 use Rattle.reduction.proofs.Kept.{put_back, step_parts, step_accepted}
 use Rattle.reduction.proofs.Rounds.{All}
-use Rattle.reduction.proofs.Run.{all_map}
+use Rattle.reduction.proofs.Run.{all_map, untried}
 use Rattle.reduction.proofs.Lean.{lean_refused, refused_lean, pruned_lean}
 use Rattle.reduction.proofs.LeanSteps.{shrunk_lean, merged_lean}
+use Rattle.reduction.proofs.StarArcs.{starred_lean}
 
--- the steps that take a vertex away
-abbrev pub takes_vertex : Step → Bool
-takes_vertex (shrink k) = true
-takes_vertex (share_inputs a b k) = false
-takes_vertex (share_outputs a b) = false
-takes_vertex prune = false
-takes_vertex (merge_back o) = true
-takes_vertex (star S Ts k) = false
+-- the steps that keep a lean table lean
+abbrev pub keeps_lean : Step → Bool
+keeps_lean (shrink k) = true
+keeps_lean (share_inputs a b k) = false
+keeps_lean (share_outputs a b) = false
+keeps_lean prune = false
+keeps_lean (merge_back o) = true
+keeps_lean (star S Ts k) = true
 
-abbrev pub AllTake : List Step → Type 0
-AllTake [] = Unit {0}
-AllTake (q ∷ qs) = T (takes_vertex q) × AllTake qs
+abbrev pub AllKeep : List Step → Type 0
+AllKeep [] = Unit {0}
+AllKeep (q ∷ qs) = T (keeps_lean q) × AllKeep qs
 
 module _ (m n N : ℕ) where
   -- ---- prune on a lean table
@@ -95,19 +99,19 @@ module _ (m n N : ℕ) where
 
   -- ---- what is accepted on a lean table leaves one
 
-  plan_lean : (q : Step) → T (takes_vertex q) → (g g' : Graph) → Sound m n N g → plan m n N q g ≡ accepted g' → Lean m n N g → Lean m n N g'
+  plan_lean : (q : Step) → T (keeps_lean q) → (g g' : Graph) → Sound m n N g → plan m n N q g ≡ accepted g' → Lean m n N g → Lean m n N g'
   unfolding plan
   plan_lean (shrink k) _ g g' s e h = let p = then_accepted (shrink_verdict m n N k g) _ g' e in subst (Lean m n N) (same_accepted p.2) (shrunk_lean k p.0 s p.1 h)
   plan_lean (share_inputs a b k) f g g' s e h = absurd f
   plan_lean (share_outputs a b) f g g' s e h = absurd f
   plan_lean prune f g g' s e h = absurd f
   plan_lean (merge_back o) _ g g' s e h = let p = then_accepted (merge_back_verdict m n N o g) _ g' e in subst (Lean m n N) (same_accepted p.2) (merged_lean o p.0 s p.1 h)
-  plan_lean (star S Ts k) f g g' s e h = absurd f
+  plan_lean (star S Ts k) _ g g' s e h = let p = then_accepted (star_verdict m n N S Ts k g) _ g' e in subst (Lean m n N) (same_accepted p.2) (starred_lean S Ts k p.0 s p.1 h)
 
   abbrev pub StaysLean : Try → Type 0
   StaysLean q = (t : List ℤ) (r : Reduced) → q t ≡ tried (accepted r) → LeanTable m n N t → LeanTable m n N r.table
 
-  pub step-stays_lean : (s : ℕ) (q : Step) → T (takes_vertex q) → StaysLean (try_step m n N s q)
+  pub step-stays_lean : (s : ℕ) (q : Step) → T (keeps_lean q) → StaysLean (try_step m n N s q)
   step-stays_lean s q f t r e h = lean_step s q t r (inside (step_call m n N s q t) e) (λ g' sound b. plan_lean q f (graph_of N t) g' sound b h)
     where
       inside : (x : Verdict Reduced) → tried x ≡ tried (accepted r) → x ≡ accepted r
@@ -126,10 +130,10 @@ module _ (m n N : ℕ) where
       go (tried (accepted r)) e = a.0 p.table r e h
 
   module _ (s : ℕ) where
-    pub steps_lean : (qs : List Step) (p : Progress) → AllTake qs → LeanTable m n N p.table → LeanTable m n N (round (map (try_step m n N s) qs) p).table
+    pub steps_lean : (qs : List Step) (p : Progress) → AllKeep qs → LeanTable m n N p.table → LeanTable m n N (round (map (try_step m n N s) qs) p).table
     steps_lean qs p a h = round_lean (map (try_step m n N s) qs) p (each qs a) h
       where
-        each : (qs : List Step) → AllTake qs → All StaysLean (map (try_step m n N s) qs)
+        each : (qs : List Step) → AllKeep qs → All StaysLean (map (try_step m n N s) qs)
         each [] _ = tt
         each (q ∷ qs) b = (step-stays_lean s q b.0, each qs b.1)
 
@@ -139,3 +143,12 @@ module _ (m n N : ℕ) where
 
     pub merges_lean : (xs : List ℕ) (p : Progress) → LeanTable m n N p.table → LeanTable m n N (round (map (λ o. try_step m n N s (merge_back o)) xs) p).table
     merges_lean xs p h = round_lean (map (λ o. try_step m n N s (merge_back o)) xs) p (all_map StaysLean (λ o. try_step m n N s (merge_back o)) xs (λ o. step-stays_lean s (merge_back o) tt)) h
+
+    -- and the star that is found
+    pub found_lean : (p : Progress) → LeanTable m n N p.table → LeanTable m n N (round (try_star m n N s ∷ []) p).table
+    unfolding try_star
+    found_lean p h = round_lean (try_star m n N s ∷ []) p (λ t r. go t r (find_star m n N (graph_of N t)), tt) h
+      where
+        go : (t : List ℤ) (r : Reduced) (x : Option Found) → try_found m n N s t x ≡ tried (accepted r) → LeanTable m n N t → LeanTable m n N r.table
+        go t r None e = λ _. absurd (untried m n N r e)
+        go t r (Some x) e = step-stays_lean s (star_of m n N (graph_of N t) x.vertex) tt t r e

@@ -38,7 +38,7 @@ taken_off y d = sym (ap (λ (z : Delay). z ⊕ (y ⊕ at (neg_ℤ d))) (sym (imm
 
 -- ---- greatest walks
 
-walk_kept : (L L' : Graph) (u v : ℕ) → (v ≢ u → L' u v ≡ L u v) → walk L u v ⊑ walk L' u v
+pub walk_kept : (L L' : Graph) (u v : ℕ) → (v ≢ u → L' u v ≡ L u v) → walk L u v ⊑ walk L' u v
 walk_kept L L' u v h = ⊑-eq (go (ℕ_discrete u v))
   where
     go : Dec (u ≡ v) → walk L u v ≡ walk L' u v

@@ -1,6 +1,7 @@
 // The line about a call's answer.
 use crate::page::Page;
 use files::answer::Fault;
+use finder::best::Found;
 use paths::Board;
 use run::answer::Ran;
 use timing::{Refusal, numbers};
@@ -25,6 +26,16 @@ pub fn counted(page: &mut Page, word: &str, answer: Result<usize, Refusal>) {
 pub fn ran(page: &mut Page, answer: Result<Ran, Refusal>) {
     match answer {
         Ok(Ran { steps, arcs }) => page.print(format_args!("accepted {steps} arcs {arcs}\n")),
+        Err(r) => refused(page, r),
+    }
+}
+
+pub fn found(page: &mut Page, answer: Result<Option<Found>, Refusal>) {
+    match answer {
+        Ok(Some(Found { vertex, saving })) => {
+            page.print(format_args!("star {vertex} saving {saving}\n"));
+        }
+        Ok(None) => page.print("none\n"),
         Err(r) => refused(page, r),
     }
 }

@@ -44,6 +44,7 @@ pub enum Kind {
     Margins,
     ReadLibrary,
     PutLibrary,
+    FindStar,
 }
 
 impl TryFrom<u8> for Kind {
@@ -65,6 +66,7 @@ impl TryFrom<u8> for Kind {
             12 => Ok(Kind::Margins),
             13 => Ok(Kind::ReadLibrary),
             14 => Ok(Kind::PutLibrary),
+            15 => Ok(Kind::FindStar),
             _ => Err(()),
         }
     }

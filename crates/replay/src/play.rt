@@ -26,6 +26,7 @@ fn call(lent: &mut Lent, library: &mut Library, page: &mut Page) -> Option<()> {
         Kind::Margins => query_calls::margins(lent, page)?,
         Kind::ReadLibrary => file_calls::read_library(lent, library, page)?,
         Kind::PutLibrary => file_calls::put_library(library)?,
+        Kind::FindStar => query_calls::find_star(lent, page),
     }
     Some(())
 }

@@ -1,7 +1,8 @@
-// The three calls that answer path delays: the matrix, the output arrivals and the margins.
+// The calls that leave the table: the matrix, the output arrivals, the margins and the finder.
 use crate::calls::Lent;
 use crate::page::Page;
 use crate::{answers, input, lines, memory};
+use finder::calls;
 use paths::{margins, queries};
 use timing::Refusal;
 
@@ -64,4 +65,16 @@ pub fn margins(lent: &Lent, page: &mut Page) -> Option<()> {
     lines::destination(page, margin);
     lines::scratch(page, lent.scratch);
     Some(())
+}
+
+pub fn find_star(lent: &Lent, page: &mut Page) {
+    let answer = calls::find_star(
+        lent.inputs,
+        lent.outputs,
+        lent.vertices,
+        lent.table,
+        lent.scratch,
+    );
+    answers::found(page, answer);
+    lines::left(page, lent);
 }

@@ -1,11 +1,10 @@
 -- A step's answer as what its try does.
 use Rattle.std.specs.Prelude.{Err, Ok, Result}
+use Rattle.laws.proofs.Booleans.{true_is}
 use Rattle.timing.specs.declared.Refusal.{Refusal}
 use mathlib.Core.Path.{◌≡◌, sym, subst}
-use mathlib.Core.Bool.{Bool, true, false, not}
+use mathlib.Core.Bool.{Bool, not}
 use mathlib.Core.List.{List}
-use Prim.Native.Nat.{ℕ}
-use native.Mathlib.Omega.{arith}
 use lib.Dec.{T}
 use lib.IntN.{ℤ}
 use Rattle.timing.specs.Refusal.{Verdict, is_accepted, left_by}
@@ -15,13 +14,10 @@ use Rattle.plans.specs.OnBoards.{Applies}
 use Rattle.std.specs.Prelude.{is_ok}
 use Rattle.run.specs.Running.{TriesStep}
 
-never : true ≡ false → ⊥
-never e = let z : ◌≡◌ {A = ℕ} 0 1 = cc in omega arith
-
 applies_tries : (b : Board) (q : Step) (before after : List ℤ) (fit : Result (Unit {0}) Refusal) → Applies b q before after fit → TriesStep b q before after (is_ok fit)
-applies_tries b q before after (Ok tt) h = record { taken = λ _. sym h.answer; refused = λ e. absurd (never e) }
+applies_tries b q before after (Ok tt) h = record { taken = λ _. sym h.answer; refused = λ e. absurd (true_is (sym e)) }
 applies_tries b q before after (Err x) h = record {
-  taken = λ e. absurd (never (sym e));
+  taken = λ e. absurd (true_is e);
   refused = λ _. (subst (λ (y : Verdict (List ℤ)). T (not (is_accepted y))) h.answer tt, subst (λ (y : Verdict (List ℤ)). after ≡ left_by (λ x. x) y before) (sym h.answer) h.left);
 }
 

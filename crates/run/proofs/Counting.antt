@@ -15,18 +15,18 @@ use Rattle.laws.proofs.Sums.{sum_eq}
 use Rattle.graph.specs.Graph.{Graph}
 use Rattle.graph.specs.Count.{bit, fan_in, fan_out}
 use Rattle.timing.specs.Table.{graph_of}
-use Rattle.reduction.specs.Outcome.{is_inner}
+use Rattle.reduction.specs.Outcome.{is_inner, fresh_number}
 use Rattle.reduction.specs.ShareInputs.{inputs_shared, inputs_reduced}
 use Rattle.reduction.proofs.Better.{inner_of}
 use Rattle.reduction.proofs.ShareInputs.{reduced_outside}
 use Rattle.reduction.specs.ShareOutputs.{outputs_shared}
-use Rattle.reduction.specs.Run.{fresh_number}
 use Rattle.paths.specs.declared.board.Board.{Board}
 use Rattle.paths.specs.Checked.{Checked}
 use Rattle.run.specs.Sides.{Side, Inputs, Outputs}
 use Rattle.run.specs.Sides.{OnSide, is_rich}
 use Rattle.run.specs.Pairs.{Pair}
-use Rattle.run.specs.Running.{Counted, TriesShare, fresh_on}
+use Rattle.plans.specs.OnBoards.{fresh_on}
+use Rattle.run.specs.Running.{Counted, TriesShare}
 use Rattle.run.proofs.Lines.{side_fits}
 use Rattle.run.proofs.TriedShares.{shared, share_graph}
 

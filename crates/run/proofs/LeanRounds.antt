@@ -1,11 +1,12 @@
 -- What a round keeps of a lean table.
 use mathlib.Core.Path.{◌≡◌, refl, sym, subst}
-use mathlib.Core.Bool.{true, false, not}
+use mathlib.Core.Bool.{false, not}
 use mathlib.Core.List.{List, [], ◌∷◌}
 use Prim.Native.Nat.{ℕ}
 use native.Mathlib.Omega.{arith}
 use lib.Dec.{T, le→leb}
 use lib.IntN.{ℤ}
+use Rattle.laws.proofs.Booleans.{true_is}
 use Rattle.graph.specs.Count.{fan_out}
 use Rattle.timing.specs.Limits.{scratch_cells}
 use Rattle.timing.specs.Refusal.{Verdict, refused, accepted, is_accepted, ◌then◌}
@@ -58,9 +59,6 @@ module _ (b : Board) where
       put : Verdict (Unit {0}) → Verdict (List ℤ)
       put v = v then (λ _. accepted (shrunk k (graph_of b.vertices t))) then λ g'. accepted (with_graph b.vertices g' t)
 
-      apart : false ≡ true → ⊥
-      apart z = let y : ◌≡◌ {A = ℕ} 0 1 = cc in omega arith
-
       go : (x : Verdict (Unit {0})) → shrink_verdict b.inputs b.outputs b.vertices k (graph_of b.vertices t) ≡ x → TriesStep b (shrink k) t t false
-      go (refused r) e = record { taken = λ z. absurd (apart z); refused = λ _. (subst (λ (x : Verdict (Unit {0})). T (not (is_accepted (put x)))) (sym e) tt, refl) }
+      go (refused r) e = record { taken = λ z. absurd (true_is z); refused = λ _. (subst (λ (x : Verdict (Unit {0})). T (not (is_accepted (put x)))) (sym e) tt, refl) }
       go (accepted x) e = absurd (sink_refused k ok.sound lean none x e)

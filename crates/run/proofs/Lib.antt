@@ -1,5 +1,4 @@
 pub mod Moving
-pub mod FreshNumber
 pub mod Lines
 pub mod PairTries
 pub mod Sharing
@@ -10,6 +9,7 @@ pub mod ShareVerdicts
 pub mod TriedShares
 pub mod Counting
 pub mod Rounding
+pub mod StarTry
 pub mod LeanRounds
 pub mod Ending
 pub mod HeldMatrix

@@ -15,10 +15,10 @@ use Rattle.timing.specs.Refusal.{Verdict, refused, accepted, ◌then◌}
 use Rattle.timing.specs.Table.{graph_of, with_graph}
 use Rattle.timing.proofs.Verdict.{then_accepted, same_accepted}
 use Rattle.timing.proofs.Checks.{Passed, checked-passed}
-use Rattle.reduction.specs.Outcome.{Reduced, one_step}
+use Rattle.reduction.specs.Outcome.{Reduced, one_step, fresh_number}
 use Rattle.reduction.specs.Steps.{Step, share_inputs, plan, step_call}
 use Rattle.reduction.specs.ShareInputs.{share_inputs_verdict}
-use Rattle.reduction.specs.Run.{Progress, Attempt, skipped, tried, Try, attempt, round, fresh_number, try_step, try_share_inputs}
+use Rattle.reduction.specs.Run.{Progress, Attempt, skipped, tried, Try, attempt, round, try_step, try_share_inputs}
 use Rattle.reduction.proofs.Accepted.{share_inputs_accepted}
 use Rattle.reduction.proofs.Kept.{Gain, step_parts}
 use Rattle.reduction.proofs.Rounds.{All, Gains}

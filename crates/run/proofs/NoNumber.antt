@@ -9,7 +9,8 @@ use Rattle.reduction.proofs.Run.{all_pairs}
 use Rattle.paths.specs.declared.board.Board.{Board}
 use Rattle.run.specs.Sides.{Side, Inputs, Outputs}
 use Rattle.run.specs.Sides.{first_of, count_of, try_share, pair_try, side_tries}
-use Rattle.run.specs.Running.{progress, Running, Full, Reaches, fresh_on}
+use Rattle.plans.specs.OnBoards.{fresh_on}
+use Rattle.run.specs.Running.{progress, Running, Full, Reaches}
 use Rattle.run.proofs.ShareVerdicts.{rows_full}
 use Rattle.run.proofs.TriedShares.{share_left, share_stays}
 

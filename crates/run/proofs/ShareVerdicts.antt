@@ -16,11 +16,10 @@ use Rattle.timing.specs.declared.Refusal.TheVariants.{PathBack, NothingSaved, De
 use Rattle.timing.specs.Refusal.{Verdict, refused, accepted, is_accepted, require, ◌then◌}
 use Rattle.timing.specs.Table.{graph_of}
 use Rattle.timing.proofs.Verdict.{is_accepted_lem}
-use Rattle.reduction.specs.Outcome.{unused}
+use Rattle.reduction.specs.Outcome.{unused, fresh_number}
 use Rattle.reduction.specs.ShareInputs.{enough_out, two_out, share_inputs_verdict}
 use Rattle.reduction.proofs.ShareDeletion.{inputs_asked_before}
 use Rattle.reduction.specs.ShareOutputs.{enough_in, outputs_saved, share_outputs_verdict}
-use Rattle.reduction.specs.Run.{fresh_number}
 use Rattle.reduction.proofs.Accepted.{share_inputs_accepted, share_outputs_accepted, outputs_asked}
 use Rattle.paths.specs.declared.board.Board.{Board}
 use Rattle.paths.specs.Checked.{Checked}

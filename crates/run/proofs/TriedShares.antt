@@ -6,6 +6,7 @@ use Prim.Native.Nat.{ℕ, ◌+◌}
 use native.Mathlib.Omega.{arith}
 use lib.Dec.{T}
 use lib.IntN.{ℤ}
+use Rattle.laws.proofs.Booleans.{true_is}
 use Rattle.graph.specs.Graph.{Graph}
 use Rattle.timing.specs.Refusal.{Verdict, refused, accepted, is_accepted, ◌then◌}
 use Rattle.timing.specs.Table.{graph_of, with_graph}
@@ -17,11 +18,11 @@ use Rattle.reduction.specs.Run.{round}
 use Rattle.reduction.proofs.Steps.{plan_better}
 use Rattle.reduction.proofs.Kept.{put_back}
 use Rattle.paths.specs.declared.board.Board.{Board}
-use Rattle.plans.specs.OnBoards.{table_by}
+use Rattle.plans.specs.OnBoards.{table_by, fresh_on}
 use Rattle.paths.specs.Checked.{Checked}
 use Rattle.run.specs.Sides.{Side, Inputs, Outputs}
 use Rattle.run.specs.Sides.{share_step, is_rich, pair_try}
-use Rattle.run.specs.Running.{progress, Running, Tries, TriesShare, Reaches, fresh_on}
+use Rattle.run.specs.Running.{progress, Running, Tries, TriesShare, Reaches}
 use Rattle.run.proofs.Moving.{gained, moves, try_share_lem}
 use Rattle.run.proofs.ShareVerdicts.{share_verdict, share_poor}
 
@@ -64,19 +65,13 @@ module _ (board : Board) (t : List ℤ) (side : Side) (a b k : ℕ) where
 
   -- the code hands the difference on as y
   pub share_taken : {e y : ℤ} → verdict ≡ accepted e → y ≡ e → (after : List ℤ) → after ≡ with_graph board.vertices (shared board.inputs board.outputs board.vertices side a b k (graph_of board.vertices t) y) t → Trying after true
-  share_taken {e} {y} q same after w = known (accepted y) (q ∙ ap accepted (sym same)) after true (record { taken = λ _. ap accepted (sym w); refused = λ z. absurd (apart z) })
-    where
-      apart : true ≡ false → ⊥
-      apart z = let y : ◌≡◌ {A = ℕ} 0 1 = cc in omega arith
+  share_taken {e} {y} q same after w = known (accepted y) (q ∙ ap accepted (sym same)) after true (record { taken = λ _. ap accepted (sym w); refused = λ z. absurd (true_is (sym z)) })
 
   pub share_left : T (not (is_accepted verdict)) → Trying t false
   share_left low = go verdict refl low
     where
-      apart : false ≡ true → ⊥
-      apart z = let y : ◌≡◌ {A = ℕ} 0 1 = cc in omega arith
-
       go : (v : Verdict ℤ) → verdict ≡ v → T (not (is_accepted v)) → Trying t false
-      go (refused x) e low = known (refused x) e t false (record { taken = λ z. absurd (apart z); refused = λ _. (tt, refl) })
+      go (refused x) e low = known (refused x) e t false (record { taken = λ z. absurd (true_is z); refused = λ _. (tt, refl) })
       go (accepted x) e low = absurd low
 
   -- the new table's graph

@@ -1,18 +1,16 @@
 -- A run under way.
-use Rattle.std.specs.Option.{MatchOption}
-use Rattle.std.specs.Prelude.{◌≡◌, Bool, Option, true, false, not, List, [], ◌∷◌, ℕ, ◌+◌, ◌*◌, ◌≤◌, ◌<◌, T, ℤ, length, get_or}
+use Rattle.std.specs.Prelude.{◌≡◌, Bool, true, false, not, List, [], ◌∷◌, ℕ, ◌+◌, ◌*◌, ◌≤◌, ◌<◌, T, ℤ, length, get_or}
 use Rattle.graph.specs.Count.{arcs}
 use Rattle.timing.specs.Limits.{max_vertices, arrival_limit, scratch_cells, fits}
 use Rattle.timing.specs.Refusal.{Verdict, accepted, is_accepted}
 use Rattle.timing.specs.Table.{graph_of}
 use Rattle.timing.specs.Delays.{matrix, arrival_in}
-use Rattle.reduction.specs.Run.{Progress, Try, round, fresh_number, tries, try_step}
+use Rattle.reduction.specs.Run.{Progress, Try, round, tries, try_step, try_star}
 use Rattle.reduction.specs.Steps.{Step, prune}
 use Rattle.reduction.specs.Lean.{LeanTable}
 use Rattle.paths.specs.declared.board.Board.{Board}
-use Rattle.paths.specs.Board.{graph_in}
 use Rattle.paths.specs.Checked.{Checked}
-use Rattle.plans.specs.OnBoards.{table_by}
+use Rattle.plans.specs.OnBoards.{fresh_on, table_by}
 use Rattle.run.specs.Sides.{Side, Inputs, OnSide, is_rich, share_step}
 
 abbrev pub progress : List ℤ → ℕ → Progress
@@ -43,14 +41,6 @@ pub record Tries (v : Verdict (List ℤ)) (before after : List ℤ) (r : Bool) :
 abbrev pub TriesStep : Board → Step → List ℤ → List ℤ → Bool → Type 0
 TriesStep b q before after r = Tries (table_by b q before) before after r
 
--- the smallest free number of a board's table
-abbrev pub fresh_on : Board → List ℤ → ℕ
-fresh_on b t = fresh_number b.inputs b.outputs b.vertices (graph_in b t)
-
--- the smallest free number, where there is one
-abbrev pub Free : Board → List ℤ → Option ℕ → Type 0
-Free b t free = MatchOption free (b.vertices ≤ fresh_on b t) (λ k. (k ≡ fresh_on b t) × (k < b.vertices))
-
 -- no share of the side can be accepted: inputs are shared, and no number is free
 abbrev pub Full : Side → Board → List ℤ → Type 0
 Full side b t = (side ≡ Inputs) × (b.vertices ≤ fresh_on b t)
@@ -67,7 +57,7 @@ Reaches N qs p q = (s : ℕ) → scratch_cells N ≤ s → round (qs s) p ≡ q
 abbrev pub Leads : Board → (ℕ → List Try) → List ℤ → ℕ → List ℤ → ℕ → Type 0
 Leads b qs t c t' c' = Reaches b.vertices qs (progress t c) (progress t' c')
 
--- the tries of a round, and prune's alone, on a board
+-- the tries of a round, prune's alone and the finder's alone, on a board
 abbrev pub tries_on : Board → ℕ → List Try
 tries_on b = tries b.inputs b.outputs b.vertices
 
@@ -77,3 +67,6 @@ LeanOn b t = LeanTable b.inputs b.outputs b.vertices t
 
 abbrev pub prune_try : Board → ℕ → List Try
 prune_try b s = try_step b.inputs b.outputs b.vertices s prune ∷ []
+
+abbrev pub star_try : Board → ℕ → List Try
+star_try b s = try_star b.inputs b.outputs b.vertices s ∷ []

@@ -32,8 +32,8 @@ fn rounds(board: Board, table: &mut [i32], order: &Order, scratch: &mut [i64]) -
     let mut steps = 0;
     let mut next = Some(Known::Sorted(*order));
     while let Some(known) = next {
-        let after = round::round(board, table, scratch, &matrix, known, steps);
-        next = (after != steps).then_some(Known::Lean);
+        let (after, left) = round::round(board, table, scratch, &matrix, known, steps);
+        next = (after != steps).then_some(left);
         steps = after;
     }
     let left = Table {
@@ -46,7 +46,7 @@ fn rounds(board: Board, table: &mut [i32], order: &Order, scratch: &mut [i64]) -
     }
 }
 
-// Reduces the table by rounds of share inputs, share outputs, prune, shrink and merge back.
+// Reduces the table by rounds of share inputs, share outputs, prune, shrink, merge back and the star that the finder finds.
 pub fn run(
     inputs: usize,
     outputs: usize,

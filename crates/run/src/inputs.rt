@@ -1,12 +1,11 @@
 // Share inputs, as a side of the delay matrix.
 ghost use Rattle.plans.specs.Sharing.{DriversOf};
 ghost use Rattle.run.specs.Sides;
-ghost use Rattle.run.specs.Running.{Free};
+ghost use Rattle.plans.specs.OnBoards.{Free};
 
-use crate::fresh;
 use crate::side::Side;
 use paths::{Board, Table, cells};
-use plans::share_inputs;
+use plans::{rows, share_inputs};
 use sets::Set;
 
 // The smallest free number, for a share's new vertex, and the vertices that alone drive some inner vertex with arcs out, once a try has asked for them.
@@ -24,7 +23,7 @@ impl Side for Inputs {
     ghost knows = { λ it board t. Free board t it.free × DriversOf board t it.drivers };
 
     fn begin(&mut self, table: &Table) {
-        let free = fresh::fresh_number(table);
+        let free = rows::fresh_number(table);
         self.free = free;
         self.drivers = None;
     }

@@ -4,7 +4,6 @@
 pub mod answer;
 pub mod calls;
 pub mod counts;
-pub mod fresh;
 pub mod inputs;
 pub mod outputs;
 pub mod round;

@@ -1,18 +1,19 @@
 // A round of the automatic run.
 // Board, table and order stay parameters, as `plans::rewrite` says, and so do the steps: a struct of the table and the steps was tried here, and of a table behind
 // its `&mut` the prover knows nothing once it has been lent for reading.
-ghost use Rattle.std.specs.Prelude.{◌≡◌, true, IfSome};
+ghost use Rattle.std.specs.Prelude.{◌≡◌, true, T, IfSome};
 ghost use Rattle.paths.specs.Board.{ScratchRoom, PastScratch};
 ghost use Rattle.paths.specs.Checked.{Checked, Passable};
 ghost use Rattle.paths.specs.Tables.{of_table};
-ghost use Rattle.run.specs.declared.round.Known.TheVariants.{Sorted, Lean};
-ghost use Rattle.run.specs.Known.{KnownOf};
-ghost use Rattle.run.specs.Running.{progress, Running, Held, Leads, LeanOn, tries_on, prune_try};
+ghost use Rattle.run.specs.declared.round.Known.TheVariants.{Sorted, Starless};
+ghost use Rattle.run.specs.Known.{says_lean, KnownOf};
+ghost use Rattle.run.specs.Running.{progress, Running, Held, Leads, tries_on, prune_try};
 
 use crate::inputs::Inputs;
 use crate::outputs::Outputs;
 use crate::vertex_tries::{MergeBack, Shrink};
 use crate::{shares, vertex_tries};
+use finder::best;
 use paths::order::Order;
 use paths::{Board, Table, order};
 use pruning::prune;
@@ -24,6 +25,8 @@ pub enum Known {
     Sorted(Order),
     // Prune would take no arc: the round before has left it so.
     Lean,
+    // Nor would the finder find a star.
+    Starless,
 }
 
 // The order that is known of the table, where no step has been accepted since.
@@ -74,13 +77,20 @@ fn order_of(table: &Table, known: Option<Order>) -> Order
 
 // Whether the table is as the round before left it, and so lean: no step has been accepted since.
 fn is_lean(known: Known, before: usize, after: usize) -> bool
-    ensures { result ≡ true → (known ≡ Lean) × (after ≡ before) }
+    ensures { result ≡ true → T (says_lean known) × (after ≡ before) }
 {
-    matches!(known, Known::Lean) && after == before
+    matches!(known, Known::Lean | Known::Starless) && after == before
 }
 
-// The tries of a round, each on the table as it then is. `matrix` is the table's delay matrix. Prune, shrink and merge back leave a lean table; on one prune
-// would be refused.
+// Whether it is as the finder saw it, which found no star.
+fn is_starless(known: Known, before: usize, after: usize) -> bool
+    ensures { result ≡ true → (known ≡ Starless) × (after ≡ before) }
+{
+    matches!(known, Known::Starless) && after == before
+}
+
+// The tries of a round, each on the table as it then is, and what is known of the table that they leave. `matrix` is the table's delay matrix. Prune, shrink, merge back
+// and star leave a lean table; on one prune would be refused.
 pub fn round(
     board: Board,
     table: &mut [i32],
@@ -88,13 +98,13 @@ pub fn round(
     matrix: &[i64],
     known: Known,
     steps: usize,
-) -> usize
+) -> (usize, Known)
     requires running { Running board (progress table.old steps) }
     requires held { Held board matrix.now table.old }
     requires known_of { KnownOf board table.old known }
     requires scratch_room { ScratchRoom board scratch.old }
-    ensures leads { Leads board (tries_on board) table.old steps table.new result }
-    ensures lean_on { LeanOn board table.new }
+    ensures leads { Leads board (tries_on board) table.old steps table.new result.0 }
+    ensures known_next { KnownOf board table.new result.1 }
     ensures past_scratch { PastScratch board scratch.old scratch.new }
 {
     let mut inputs = Inputs {
@@ -113,5 +123,13 @@ pub fn round(
         try_prune(board, table, outputs.order, scratch, two)
     };
     let four = vertex_tries::vertex_tries::<Shrink>(board, table, three);
-    vertex_tries::vertex_tries::<MergeBack>(board, table, four)
+    let five = vertex_tries::vertex_tries::<MergeBack>(board, table, four);
+    if is_starless(known, steps, five) {
+        return (five, Known::Starless);
+    }
+    if best::make_star(board, table) {
+        (five + 1, Known::Lean)
+    } else {
+        (five, Known::Starless)
+    }
 }

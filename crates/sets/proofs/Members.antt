@@ -10,7 +10,7 @@ use Rattle.laws.proofs.Truth.{same_truth}
 use Rattle.sets.specs.declared.Set.{Set}
 use Rattle.sets.specs.Words.{odd}
 use Rattle.sets.specs.Sets.{room, holds}
-use Rattle.sets.proofs.Words.{odd_none, or_digit, but_digit, least_digit}
+use Rattle.sets.proofs.Words.{odd_none, or_digit, and_digit, but_digit, least_digit}
 
 abbrev pair : ℕ → ℕ → Set
 pair x y = record { low = x; high = y }
@@ -48,6 +48,9 @@ module _ (g : Bool → Bool → Bool) (none : g false false ≡ false) (a b c : 
 
 pub or-member : (a b : Set) (u : ℕ) → holds (pair (bit_or a.low b.low) (bit_or a.high b.high)) u ≡ (holds a u || holds b u)
 or-member a b = each_member ◌||◌ refl a b _ (λ i _. or_digit a.low b.low i) (λ i _. or_digit a.high b.high i)
+
+pub and-member : (a b : Set) (u : ℕ) → holds (pair (bit_and a.low b.low) (bit_and a.high b.high)) u ≡ (holds a u && holds b u)
+and-member a b = each_member ◌&&◌ refl a b _ (λ i _. and_digit a.low b.low i) (λ i _. and_digit a.high b.high i)
 
 abbrev but : Bool → Bool → Bool
 but x y = x && not y
@@ -121,19 +124,27 @@ module _ (s : Set) where
       let both : bit_or s.low s.high ≡ 0 = eqb→eq (bit_or s.low s.high) 0 (true_is t) in
       words_none (omega (arith, both, or_add_and s.low s.high, and_le_r s.low s.high)) (omega (arith, both, or_add_and s.low s.high, and_le_l s.low s.high))
 
-  pub least_low : 0 < s.low → s.low < 2 ^ 64 → (trailing_zeros w64 s.low < room) × T (holds s (trailing_zeros w64 s.low))
-  least_low p h = let d = least_digit s.low p h in (omega (arith, d.0), true_is (low s _ d.0 ∙ d.1))
+  -- v is the least member
+  abbrev pub Least : ℕ → Type 0
+  Least v = (v < room) × T (holds s v) × ((u : ℕ) → u < v → holds s u ≡ false)
 
-  pub least_high : 0 < s.high → s.high < 2 ^ 64 → (64 + trailing_zeros w64 s.high < room) × T (holds s (64 + trailing_zeros w64 s.high))
-  least_high p h =
+  pub least_low : 0 < s.low → s.low < 2 ^ 64 → Least (trailing_zeros w64 s.low)
+  least_low p h = let d = least_digit s.low p h in (omega (arith, d.0), true_is (low s _ d.0 ∙ d.1), λ u l. low s u (omega (arith, d.0, l)) ∙ d.2 u l)
+
+  pub least_high : s.low ≡ 0 → 0 < s.high → s.high < 2 ^ 64 → Least (64 + trailing_zeros w64 s.high)
+  least_high none p h =
       let d = least_digit s.high p h in
       let q : (64 + trailing_zeros w64 s.high) - 64 ≡ trailing_zeros w64 s.high = omega arith in
-      (omega (arith, d.0), true_is (high s _ (omega arith) (omega (arith, d.0)) ∙ ap (odd s.high) q ∙ d.1))
+      (omega (arith, d.0), true_is (high s _ (omega arith) (omega (arith, d.0)) ∙ ap (odd s.high) q ∙ d.1), λ u l. below u l (dec_lt u 64))
+    where
+      below : (u : ℕ) → u < 64 + trailing_zeros w64 s.high → Dec (u < 64) → holds s u ≡ false
+      below u l (yes k) = low s u k ∙ ap (λ (x : ℕ). odd x u) none ∙ odd_none u
+      below u l (no k) = let d = least_digit s.high p h in high s u (omega arith) (omega (arith, d.0, l)) ∙ d.2 (u - 64) (omega (arith, l))
 
   pub some_member : s.low < 2 ^ 64 → s.high < 2 ^ 64 → eqb (bit_or s.low s.high) 0 ≡ false → (u : ℕ) × T (holds s u)
   some_member f h e = go (ℕ_discrete s.low 0) (ℕ_discrete s.high 0)
     where
       go : Dec (s.low ≡ 0) → Dec (s.high ≡ 0) → (u : ℕ) × T (holds s u)
       go (no p) _ = (_, (least_low (omega arith) f).1)
-      go (yes p) (no q) = (_, (least_high (omega arith) h).1)
+      go (yes p) (no q) = (_, (least_high p (omega arith) h).1)
       go (yes p) (yes q) = absurd (subst T (sym (ap₂ (λ (x y : ℕ). eqb (bit_or x y) 0) p q) ∙ e) tt)

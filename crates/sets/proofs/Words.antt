@@ -24,6 +24,14 @@ or_digits (suc zero) (suc zero) h k = refl
 or_digits (suc (suc x)) y h k = absurd (omega arith)
 or_digits x (suc (suc y)) h k = absurd (omega arith)
 
+and_digits : (x y : ℕ) → x < 2 → y < 2 → eqb (min x y) 1 ≡ (eqb x 1 && eqb y 1)
+and_digits zero zero h k = refl
+and_digits zero (suc zero) h k = refl
+and_digits (suc zero) zero h k = refl
+and_digits (suc zero) (suc zero) h k = refl
+and_digits (suc (suc x)) y h k = absurd (omega arith)
+and_digits x (suc (suc y)) h k = absurd (omega arith)
+
 but_digits : (x y : ℕ) → x < 2 → y < 2 → eqb (min x (1 - y)) 1 ≡ (eqb x 1 && not (eqb y 1))
 but_digits zero zero h k = refl
 but_digits zero (suc zero) h k = refl
@@ -35,6 +43,10 @@ but_digits x (suc (suc y)) h k = absurd (omega arith)
 pub or_digit : (a b i : ℕ) → odd (bit_or a b) i ≡ (odd a i || odd b i)
 unfolding odd
 or_digit a b i = ap (λ (d : ℕ). eqb d 1) (bit_at_or a b i) ∙ or_digits _ _ (bit_at-lt a i) (bit_at-lt b i)
+
+pub and_digit : (a b i : ℕ) → odd (bit_and a b) i ≡ (odd a i && odd b i)
+unfolding odd
+and_digit a b i = ap (λ (d : ℕ). eqb d 1) (bit_at_and a b i) ∙ and_digits _ _ (bit_at-lt a i) (bit_at-lt b i)
 
 pub but_digit : (a b : ℕ) → b < 2 ^ 64 → (i : ℕ) → i < 64 → odd (bit_and a (bit_not w64 b)) i ≡ (odd a i && not (odd b i))
 unfolding odd
@@ -50,6 +62,6 @@ one_digit v h i = ap (λ (x : ℕ). eqb (bit_at x i) 1) (shl_exact {a = 1} 1 v 6
     go (no n) = ap (λ (d : ℕ). eqb d 1) (bit_at-pow_other v i n) ∙ sym (eqb_other i v n)
 
 -- the least digit that is set
-pub least_digit : (x : ℕ) → 0 < x → x < 2 ^ 64 → (trailing_zeros w64 x < 64) × (odd x (trailing_zeros w64 x) ≡ true)
+pub least_digit : (x : ℕ) → 0 < x → x < 2 ^ 64 → (trailing_zeros w64 x < 64) × (odd x (trailing_zeros w64 x) ≡ true) × ((i : ℕ) → i < trailing_zeros w64 x → odd x i ≡ false)
 unfolding odd
-least_digit x p h = let t = bit_at-trailing_zeros w64 x p h in (t.0, ap (λ (d : ℕ). eqb d 1) t.1)
+least_digit x p h = let t = bit_at-trailing_zeros w64 x p h in (t.0, ap (λ (d : ℕ). eqb d 1) t.1, λ i l. ap (λ (d : ℕ). eqb d 1) (t.2 i l))

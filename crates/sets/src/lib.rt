@@ -102,6 +102,15 @@ impl Set {
         }
     }
 
+    pub fn and(self, other: Set) -> Set
+        ensures { (u : ℕ) → holds result u ≡ (holds self u && holds other u) }
+    {
+        Set {
+            low: self.low & other.low,
+            high: self.high & other.high,
+        }
+    }
+
     pub fn without(self, other: Set) -> Set
         ensures { (u : ℕ) → holds result u ≡ (holds self u && not (holds other u)) }
     {
@@ -120,7 +129,7 @@ impl Set {
 
     // The least member.
     pub fn first(self) -> Option<usize>
-        ensures { MatchOption result ((u : ℕ) → holds self u ≡ false) (λ v. (v < room) × T (holds self v)) }
+        ensures { MatchOption result ((u : ℕ) → holds self u ≡ false) (λ v. (v < room) × T (holds self v) × ((u : ℕ) → u < v → holds self u ≡ false)) }
     {
         if self.low != 0 {
             // There is no `From<u32>` for usize.

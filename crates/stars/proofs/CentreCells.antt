@@ -3,6 +3,8 @@ use mathlib.Core.Path.{◌≡◌, refl, sym, ap, ap₂, ◌∙◌}
 use mathlib.Core.Bool.{Bool, true, false, cond, ◌&&◌}
 use mathlib.Core.List.{List, [], ◌∷◌}
 use Prim.Native.Nat.{ℕ, ◌*◌, ◌≤◌, ◌<◌}
+use native.Mathlib.Nat.{mul-one, mul_comm, mul-le-mul_left}
+use native.Mathlib.Omega.{arith}
 use lib.Dec.{T}
 use lib.IntN.{ℤ, pos, ◌-ℤ◌}
 use lib.ListN.{length, get_or}
@@ -10,7 +12,7 @@ use Rattle.laws.specs.Integers.{min_z}
 use Rattle.laws.specs.Bounded.{sum, each, member}
 use Rattle.laws.proofs.Booleans.{T_true}
 use Rattle.laws.proofs.Bounded.{each_at}
-use Rattle.laws.proofs.Sums.{sum_zero}
+use Rattle.laws.proofs.Sums.{sum_le, sum_zero, sum_scaled}
 use Rattle.graph.specs.Delay.{Delay, absent, at, present, ticks, ◌⊕◌, ◌⊖◌, ◌⋒◌, eq_d, least}
 use Rattle.graph.specs.Graph.{Graph}
 use Rattle.graph.proofs.Delay.{⊕-absent}
@@ -19,12 +21,13 @@ use Rattle.timing.specs.Table.{graph_of}
 use Rattle.paths.specs.Cells.{cell_at, row_at}
 use Rattle.paths.proofs.ReadCells.{arc_cell}
 use Rattle.reduction.specs.Star.{non_empty, first_of, to_centre, from_centre, covered, covered_arcs}
+use Rattle.reduction.proofs.Star.{first_member, members}
 use Rattle.plans.proofs.CopiedRow.{copied}
 use Rattle.stars.specs.Members.{sum_over}
 use Rattle.stars.specs.StarCells.{least_gap, meets, meeting}
 use Rattle.stars.specs.StarReady.{Bundle}
 use Rattle.stars.proofs.Members.{below-member}
-use Rattle.stars.proofs.Sets.{member_head, one_at_most, sum_over_same, sum_over_bound, least_same, sum_members}
+use Rattle.stars.proofs.Sets.{one_at_most, sum_over_same, sum_over_bound, least_same, sum_members}
 
 -- a least of numbers is a number
 least-number : (xs : List ℕ) (f : ℕ → ℤ) → T (non_empty xs) → (z : ℤ) × (least xs (λ x. at (f x)) ≡ at z)
@@ -36,10 +39,6 @@ least-number (x ∷ y ∷ ys) f t = let r = least-number (y ∷ ys) f tt in (min
 pub least_gap-number : (row first : List ℤ) (Ts : List ℕ) → T (non_empty Ts) → least_gap row first Ts ≡ at (ticks (least_gap row first Ts))
 unfolding least_gap
 least_gap-number row first Ts t = let r = least-number Ts (λ t. get_or row t (pos 0) -ℤ get_or first t (pos 0)) t in r.1 ∙ ap (λ (d : Delay). at (ticks d)) (sym r.1)
-
-first_member : (S : List ℕ) → T (non_empty S) → T (member (first_of S) S)
-first_member [] t = absurd t
-first_member (x ∷ xs) t = member_head x xs
 
 first_place : (S : List ℕ) → get_or S 0 0 ≡ first_of S
 first_place [] = refl
@@ -111,3 +110,27 @@ module _ {N : ℕ} {S Ts : List ℕ} {g : Graph} (b : Bundle N S Ts g) where
       row_sum =
           sum_members N Ts (λ t. cond (covered S Ts g s t) 1 0) b.targets.under b.targets.apart (λ t m. ap (λ (x : Bool). cond x 1 0) (no_target S Ts g s t m))
           ∙ sum_over_same Ts (λ t. cond (covered S Ts g s t) 1 0) (λ t. cond (meets row first (ticks (least_gap row first Ts)) t) 1 0) (λ t m. ap (λ (x : Bool). cond x 1 0) (covered_is t m))
+
+-- no more arcs are covered than there are from a source to a target
+pub covered_few : (N : ℕ) (S Ts : List ℕ) (g : Graph) → covered_arcs N S Ts g ≤ length S * length Ts
+unfolding covered_arcs
+covered_few N S Ts g = omega (
+  arith,
+  sum_le N (λ u. sum N (λ t. cond (covered S Ts g u t) 1 0)) (λ u. length Ts * cond (member u S) 1 0) (λ u _. of_row u (member u S) refl),
+  sum_scaled N (length Ts) (λ u. cond (member u S) 1 0),
+  mul-le-mul_left (length Ts) (members N S),
+  mul_comm (length S) (length Ts),
+)
+  where
+    of_row : (u : ℕ) (c : Bool) → member u S ≡ c → sum N (λ t. cond (covered S Ts g u t) 1 0) ≤ length Ts * cond c 1 0
+    of_row u true e = omega (
+      arith,
+      sum_le N (λ t. cond (covered S Ts g u t) 1 0) (λ t. cond (member t Ts) 1 0) (λ t _. of_cell t (member t Ts) refl),
+      members N Ts,
+      mul-one (length Ts),
+    )
+      where
+        of_cell : (t : ℕ) (c : Bool) → member t Ts ≡ c → cond (covered S Ts g u t) 1 0 ≤ cond c 1 0
+        of_cell t true e = one_at_most (covered S Ts g u t)
+        of_cell t false e = rw (no_target S Ts g u t e) (omega arith)
+    of_row u false e = omega (arith, sum_zero N (λ t. cond (covered S Ts g u t) 1 0) (λ t _. rw (no_source S Ts g u t e) refl))

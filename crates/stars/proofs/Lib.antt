@@ -1,6 +1,7 @@
 pub mod Members
 pub mod Sets
 pub mod LeastOf
+pub mod Tally
 pub mod Marking
 pub mod CentreCells
 pub mod StarChain

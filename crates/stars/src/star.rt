@@ -101,42 +101,28 @@ struct CentreArcs<'a> {
 }
 
 impl<'a> CentreArcs<'a> {
-    // The least difference between a row and the first source's, over the targets.
+    // The least difference between a row and the first source's, over the targets, and how many of its arcs are covered: those that have it.
     #[tactic(auto, using(crate::proofs::Members::below_at))]
-    fn least_difference(&self, row: &[i32]) -> i64
+    fn tally(&self, row: &[i32]) -> (i64, usize)
         requires { T (below (length row.now) self.now.targets.now) }
-        ensures { at result ≡ least_gap row.now self.now.first.now self.now.targets.now }
+        ensures least { at result.0 ≡ least_gap row.now self.now.first.now self.now.targets.now }
+        ensures covered { result.1 ≡ meeting row.now self.now.first.now self.now.targets.now (gap row.now self.now.first.now self.now.targets.now) }
     {
         let t = self.targets[0];
         let mut least = difference(row[t], self.first[t]);
+        let mut covered = 1;
         for &t in &self.targets[1..] {
-            least = least.min(difference(row[t], self.first[t]));
-        }
-        least
-    }
-
-    // How many targets' arcs are equal to their sum through the centre.
-    #[tactic(auto, using(crate::proofs::Members::below_at))]
-    fn row_covered(&self, row: &[i32], e: i64) -> usize
-        requires { T (below (length row.now) self.now.targets.now) }
-        ensures { result ≡ meeting row.now self.now.first.now self.now.targets.now e }
-    {
-        let mut total = 0;
-        for &t in self.targets {
-            if is_covered(row[t], self.first[t], e) {
-                total += 1;
+            let e = difference(row[t], self.first[t]);
+            if least < e {
+                continue;
             }
+            if e < least {
+                least = e;
+                covered = 0;
+            }
+            covered += 1;
         }
-        total
-    }
-
-    // How many of a source's arcs are covered.
-    fn covered_of(&self, row: &[i32]) -> usize
-        requires { T (below (length row.now) self.now.targets.now) }
-        ensures { result ≡ meeting row.now self.now.first.now self.now.targets.now (gap row.now self.now.first.now self.now.targets.now) }
-    {
-        let e = self.least_difference(row);
-        self.row_covered(row, e)
+        (least, covered)
     }
 
     // The centre's row: the first source's delays at the targets.
@@ -170,16 +156,17 @@ impl<'a> CentreArcs<'a> {
         requires gap_fits { T (fits delay_limit (least_gap row.old self.now.first.now self.now.targets.now)) }
         ensures { row.new ≡ remade (source_cell row.old self.now.first.now self.now.targets.now k (gap row.old self.now.first.now self.now.targets.now)) row.old }
     {
-        let e = self.least_difference(row);
+        let (e, _) = self.tally(row);
         self.clear_covered(row, e);
         row[k] = cells::narrow(e);
     }
 }
 
-// How many arcs are covered.
-fn covered_arcs(table: &Table, sources: &[usize], targets: &[usize]) -> usize
+// How many arcs are covered, and whether the delays to the centre are in range.
+pub fn measure(table: &Table, sources: &[usize], targets: &[usize]) -> (usize, bool)
     requires { Bundle table.now.board.vertices sources.now targets.now (timing_graph table.now) }
-    ensures { result ≡ of_table covered_on table.now sources.now targets.now }
+    ensures covered { result.0 ≡ of_table covered_on table.now sources.now targets.now }
+    ensures fits { result.1 ≡ of_table centre_fits table.now sources.now targets.now }
 {
     let first = rows::row_copy(table.row(sources[0]));
     let arcs = CentreArcs {
@@ -187,28 +174,15 @@ fn covered_arcs(table: &Table, sources: &[usize], targets: &[usize]) -> usize
         targets,
     };
     let mut covered = 0;
+    let mut fits = true;
     for &s in sources {
-        covered += arcs.covered_of(table.row(s));
-    }
-    covered
-}
-
-// Whether the delays to the centre are in range.
-fn centre_fits(table: &Table, sources: &[usize], targets: &[usize]) -> bool
-    requires { Bundle table.now.board.vertices sources.now targets.now (timing_graph table.now) }
-    ensures { result ≡ of_table centre_fits table.now sources.now targets.now }
-{
-    let first = rows::row_copy(table.row(sources[0]));
-    let arcs = CentreArcs {
-        first: &first,
-        targets,
-    };
-    for &s in sources {
-        if !cells::in_range(arcs.least_difference(table.row(s))) {
-            return false;
+        let (e, count) = arcs.tally(table.row(s));
+        covered += count;
+        if !cells::in_range(e) {
+            fits = false;
         }
     }
-    true
+    (covered, fits)
 }
 
 // The conditions, in the order of document 01: 7, 9, 8, 10, 13, 14.
@@ -237,10 +211,11 @@ pub fn star_verdict(
     if !all_joined(table, sources, targets) {
         return Err(Refusal::WrongArcs);
     }
-    if covered_arcs(table, sources, targets) <= sources.len() + targets.len() {
+    let (covered, fits) = measure(table, sources, targets);
+    if covered <= sources.len() + targets.len() {
         return Err(Refusal::NothingSaved);
     }
-    if !centre_fits(table, sources, targets) {
+    if !fits {
         return Err(Refusal::DelayOutOfRange);
     }
     Ok(())

@@ -202,6 +202,11 @@ impl Board {
         v >= self.inputs + self.outputs
     }
 
+    /// The least inner number not in use.
+    pub fn free_number(&self, table: &[i32]) -> Option<usize> {
+        (self.inputs + self.outputs..self.vertices).find(|&k| !self.in_use(table, k))
+    }
+
     /// A vertex below N as the new number of a step: inner and not in use, else 8.
     pub fn new_number(&self, table: &[i32], k: usize) -> Result<usize, Refusal> {
         if self.is_inner(k) && !self.in_use(table, k) {

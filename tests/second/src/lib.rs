@@ -1,4 +1,4 @@
-//! Document 01, and tickets 1 to 6 of document 02, written a second time, from their text alone.
+//! Document 01, and tickets 1 to 7 of document 02, written a second time, from their text alone.
 //!
 //! Nothing here is shared with the proved crates; the random test (`src/bin/random`) holds the two
 //! against each other. Each call takes any sizes and vertex numbers, the lent table, and the lent
@@ -7,6 +7,7 @@
 pub mod board;
 pub mod delays;
 pub mod file;
+pub mod find_star;
 pub mod library;
 pub mod literal;
 pub mod margins;

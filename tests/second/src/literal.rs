@@ -4,16 +4,18 @@
 //! All is `inline`, which compiles it with the test alone and leaves the benchmark's code as it is.
 
 use crate::board::{Board, Sizes};
+use crate::find_star::{find_star, Found};
 use crate::refusal::{self, Refusal};
 use crate::run::Outcome;
 use crate::steps;
 
-/// What a run answers, how many of its rounds accepted something, and its tries of ticket 6.
+/// What a run answers, how many of its rounds accepted something, its tries of ticket 6 and its stars.
 #[derive(Clone, Copy, Debug, PartialEq, Eq)]
 pub struct Ran {
     pub outcome: Outcome,
     pub rounds: u64,
     pub forks: Forks,
+    pub stars: Stars,
 }
 
 /// Tries to share inputs where b had two arcs out: accepted, and refused by these numbers.
@@ -22,6 +24,13 @@ pub struct Forks {
     pub accepted: u64,
     pub nothing_saved: u64,
     pub new_delay: u64,
+}
+
+/// The stars made, and the steps of other kinds accepted after the first of them.
+#[derive(Clone, Copy, Debug, Default, PartialEq, Eq)]
+pub struct Stars {
+    pub made: u64,
+    pub steps_after: u64,
 }
 
 impl Forks {
@@ -39,19 +48,25 @@ impl Forks {
 #[inline]
 pub fn run(sizes: Sizes, table: &mut [i32], scratch: usize) -> Result<Ran, Refusal> {
     let (board, _) = Board::open(sizes, table, scratch)?;
-    let (mut steps, mut rounds, mut forks) = (0, 0, Forks::default());
+    let (mut steps, mut rounds) = (0, 0);
+    let (mut forks, mut stars) = (Forks::default(), Stars::default());
     loop {
-        let accepted = round(sizes, table, scratch, &mut forks);
-        if accepted == 0 {
+        let others = round(sizes, table, scratch, &mut forks);
+        let made = star(sizes, table, scratch);
+        if others + made == 0 {
             break;
         }
-        steps += accepted;
+        if stars.made > 0 {
+            stars.steps_after += others;
+        }
+        stars.made += made;
+        steps += others + made;
         rounds += 1;
     }
-    Ok(Ran { outcome: Outcome { steps, arcs: board.arcs(table) }, rounds, forks })
+    Ok(Ran { outcome: Outcome { steps, arcs: board.arcs(table) }, rounds, forks, stars })
 }
 
-/// One round's tries; answers how many weren't refused.
+/// One round's tries before the star; answers how many weren't refused.
 #[inline]
 fn round(sizes: Sizes, table: &mut [i32], scratch: usize, forks: &mut Forks) -> u64 {
     let inputs = 0..sizes.inputs;
@@ -86,6 +101,20 @@ fn round(sizes: Sizes, table: &mut [i32], scratch: usize, forks: &mut Forks) -> 
         tried(steps::merge_back(sizes, table, scratch, o));
     }
     accepted
+}
+
+/// A round's last try: the star that is found; answers 1 if one was and wasn't refused.
+#[inline]
+fn star(sizes: Sizes, table: &mut [i32], scratch: usize) -> u64 {
+    let Ok(Some(Found { vertex: a, .. })) = find_star(sizes, table, scratch) else { return 0 };
+    let all = 0..sizes.vertices;
+    let arc = |u: u64, v: u64| table[(sizes.vertices * u + v) as usize] != Board::ABSENT;
+    let targets: Vec<u64> = all.clone().filter(|&t| arc(a, t)).collect();
+    let others = all.clone().filter(|&s| s != a && targets.iter().all(|&t| arc(s, t)));
+    let sources: Vec<u64> = [a].into_iter().chain(others).collect();
+    let mut inner = sizes.inputs + sizes.outputs..sizes.vertices;
+    let Some(k) = inner.find(|&k| !in_use(sizes, table, k)) else { return 0 };
+    u64::from(steps::star(sizes, table, scratch, &sources, &targets, k).is_ok())
 }
 
 /// Whether an arc touches the vertex.

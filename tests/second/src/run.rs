@@ -2,6 +2,7 @@
 
 use crate::board::{Board, Sizes};
 use crate::delays::Matrix;
+use crate::find_star::{self, Candidate};
 use crate::refusal::Refusal;
 use crate::steps;
 
@@ -32,16 +33,15 @@ fn round(board: &Board, table: &mut [i32], matrix: &Matrix) -> u64 {
     let inputs = 0..board.inputs;
     let outputs = board.inputs..board.inputs + board.outputs;
     let inner = board.inputs + board.outputs..board.vertices;
-    let unused = |table: &[i32]| inner.clone().find(|&k| !board.in_use(table, k));
     let mut accepted = 0;
 
-    let mut new = unused(table);
+    let mut new = board.free_number(table);
     for (a, b) in pairs(inputs) {
         // without a number to give, this pair and all later ones are skipped
         let Some(k) = new else { break };
         if steps::try_share_inputs(board, table, matrix, a, b, k).is_ok() {
             accepted += 1;
-            new = unused(table);
+            new = board.free_number(table);
         }
     }
     // an output with fewer than two arcs in is refused as b, without a search for paths; sharing
@@ -66,6 +66,11 @@ fn round(board: &Board, table: &mut [i32], matrix: &Matrix) -> u64 {
     }
     for o in outputs {
         if steps::try_merge_back(board, table, o).is_ok() {
+            accepted += 1;
+        }
+    }
+    if let Some(Candidate { sources, targets, new, .. }) = find_star::best(board, table) {
+        if steps::try_star(board, table, &sources, &targets, new).is_ok() {
             accepted += 1;
         }
     }

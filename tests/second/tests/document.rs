@@ -1,16 +1,18 @@
 //! Document 01's boards for checking, one for the run, 003's example for the margins, ticket 2's cells
-//! under load, ticket 3's libraries, ticket 5's scratch, and ticket 6's shares, on the second
-//! implementation.
+//! under load, ticket 3's libraries, ticket 5's scratch, ticket 6's shares, and ticket 7's stars, on the
+//! second implementation.
 
 use second::board::{Board, Sizes};
 use second::delays::{MOST_TIME, NONE};
 use second::file::{read, write};
+use second::find_star::{find_star, Found};
 use second::library::{read_library, BUILT_IN, CODES};
-use second::literal::Forks;
+use second::literal::{Forks, Ran, Stars};
 use second::margins::{self, Answers};
 use second::records::RefusedRead;
 use second::{delays, literal, run, steps, thin};
 use std::fmt::Debug;
+use std::ops::Range;
 
 /// Enough for every board.
 const SCRATCH: usize = 4 * 90;
@@ -19,7 +21,10 @@ fn sizes(inputs: u64, outputs: u64, vertices: u64) -> Sizes {
     Sizes { inputs, outputs, vertices }
 }
 
-fn table(vertices: usize, arcs: &[(usize, usize, i32)]) -> Vec<i32> {
+/// From, to, delay.
+type Arc = (usize, usize, i32);
+
+fn table(vertices: usize, arcs: &[Arc]) -> Vec<i32> {
     let mut table = vec![Board::ABSENT; vertices * vertices];
     for &(u, v, delay) in arcs {
         table[vertices * u + v] = delay;
@@ -164,36 +169,58 @@ fn p8_shrinks_up_to_the_limit() {
 fn ninety_vertices_are_the_most() {
     let mut cells = table(91, &[]);
     let outcome = run::Outcome { steps: 0, arcs: 0 };
-    let ran = literal::Ran { outcome, rounds: 0, forks: Forks::default() };
+    let ran = Ran { outcome, rounds: 0, forks: Forks::default(), stars: Stars::default() };
     assert_eq!(run::run(sizes(1, 1, 90), &mut cells, SCRATCH), Ok(outcome));
     assert_eq!(run::run(sizes(1, 1, 91), &mut cells, 91 * 91), Err(1));
     assert_eq!(literal::run(sizes(1, 1, 90), &mut cells, SCRATCH), Ok(ran));
     assert_eq!(literal::run(sizes(1, 1, 91), &mut cells, 91 * 91), Err(1));
 }
 
+/// Both runs on a table of so many vertices: rounds, steps and what is left.
+fn runs(sizes: Sizes, first: &[Arc], rounds: u64, steps: u64, last: &[Arc]) -> Ran {
+    let first = table(sizes.vertices as usize, first);
+    let outcome = run::Outcome { steps, arcs: last.len() as u64 };
+    let last = table(sizes.vertices as usize, last);
+    let mut cells = first.clone();
+    assert_eq!(run::run(sizes, &mut cells, SCRATCH), Ok(outcome));
+    assert_eq!(cells, last);
+    let mut cells = first;
+    let ran = literal::run(sizes, &mut cells, SCRATCH);
+    assert_eq!(ran.map(|ran| (ran.outcome, ran.rounds)), Ok((outcome, rounds)));
+    assert_eq!(cells, last);
+    ran.unwrap()
+}
+
 /// The first round shares 0 and 1 at 8 and shrinks 7, which gives 2 a third arc; the second shares 0 and
-/// 2 at 7 and shrinks 7 again. Input 3 keeps the outputs apart.
+/// 2 at 7 and shrinks 7 again, and 9, which only 3 leads to then. Input 3 keeps the outputs apart.
 #[test]
 fn a_shrink_opens_a_share() {
+    let odd = [(3, 5, 2), (3, 9, 3), (9, 4, -2), (9, 6, 1)];
+    let shared = [(0, 4, 1), (0, 5, 1), (0, 6, 1), (1, 4, 1), (1, 5, 1), (1, 7, 0)];
+    let opened = [(2, 4, 1), (2, 7, 0), (7, 5, 1), (7, 9, 0)];
+    let first = [&odd[..], &shared, &opened].concat();
+    let hub = [(0, 8, 0), (1, 8, 0), (2, 8, 0), (8, 4, 1), (8, 5, 1), (8, 6, 1)];
+    let last = [&hub[..], &[(3, 4, 1), (3, 5, 2), (3, 6, 4)]].concat();
+    let ran = runs(sizes(4, 3, 10), &first, 2, 5, &last);
+    assert_eq!((ran.forks, ran.stars), (Forks::default(), Stars::default()));
+}
+
+/// The first round shares 0 and 1 at 8 and shrinks 7, which gives 2 its arcs to all outputs; the star of 2
+/// at 7 covers all arcs of 2 and 8, and one of 3. Then 8, left with one arc out, is shrunk, and 7 is merged
+/// back into 4.
+#[test]
+fn a_shrink_opens_a_star() {
     let odd = [(3, 4, 1), (3, 5, 2), (3, 6, 4)];
     let shared = [(0, 4, 1), (0, 5, 1), (0, 6, 1), (1, 4, 1), (1, 5, 1), (1, 7, 0)];
     let opened = [(2, 4, 1), (2, 7, 0), (7, 5, 1), (7, 6, 1)];
-    let first = table(9, &[&odd[..], &shared, &opened].concat());
-    let hub = [(0, 8, 0), (1, 8, 0), (2, 8, 0), (8, 4, 1), (8, 5, 1), (8, 6, 1)];
-    let last = table(9, &[&odd[..], &hub].concat());
-    let outcome = run::Outcome { steps: 4, arcs: 9 };
-
-    let mut cells = first.clone();
-    let ran = literal::Ran { outcome, rounds: 2, forks: Forks::default() };
-    assert_eq!(literal::run(sizes(4, 3, 9), &mut cells, SCRATCH), Ok(ran));
-    assert_eq!(cells, last);
-    let mut cells = first;
-    assert_eq!(run::run(sizes(4, 3, 9), &mut cells, SCRATCH), Ok(outcome));
-    assert_eq!(cells, last);
+    let first = [&odd[..], &shared, &opened].concat();
+    let last = [&[(0, 4, 1), (1, 4, 1), (2, 4, 1), (4, 5, 0), (4, 6, 0)][..], &odd].concat();
+    let ran = runs(sizes(4, 3, 9), &first, 2, 5, &last);
+    assert_eq!(ran.stars, Stars { made: 1, steps_after: 2 });
 }
 
 /// Sharing inputs 0 and 1: the answer, and the table, which a refused call leaves.
-fn share(sizes: Sizes, arcs: &[(usize, usize, i32)], k: u64) -> (Result<u64, u64>, Vec<i32>) {
+fn share(sizes: Sizes, arcs: &[Arc], k: u64) -> (Result<u64, u64>, Vec<i32>) {
     let before = table(sizes.vertices as usize, arcs);
     let mut cells = before.clone();
     let answer = steps::share_inputs(sizes, &mut cells, SCRATCH, 0, 1, k);
@@ -279,19 +306,117 @@ fn a_run_shares_where_two_arcs_leave_b() {
     let odd = [(2, 3, 1), (2, 4, 2), (2, 5, 4)];
     let forks =
         [(0, 3, 1), (0, 8, 0), (8, 4, 1), (8, 5, 1), (1, 3, 1), (1, 6, 0), (6, 4, 1), (6, 5, 1)];
-    let first = table(9, &[&odd[..], &forks].concat());
+    let first = [&odd[..], &forks].concat();
     let hub = [(0, 7, 0), (1, 7, 0), (7, 3, 1), (7, 4, 1), (7, 5, 1)];
-    let last = table(9, &[&odd[..], &hub].concat());
-    let outcome = run::Outcome { steps: 2, arcs: 8 };
+    let ran = runs(sizes(3, 3, 9), &first, 1, 2, &[&odd[..], &hub].concat());
+    assert_eq!(ran.forks, Forks { accepted: 1, ..Forks::default() });
+    assert_eq!(ran.stars, Stars::default());
+}
 
-    let mut cells = first.clone();
-    let forks = Forks { accepted: 1, ..Forks::default() };
-    let ran = literal::Ran { outcome, rounds: 1, forks };
-    assert_eq!(literal::run(sizes(3, 3, 9), &mut cells, SCRATCH), Ok(ran));
-    assert_eq!(cells, last);
-    let mut cells = first;
-    assert_eq!(run::run(sizes(3, 3, 9), &mut cells, SCRATCH), Ok(outcome));
-    assert_eq!(cells, last);
+/// What is found on a table, which stays as it is.
+fn found(sizes: Sizes, arcs: &[Arc]) -> Option<(u64, u64)> {
+    let found = find_star(sizes, &table(sizes.vertices as usize, arcs), SCRATCH);
+    found.unwrap().map(|Found { vertex, saving }| (vertex, saving))
+}
+
+/// Arcs from each of some vertices to each of some others.
+fn block(sources: &[usize], targets: Range<usize>, delay: i32) -> Vec<Arc> {
+    sources.iter().flat_map(|&s| targets.clone().map(move |t| (s, t, delay))).collect()
+}
+
+#[test]
+fn the_least_vertex_of_the_largest_saving_is_found() {
+    // the stars of 0 and 1 both cover 6 arcs with 5
+    assert_eq!(found(sizes(2, 3, 6), &block(&[0, 1], 2..5, 1)), Some((0, 1)));
+    // those of 2 and 3 cover 8 with 6
+    let two = [block(&[0, 1], 4..7, 1), block(&[2, 3], 7..11, 1)].concat();
+    assert_eq!(found(sizes(4, 7, 12), &two), Some((2, 2)));
+    // 0 has an arc that 1 lacks, so that the star of 1 alone is of both
+    let more = [block(&[0, 1], 2..5, 1), block(&[0], 5..6, 1)].concat();
+    assert_eq!(found(sizes(2, 4, 7), &more), Some((1, 1)));
+    // all are outputs
+    let arcs = [(4, 1, 5), (4, 2, 7), (4, 3, 6), (5, 1, 6), (5, 2, 8), (5, 3, 7)];
+    assert_eq!(found(sizes(1, 5, 7), &arcs), Some((4, 1)));
+}
+
+#[test]
+fn none_is_found_without_a_free_number_or_a_saving() {
+    assert_eq!(found(sizes(2, 3, 5), &block(&[0, 1], 2..5, 1)), None);
+    // 5 is in use
+    let arcs = [block(&[0, 1], 2..5, 1), vec![(5, 2, 0)]].concat();
+    assert_eq!(found(sizes(2, 3, 6), &arcs), None);
+    assert_eq!(found(sizes(2, 3, 7), &arcs), Some((0, 1)));
+    // 4 arcs covered with 4, 4 with 5, and, one longer, 5 with 5
+    assert_eq!(found(sizes(2, 2, 5), &block(&[0, 1], 2..4, 1)), None);
+    assert_eq!(found(sizes(1, 4, 6), &block(&[0], 1..5, 1)), None);
+    let mut longer = block(&[0, 1], 2..5, 1);
+    longer[5].2 = 2;
+    assert_eq!(found(sizes(2, 3, 6), &longer), None);
+    assert_eq!(found(sizes(1, 1, 3), &[]), None);
+}
+
+#[test]
+fn a_star_that_is_refused_by_14_is_not_found() {
+    let apart = |time: i32| [block(&[0], 2..5, -500_000_000), block(&[1], 2..5, time)].concat();
+    assert_eq!(found(sizes(2, 3, 6), &apart(500_000_000)), Some((0, 1)));
+    assert_eq!(found(sizes(2, 3, 6), &apart(500_000_001)), None);
+    // those of 0 and 1 would cover 12 with 8; that of 2, between them, covers 9 with 6
+    let ends = [block(&[0], 3..9, -600_000_000), block(&[1], 3..9, 600_000_000)].concat();
+    assert_eq!(found(sizes(3, 6, 10), &ends), None);
+    let between = [ends, block(&[2], 3..6, 0)].concat();
+    assert_eq!(found(sizes(3, 6, 10), &between), Some((2, 3)));
+}
+
+#[test]
+fn a_search_for_a_star_is_refused_for_its_board_alone() {
+    let cells = table(6, &block(&[0, 1], 2..5, 1));
+    let refused = |sizes, cells: &[i32], scratch| find_star(sizes, cells, scratch).err();
+    assert_eq!(refused(sizes(2, 3, 91), &cells, SCRATCH), Some(1));
+    assert_eq!(refused(sizes(2, 3, 6), &cells[..35], SCRATCH), Some(2));
+    assert_eq!(refused(sizes(2, 3, 6), &cells, 23), Some(3));
+    assert_eq!(refused(sizes(2, 3, 6), &cells, 24), None);
+    for (u, v, delay, number) in [(4, 2, 1_000_000_001, 4), (4, 1, 0, 5), (5, 5, 0, 6)] {
+        let mut cells = cells.clone();
+        cells[6 * u + v] = delay;
+        assert_eq!(refused(sizes(2, 3, 6), &cells, SCRATCH), Some(number));
+    }
+}
+
+/// No vertex has arcs to 6, 7 and 8 alone.
+#[test]
+fn a_run_leaves_a_star_over_some_of_each_vertex_s_targets() {
+    let hearing = [(0, 9, 1), (1, 10, 1), (2, 11, 1), (3, 6, 1), (4, 7, 1), (5, 8, 1)];
+    let arcs = [&block(&[0, 1, 2], 6..9, 1)[..], &hearing].concat();
+    assert_eq!(found(sizes(6, 6, 13), &arcs), None);
+    let ran = runs(sizes(6, 6, 13), &arcs, 0, 0, &arcs);
+    assert_eq!(ran.stars, Stars::default());
+
+    let mut cells = table(13, &arcs);
+    let answer = steps::star(sizes(6, 6, 13), &mut cells, SCRATCH, &[0, 1, 2], &[6, 7, 8], 12);
+    assert_eq!(answer, Ok(12));
+    let hub = [block(&[0, 1, 2], 12..13, 0), block(&[12], 6..9, 1)].concat();
+    assert_eq!(cells, table(13, &[&hub[..], &hearing].concat()));
+}
+
+/// The star of 1 covers its three arcs and two of each other's; 7 is then merged back into 6.
+#[test]
+fn a_run_makes_a_star() {
+    let rows = [(0, [4, 2, 3]), (1, [2, 2, 3]), (2, [3, 6, 4]), (3, [0, 1, 1])];
+    let arcs = rows.map(|(u, row)| [(u, 4, row[0]), (u, 5, row[1]), (u, 6, row[2])]).concat();
+    assert_eq!(found(sizes(4, 3, 8), &arcs), Some((1, 2)));
+    let last = [
+        (0, 4, 4),
+        (0, 6, 3),
+        (1, 6, 3),
+        (2, 5, 6),
+        (2, 6, 4),
+        (3, 5, 1),
+        (3, 6, 1),
+        (6, 4, -1),
+        (6, 5, -1),
+    ];
+    let ran = runs(sizes(4, 3, 8), &arcs, 2, 2, &last);
+    assert_eq!(ran.stars, Stars { made: 1, steps_after: 1 });
 }
 
 /// 003's network: inputs a to h are 0 to 7, g12 is 8, g1 to g11 are 9 to 19.
@@ -579,7 +704,7 @@ fn on_table<T: Debug>(table: &[i32], call: impl FnOnce(&mut [i32]) -> Result<T, 
 }
 
 /// A call of each kind on a table, with so many cells of scratch.
-fn calls(sizes: Sizes, table: &[i32], scratch: usize) -> [Performed; 13] {
+fn calls(sizes: Sizes, table: &[i32], scratch: usize) -> [Performed; 14] {
     let [inputs, outputs, vertices] =
         [sizes.inputs, sizes.outputs, sizes.vertices].map(|size| size as usize);
     let (first, last) = (sizes.inputs, sizes.vertices - 1);
@@ -619,11 +744,12 @@ fn calls(sizes: Sizes, table: &[i32], scratch: usize) -> [Performed; 13] {
         on_table(&vec![5; vertices * vertices], |cells| {
             read(&file, cells, scratch, &BUILT_IN).map_err(|refused| refused.number)
         }),
+        on_table(table, |cells| find_star(sizes, cells, scratch)),
     ]
 }
 
 /// The calls on boards of 2 to 20 vertices, each with its cells of scratch by its vertices.
-fn calls_on_all(scratch: impl Fn(usize) -> usize) -> Vec<[Performed; 13]> {
+fn calls_on_all(scratch: impl Fn(usize) -> usize) -> Vec<[Performed; 14]> {
     let boards = [
         (sizes(1, 1, 2), table(2, &[])),
         (sizes(1, 2, 3), p5()),
@@ -640,7 +766,7 @@ fn calls_on_all(scratch: impl Fn(usize) -> usize) -> Vec<[Performed; 13]> {
 fn four_cells_of_scratch_for_each_vertex_are_enough() {
     let least = calls_on_all(|vertices| 4 * vertices);
     assert!(least.iter().flatten().all(|call| call.answer != Err(3)));
-    for kind in 0..13 {
+    for kind in 0..14 {
         assert!(least.iter().any(|board| board[kind].answer.is_ok()), "{kind} is refused");
     }
     // all but the steps are accepted on P1 too

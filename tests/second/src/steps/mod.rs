@@ -13,7 +13,7 @@ pub use prune::{prune, try_prune};
 pub use share_inputs::{share_inputs, try_share_inputs};
 pub use share_outputs::{share_outputs, try_share_outputs};
 pub use shrink::{shrink, try_shrink};
-pub use star::star;
+pub use star::{plan_star, star, try_star};
 
 use crate::delays::NONE;
 use crate::refusal::{self, Refusal};

@@ -19,40 +19,68 @@ pub fn star(
         return Err(refusal::LISTS);
     }
     let k = board.new_number(table, k)?;
+    try_star(&board, table, &sources, &targets, k)?;
+    Ok(board.arcs(table))
+}
+
+/// The delays of s→k, source by source, and of k→t, target by target, and how many arcs they cover.
+pub struct Plan {
+    to_k: Vec<i64>,
+    from_k: Vec<i64>,
+    pub covered: usize,
+}
+
+/// Refusals 10, 13 and 14 of a star over lists that repeat no vertex.
+pub fn plan_star(
+    board: &Board,
+    table: &[i32],
+    sources: &[usize],
+    targets: &[usize],
+) -> Result<Plan, Refusal> {
     let missing = |s: usize, t: usize| board.row(table, s)[t] == Board::ABSENT;
     if sources.iter().any(|&s| targets.iter().any(|&t| missing(s, t))) {
         return Err(refusal::SHAPE);
     }
-
-    // the delays of k→t, target by target, and of s→k, source by source
     let delay = |s: usize, t: usize| i64::from(board.row(table, s)[t]);
     let from_k: Vec<i64> = targets.iter().map(|&t| delay(sources[0], t)).collect();
     let mut to_k = Vec::with_capacity(sources.len());
-    let mut covered = Vec::with_capacity(sources.len() * targets.len());
-    for &s in &sources {
-        let differences =
-            || targets.iter().zip(&from_k).map(|(&t, &first)| (t, delay(s, t) - first));
-        let least = differences().fold(i64::MAX, |least, (_, difference)| least.min(difference));
-        covered.extend(differences().filter(|&(_, d)| d == least).map(|(t, _)| (s, t)));
+    let mut covered = 0;
+    for &s in sources {
+        let differences = || targets.iter().zip(&from_k).map(|(&t, &first)| delay(s, t) - first);
+        let least = differences().fold(i64::MAX, i64::min);
+        covered += differences().filter(|&difference| difference == least).count();
         to_k.push(least);
     }
-    if covered.len() <= sources.len() + targets.len() {
+    if covered <= sources.len() + targets.len() {
         return Err(refusal::NOTHING_SAVED);
     }
     for &delay in &to_k {
         Board::new_delay(delay)?;
     }
+    Ok(Plan { to_k, from_k, covered })
+}
 
-    for (s, t) in covered {
-        board.row_mut(table, s)[t] = Board::ABSENT;
+pub fn try_star(
+    board: &Board,
+    table: &mut [i32],
+    sources: &[usize],
+    targets: &[usize],
+    k: usize,
+) -> Result<(), Refusal> {
+    let Plan { to_k, from_k, .. } = plan_star(board, table, sources, targets)?;
+    for (&s, &to_k) in sources.iter().zip(&to_k) {
+        let row = board.row_mut(table, s);
+        for (&t, &from_k) in targets.iter().zip(&from_k) {
+            if i64::from(row[t]) == to_k + from_k {
+                row[t] = Board::ABSENT;
+            }
+        }
+        board.lay_arc(table, s, k, to_k as i32);
     }
-    for (&s, delay) in sources.iter().zip(to_k) {
-        board.lay_arc(table, s, k, delay as i32);
+    for (&t, &from_k) in targets.iter().zip(&from_k) {
+        board.lay_arc(table, k, t, from_k as i32);
     }
-    for (&t, delay) in targets.iter().zip(from_k) {
-        board.lay_arc(table, k, t, delay as i32);
-    }
-    Ok(board.arcs(table))
+    Ok(())
 }
 
 /// The numbers of a list as vertices, all below N, else 7.

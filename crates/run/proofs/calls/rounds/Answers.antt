@@ -5,9 +5,8 @@ use Rattle.timing.specs.Limits.{scratch_cells}
 use Rattle.reduction.specs.Run.{tries, reduce}
 use Rattle.reduction.proofs.Run.{tries_gain}
 use Rattle.run.specs.declared.round.Known.{Known}
-use Rattle.run.specs.declared.round.Known.TheVariants.{Lean}
 use Rattle.run.specs.Known.{KnownOf}
-use Rattle.run.specs.Running.{progress, LeanOn}
+use Rattle.run.specs.Running.{progress}
 use Rattle.paths.specs.declared.board.Board.{Board}
 use Rattle.run.proofs.Moving.{running_on, held_on}
 use Rattle.run.proofs.Ending.{Toward, toward_next, fewer_left, runs_done}
@@ -30,27 +29,27 @@ loop-next-init c = record {
 }
 
 -- whether there is a next round, and what is known for it
-goes_on : (x : Bool) (next : Option Known) → next ≡ then_some x Lean → is_some next ≡ x
-goes_on true next e = ap is_some e
-goes_on false next e = ap is_some e
+goes_on : (x : Bool) (known : Known) (next : Option Known) → next ≡ then_some x known → is_some next ≡ x
+goes_on true known next e = ap is_some e
+goes_on false known next e = ap is_some e
 
-known_next : (b : Board) (t : _) (x : Bool) (next : Option Known) → next ≡ then_some x Lean → LeanOn b t → IfSome next (KnownOf b t)
-known_next b t true next e h = rw e h
-known_next b t false next e h = rw e tt
+known_next : (b : Board) (t : _) (x : Bool) (known : Known) (next : Option Known) → next ≡ then_some x known → KnownOf b t known → IfSome next (KnownOf b t)
+known_next b t true known next e h = rw e h
+known_next b t false known next e h = rw e tt
 
 pub loop-next-smaller : goal.loop-next-smaller
 loop-next-smaller c =
     let b = c.args.board in
     let s = scratch_cells b.vertices in
     let before = progress c.loop-next.table c.loop-next.steps in
-    let after = progress c.round-after.new.table c.round-after.result in
-    rw (goes_on _ _ c.then_some-next.ensures, c.in-Some.is) (fewer_left b.inputs b.outputs b.vertices s before after (c.round-after.ensures.leads s (omega arith)))
+    let after = progress c.round-after.new.table c.round-after.result.0 in
+    rw (goes_on _ _ _ c.then_some-next.ensures, c.in-Some.is) (fewer_left b.inputs b.outputs b.vertices s before after (c.round-after.ensures.leads s (omega arith)))
 
 pub loop-next-preserved : goal.loop-next-preserved
 loop-next-preserved c =
     let b = c.args.board in
     let before = progress c.loop-next.table c.loop-next.steps in
-    let after = progress c.round-after.new.table c.round-after.result in
+    let after = progress c.round-after.new.table c.round-after.result.0 in
     let gain = tries_gain b.inputs b.outputs b.vertices in
     let goal = reduce b.inputs b.outputs b.vertices in
     let h = c.loop-next.invariant in
@@ -59,9 +58,9 @@ loop-next-preserved c =
       held = held_on b (tries b.inputs b.outputs b.vertices) before after gain c.round-after.ensures.leads c.fill_matrix.new.destination h.held;
       past = c.round-after.ensures.past_scratch ∙ h.past;
       toward = λ s room.
-          subst (λ (x : Bool). Toward b.inputs b.outputs b.vertices s (goal s c.args.table.now) x after) (sym (goes_on _ _ c.then_some-next.ensures))
+          subst (λ (x : Bool). Toward b.inputs b.outputs b.vertices s (goal s c.args.table.now) x after) (sym (goes_on _ _ _ c.then_some-next.ensures))
           (toward_next b.inputs b.outputs b.vertices s before after (c.round-after.ensures.leads s room) (goal s c.args.table.now) (rw (ap is_some c.in-Some.is) at (h.toward s room)));
-      known = known_next b c.round-after.new.table _ _ c.then_some-next.ensures c.round-after.ensures.lean_on;
+      known = known_next b c.round-after.new.table _ _ _ c.then_some-next.ensures c.round-after.ensures.known_next;
     }
 
 pub returns-clause-runs : goal.returns-clause-runs

@@ -1,6 +1,6 @@
 use Rattle.timing.specs.Refusal.{verdict}
 use Rattle.timing.proofs.Verdict.{said}
-use Rattle.run.specs.Running.{fresh_on}
+use Rattle.plans.specs.OnBoards.{fresh_on}
 use Rattle.run.proofs.ShareVerdicts.{share_apart}
 use Rattle.run.proofs.TriedShares.{share_left}
 use Rattle.run.proofs.Counting.{counted_again}

@@ -6,7 +6,7 @@ pub returns-then-self-ne0 : goal.returns-then-self-ne0
 returns-then-self-ne0 c = least_low c.args.self (omega arith) (omega arith)
 
 pub returns-then-self-ne0-2 : goal.returns-then-self-ne0-2
-returns-then-self-ne0-2 c = least_high c.args.self (omega arith) (omega arith)
+returns-then-self-ne0-2 c = least_high c.args.self (omega arith) (omega arith) (omega arith)
 
 pub returns : goal.returns
 returns c = words_none c.args.self (omega arith) (omega arith)

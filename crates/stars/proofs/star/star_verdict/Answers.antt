@@ -55,29 +55,26 @@ returns-then-not-all_joined c =
     let Ts = c.args.targets.now in
     rw (sym c.exist.ensures ∙ c.if-not-exist.false, sym c.is_set.ensures ∙ c.if-not-is_set.false, sym c.is_set-2.ensures ∙ c.if-not-is_set-2.false, sym c.is_free.ensures ∙ c.if-not-is_free.false, sym c.all_joined.ensures ∙ c.if-not-all_joined.true) at (in_order b.inputs b.outputs b.vertices S Ts c.args.k (graph_of b.vertices c.args.table.now.cells.now))
 
-pub covered_arcs-requires : goal.covered_arcs-requires
-covered_arcs-requires c = bundle_of c.args.table.now.board.vertices c.args.sources.now c.args.targets.now c.args.k (sym c.exist.ensures ∙ c.if-not-exist.false) (sym c.is_set.ensures ∙ c.if-not-is_set.false) (sym c.is_set-2.ensures ∙ c.if-not-is_set-2.false) (sym c.all_joined.ensures ∙ c.if-not-all_joined.false)
+pub measure-covered-requires : goal.measure-covered-requires
+measure-covered-requires c = bundle_of c.args.table.now.board.vertices c.args.sources.now c.args.targets.now c.args.k (sym c.exist.ensures ∙ c.if-not-exist.false) (sym c.is_set.ensures ∙ c.if-not-is_set.false) (sym c.is_set-2.ensures ∙ c.if-not-is_set-2.false) (sym c.all_joined.ensures ∙ c.if-not-all_joined.false)
 
-pub returns-then-covered_arcs-sources : goal.returns-then-covered_arcs-sources
-returns-then-covered_arcs-sources c =
+pub returns-then-covered-sources : goal.returns-then-covered-sources
+returns-then-covered-sources c =
     let b = c.args.table.now.board in
     let S = c.args.sources.now in
     let Ts = c.args.targets.now in
-    rw (sym c.exist.ensures ∙ c.if-not-exist.false, sym c.is_set.ensures ∙ c.if-not-is_set.false, sym c.is_set-2.ensures ∙ c.if-not-is_set-2.false, sym c.is_free.ensures ∙ c.if-not-is_free.false, sym c.all_joined.ensures ∙ c.if-not-all_joined.false, ap (ltb (length S + length Ts)) (sym c.covered_arcs.ensures) ∙ not-below _ _ c.if-covered_arcs-sources.true) at (in_order b.inputs b.outputs b.vertices S Ts c.args.k (graph_of b.vertices c.args.table.now.cells.now))
+    rw (sym c.exist.ensures ∙ c.if-not-exist.false, sym c.is_set.ensures ∙ c.if-not-is_set.false, sym c.is_set-2.ensures ∙ c.if-not-is_set-2.false, sym c.is_free.ensures ∙ c.if-not-is_free.false, sym c.all_joined.ensures ∙ c.if-not-all_joined.false, ap (ltb (length S + length Ts)) (sym c.measure-covered.ensures.covered) ∙ not-below _ _ c.if-covered-sources.true) at (in_order b.inputs b.outputs b.vertices S Ts c.args.k (graph_of b.vertices c.args.table.now.cells.now))
 
-pub centre_fits-requires : goal.centre_fits-requires
-centre_fits-requires c = bundle_of c.args.table.now.board.vertices c.args.sources.now c.args.targets.now c.args.k (sym c.exist.ensures ∙ c.if-not-exist.false) (sym c.is_set.ensures ∙ c.if-not-is_set.false) (sym c.is_set-2.ensures ∙ c.if-not-is_set-2.false) (sym c.all_joined.ensures ∙ c.if-not-all_joined.false)
-
-pub returns-then-not-centre_fits : goal.returns-then-not-centre_fits
-returns-then-not-centre_fits c =
+pub returns-then-not-fits : goal.returns-then-not-fits
+returns-then-not-fits c =
     let b = c.args.table.now.board in
     let S = c.args.sources.now in
     let Ts = c.args.targets.now in
-    rw (sym c.exist.ensures ∙ c.if-not-exist.false, sym c.is_set.ensures ∙ c.if-not-is_set.false, sym c.is_set-2.ensures ∙ c.if-not-is_set-2.false, sym c.is_free.ensures ∙ c.if-not-is_free.false, sym c.all_joined.ensures ∙ c.if-not-all_joined.false, ap (ltb (length S + length Ts)) (sym c.covered_arcs.ensures) ∙ is_below _ _ c.if-covered_arcs-sources.false, sym c.centre_fits.ensures ∙ c.if-not-centre_fits.true) at (in_order b.inputs b.outputs b.vertices S Ts c.args.k (graph_of b.vertices c.args.table.now.cells.now))
+    rw (sym c.exist.ensures ∙ c.if-not-exist.false, sym c.is_set.ensures ∙ c.if-not-is_set.false, sym c.is_set-2.ensures ∙ c.if-not-is_set-2.false, sym c.is_free.ensures ∙ c.if-not-is_free.false, sym c.all_joined.ensures ∙ c.if-not-all_joined.false, ap (ltb (length S + length Ts)) (sym c.measure-covered.ensures.covered) ∙ is_below _ _ c.if-covered-sources.false, sym c.measure-covered.ensures.fits ∙ c.if-not-fits.true) at (in_order b.inputs b.outputs b.vertices S Ts c.args.k (graph_of b.vertices c.args.table.now.cells.now))
 
 pub returns : goal.returns
 returns c =
     let b = c.args.table.now.board in
     let S = c.args.sources.now in
     let Ts = c.args.targets.now in
-    rw (sym c.exist.ensures ∙ c.if-not-exist.false, sym c.is_set.ensures ∙ c.if-not-is_set.false, sym c.is_set-2.ensures ∙ c.if-not-is_set-2.false, sym c.is_free.ensures ∙ c.if-not-is_free.false, sym c.all_joined.ensures ∙ c.if-not-all_joined.false, ap (ltb (length S + length Ts)) (sym c.covered_arcs.ensures) ∙ is_below _ _ c.if-covered_arcs-sources.false, sym c.centre_fits.ensures ∙ c.if-not-centre_fits.false) at (in_order b.inputs b.outputs b.vertices S Ts c.args.k (graph_of b.vertices c.args.table.now.cells.now))
+    rw (sym c.exist.ensures ∙ c.if-not-exist.false, sym c.is_set.ensures ∙ c.if-not-is_set.false, sym c.is_set-2.ensures ∙ c.if-not-is_set-2.false, sym c.is_free.ensures ∙ c.if-not-is_free.false, sym c.all_joined.ensures ∙ c.if-not-all_joined.false, ap (ltb (length S + length Ts)) (sym c.measure-covered.ensures.covered) ∙ is_below _ _ c.if-covered-sources.false, sym c.measure-covered.ensures.fits ∙ c.if-not-fits.false) at (in_order b.inputs b.outputs b.vertices S Ts c.args.k (graph_of b.vertices c.args.table.now.cells.now))

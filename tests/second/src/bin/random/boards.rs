@@ -1,7 +1,7 @@
 //! Random boards: sizes, a table, and the shapes that steps look for.
 
 use crate::rng::Rng;
-use crate::{forks, ladders};
+use crate::{blocks, forks, ladders};
 use second::board::{Board, Sizes};
 
 /// The sources and the targets of a star.
@@ -247,7 +247,8 @@ impl Draft {
     }
 }
 
-/// A board that passes the checks, at times a ladder or one with forks, with the stars planted in it.
+/// A board that passes the checks, at times a ladder or one with forks or blocks, with the stars planted
+/// in it.
 pub fn board(rng: &mut Rng) -> (Board, Vec<i32>, Vec<Star>) {
     if rng.chance(15) {
         let (board, table) = ladders::board(rng);
@@ -256,6 +257,9 @@ pub fn board(rng: &mut Rng) -> (Board, Vec<i32>, Vec<Star>) {
     if rng.chance(15) {
         let (board, table) = forks::board(rng);
         return (board, table, Vec::new());
+    }
+    if rng.chance(10) {
+        return blocks::board(rng);
     }
     let board = sizes(rng);
     let (table, stars) = table(rng, board);

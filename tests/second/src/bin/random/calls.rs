@@ -1,6 +1,7 @@
 //! The calls of a list: as `replay` reads them, and what it must print for each.
 
 use second::board::{Board, Sizes};
+use second::find_star::{find_star, Found};
 use second::margins::{self, Answers};
 use second::records::RefusedRead;
 use second::{delays, file, library, literal, refusal, steps};
@@ -21,6 +22,7 @@ pub enum Call {
     Read { bytes: Vec<u8> },
     Margins { arrivals: Vec<i64>, required: Vec<i64>, answers: [usize; 3] },
     ReadLibrary { bytes: Vec<u8> },
+    FindStar,
 }
 
 /// The byte by which `replay` takes another library; no call is made, and nothing is printed.
@@ -34,6 +36,7 @@ pub enum Accepted {
     Done,
     Bytes(u64),
     Board(Sizes),
+    Found(Option<Found>),
 }
 
 #[derive(Clone, Copy, Debug, PartialEq, Eq)]
@@ -106,6 +109,7 @@ impl Call {
             Call::Read { .. } => 11,
             Call::Margins { .. } => 12,
             Call::ReadLibrary { .. } => 13,
+            Call::FindStar => 15,
         }
     }
 
@@ -122,7 +126,7 @@ impl Call {
                 number(to, *a);
                 number(to, *b);
             }
-            Call::Prune | Call::Run => {}
+            Call::Prune | Call::Run | Call::FindStar => {}
             Call::MergeBack { o } => number(to, *o),
             Call::Star { sources, targets, k } => {
                 for list in [sources, targets] {
@@ -207,6 +211,7 @@ impl Call {
             Call::ReadLibrary { bytes } => {
                 read_answer(library::read_library(bytes, library), |()| Accepted::Done)
             }
+            Call::FindStar => answer(find_star(sizes, table, scratch), Accepted::Found),
         };
         Performed { answer, destinations }
     }
@@ -215,7 +220,10 @@ impl Call {
     pub fn scratch_bound(&self, sizes: Sizes, answer: Answer) -> u64 {
         let in_first_record =
             matches!(answer, Answer::RefusedRead(RefusedRead { number: 15 | 16, offset: 0 }));
-        if matches!(answer.number(), 1..=3 | refusal::LIBRARY) || in_first_record {
+        if matches!(answer.number(), 1..=3 | refusal::LIBRARY)
+            || in_first_record
+            || matches!(self, Call::FindStar)
+        {
             return 0;
         }
         Board::SCRATCH_PER_VERTEX as u64 * self.vertices(sizes).unwrap_or(0)
@@ -283,6 +291,10 @@ pub fn text(call: &Call, performed: &Performed, table: &[i32], library: &[i32]) 
         Answer::Accepted(Accepted::Board(sizes)) => {
             format!("board {} {} {}\n", sizes.inputs, sizes.outputs, sizes.vertices)
         }
+        Answer::Accepted(Accepted::Found(Some(Found { vertex, saving }))) => {
+            format!("star {vertex} saving {saving}\n")
+        }
+        Answer::Accepted(Accepted::Found(None)) => "none\n".to_string(),
     };
     if matches!(call, Call::ReadLibrary { .. }) {
         put_cells(&mut text, "library", library);

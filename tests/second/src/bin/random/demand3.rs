@@ -6,6 +6,7 @@ use crate::calls::{Accepted, Answer, Call};
 use crate::rng::Rng;
 use crate::{libraries, lists};
 use second::board::{Board, Sizes};
+use second::find_star::find_star;
 use second::margins::{self, Answers};
 use second::{delays, file};
 
@@ -136,7 +137,8 @@ impl Claim {
         Ok(())
     }
 
-    /// After a run its five steps are refused: every choice on small boards, some on large ones.
+    /// After a run its five steps are refused, every choice on small boards, some on large ones, and no
+    /// star is found.
     fn check_end_of_run(&self, rng: &mut Rng, table: &[i32]) -> Result<(), String> {
         let end = self.board.vertices as u64 + 1;
         let mut copy = table.to_vec();
@@ -147,6 +149,9 @@ impl Claim {
             Answer::Accepted(_) => Err(format!("demand 3: after a run {call:?} is accepted")),
             _ => Ok(()),
         };
+        if find_star(self.sizes, table, self.board.scratch_cells()) != Ok(None) {
+            return Err("demand 3: after a run a star is found".into());
+        }
         refused(Call::Prune)?;
         for v in 0..end {
             refused(Call::Shrink { k: v })?;

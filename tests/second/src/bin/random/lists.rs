@@ -26,12 +26,14 @@ pub struct Maker<'r> {
 }
 
 impl Maker<'_> {
-    /// A list's first call, often a run, which finds the most to do then, or a share of inputs that are as
-    /// they were planted.
+    /// A list's first call, often a run, which finds the most to do then, or one on inputs and blocks that
+    /// are as they were planted.
     pub fn first(&mut self, table: &[i32]) -> Call {
         match self.rng.below(100) {
             0..=24 => Call::Run,
             25..=34 => self.one(2, table),
+            35..=44 => Call::FindStar,
+            45..=59 if !self.stars.is_empty() => Call::FindStar,
             _ => self.call(table),
         }
     }
@@ -62,7 +64,7 @@ impl Maker<'_> {
         if self.rng.chance(often) {
             return self.one(11, table);
         }
-        let kind = match self.rng.below(116) {
+        let kind = match self.rng.below(123) {
             0..=11 => 1,
             12..=24 => 2,
             25..=36 => 3,
@@ -75,7 +77,8 @@ impl Maker<'_> {
             87..=91 => 10,
             92..=99 => 11,
             100..=107 => 12,
-            _ => 13,
+            108..=115 => 13,
+            _ => 15,
         };
         self.one(kind, table)
     }
@@ -111,7 +114,8 @@ impl Maker<'_> {
             }
             11 => self.read(board, self.largest(table)),
             12 => self.margins(board),
-            _ => Call::ReadLibrary { bytes: libraries::file(self.rng) },
+            13 => Call::ReadLibrary { bytes: libraries::file(self.rng) },
+            _ => Call::FindStar,
         }
     }
 

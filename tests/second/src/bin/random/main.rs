@@ -7,6 +7,7 @@
 //! list's first and last table. Runs are held against the literal one. Demand 3 and the margins are
 //! checked on the second implementation's own side. `--only` repeats one list of a seed alone.
 
+mod blocks;
 mod boards;
 mod calls;
 mod demand3;
@@ -21,6 +22,7 @@ mod loads;
 mod programs;
 mod rng;
 mod shares;
+mod stars;
 mod tally;
 
 use calls::{Accepted, Answer, Call};
@@ -165,7 +167,9 @@ fn one_list(
     if show {
         println!("{sizes:?}, scratch {}, table {table:?}", lent.scratch);
     }
-    for place in 0..lists::calls(&mut rng, table.len()) {
+    let (mut place, mut calls) = (0, lists::calls(&mut rng, table.len()));
+    let mut has_run = false;
+    while place < calls {
         if let Some(cells) = libraries::put(&mut rng, &library) {
             library = cells;
             calls::encode_library(&mut input, &library);
@@ -180,9 +184,16 @@ fn one_list(
             library: &library,
             stars: &lent.stars,
         };
-        let call = if place == 0 { maker.first(&table) } else { maker.call(&table) };
+        let call = match place {
+            0 => maker.first(&table),
+            _ if has_run => Call::FindStar,
+            _ => maker.call(&table),
+        };
         let (before, library_before) = (table.clone(), library.clone());
         let performed = call.perform(sizes, &mut table, lent.scratch, &mut library);
+        has_run = matches!(performed.answer, Answer::Accepted(Accepted::Ran(_)));
+        // a run's call for a star is one more
+        calls += usize::from(has_run);
         let (kind, number) = (call.code().into(), performed.answer.number());
         tally.count(kind, number);
         tally.count_scratch(kind, call.vertices(sizes), lent.scratch, number);
@@ -194,6 +205,9 @@ fn one_list(
             (&Call::ShareInputs { a, b, .. }, answer) => {
                 let (before, after) = (&before, &table);
                 tally.count_share(&Share { sizes, a, b, number: answer.number(), before, after });
+            }
+            (_, Answer::Accepted(Accepted::Found(found))) => {
+                tally.count_found(&stars::cases(sizes, &table, found)?);
             }
             (Call::Read { bytes }, answer) => {
                 count_read(bytes, before, lent.scratch, &library, answer, tally);
@@ -224,6 +238,7 @@ fn one_list(
             text: calls::text(&call, &performed, &table, &library),
             scratch: call.scratch_bound(sizes, performed.answer),
         });
+        place += 1;
     }
     if show {
         let _ = std::fs::write(SHOWN, &input);

@@ -1,14 +1,16 @@
 //! How often each call was accepted, and refused by which number, and with how much scratch; which cases
-//! of ticket 6 the shares of inputs were; how many rounds the runs took; how many margins were present
-//! and absent; which loads the cells of files had; which libraries were read, and which boards under them.
+//! of ticket 6 the shares of inputs were, and of ticket 7 the stars found; how many rounds the runs took,
+//! and how many made stars; how many margins were present and absent; which loads the cells of files had;
+//! which libraries were read, and which boards under them.
 
 use crate::libraries;
 use crate::loads::{self, Cell};
 use crate::shares::{self, Share};
+use crate::stars::{self, Cases};
 use second::board::Board;
 use second::delays::NONE;
 use second::library::{CODES, MOST_TICKS};
-use second::literal::Ran;
+use second::literal::{Ran, Stars};
 use second::records::RefusedRead;
 use second::refusal;
 
@@ -23,7 +25,7 @@ const fn kind(name: &'static str, refusals: &'static [u64]) -> Kind {
 }
 
 /// The calls of `replay` stand at the byte that it knows them by.
-pub const KINDS: [Kind; 18] = [
+pub const KINDS: [Kind; 19] = [
     kind("", &[]),
     kind("shrink", &[1, 2, 3, 4, 5, 6, 7, 10, 14]),
     kind("share inputs", &[1, 2, 3, 4, 5, 6, 7, 8, 11, 13, 14]),
@@ -39,6 +41,7 @@ pub const KINDS: [Kind; 18] = [
     kind("margins", &[1, 2, 3, 4, 5, 6, 22]),
     kind("read library", &[15, 16, 17, 18, 19, 20, 23]),
     kind("thin", &[1, 5, 6, 15, 16, 17, 18, 19, 20]),
+    kind("find star", &[1, 2, 3, 4, 5, 6]),
     kind("C matrix", &[1, 2, 3, 4, 5, 6, 21]),
     kind("C shrink", &[1, 2, 3, 4, 5, 6, 7, 10, 14]),
     kind("C prune", &[1, 2, 3, 4, 5, 6, 13]),
@@ -46,11 +49,11 @@ pub const KINDS: [Kind; 18] = [
 
 pub const READ: usize = 11;
 pub const THIN: usize = 14;
-pub const C_MATRIX: usize = 15;
+pub const C_MATRIX: usize = 16;
 #[cfg(feature = "host")]
-pub const C_SHRINK: usize = 16;
+pub const C_SHRINK: usize = 17;
 #[cfg(feature = "host")]
-pub const C_PRUNE: usize = 17;
+pub const C_PRUNE: usize = 18;
 
 /// Number 0 counts the accepted calls.
 const NUMBERS: usize = 24;
@@ -68,6 +71,12 @@ const SCRATCHES: [&str; 6] = [
 
 /// The tries of runs to share inputs where b had two arcs out.
 const TRIES: [&str; 3] = ["accepted", "13", "14"];
+
+/// The runs with stars.
+const STARRED: [&str; 3] = ["runs that made some", "two or more", "and took other steps after one"];
+
+/// Of so many runs one must have made a star.
+const RUNS_FOR_A_STAR: u64 = 100;
 
 /// Runs with more rounds are counted with the last.
 const ROUNDS: usize = 8;
@@ -130,6 +139,9 @@ pub struct Tally {
     scratches: [[u64; SCRATCHES.len()]; KINDS.len()],
     shares: [u64; shares::CASES.len()],
     tries: [u64; TRIES.len()],
+    found: [u64; stars::FOUND.len()],
+    none: [u64; stars::NONE.len()],
+    starred: [u64; STARRED.len()],
     runs: [u64; ROUNDS],
     margins: [u64; MARGINS.len()],
     cells: [[u64; CELLS.len()]; READERS.len()],
@@ -166,12 +178,24 @@ impl Tally {
         }
     }
 
-    /// A run, by its rounds that accepted something, and its tries to share inputs.
+    /// A star found, or none.
+    pub fn count_found(&mut self, cases: &Cases) {
+        let counts = self.found.iter_mut().chain(&mut self.none);
+        for (count, &is) in counts.zip(cases.found.iter().chain(&cases.none)) {
+            *count += u64::from(is);
+        }
+    }
+
+    /// A run, by its rounds that accepted something, its tries to share inputs, and its stars.
     pub fn count_run(&mut self, ran: &Ran) {
         self.runs[(ran.rounds as usize).min(ROUNDS - 1)] += 1;
         let tries = [ran.forks.accepted, ran.forks.nothing_saved, ran.forks.new_delay];
         for (count, tries) in self.tries.iter_mut().zip(tries) {
             *count += tries;
+        }
+        let Stars { made, steps_after } = ran.stars;
+        for (count, is) in self.starred.iter_mut().zip([made > 0, made > 1, steps_after > 0]) {
+            *count += u64::from(is);
         }
     }
 
@@ -247,6 +271,7 @@ impl Tally {
     fn all(&self) -> impl Iterator<Item = &u64> {
         let counts = self.counts.as_flattened().iter().chain(self.scratches.as_flattened());
         let counts = counts.chain(&self.shares).chain(&self.tries);
+        let counts = counts.chain(&self.found).chain(&self.none).chain(&self.starred);
         let counts = counts.chain(&self.runs).chain(&self.margins);
         let counts = counts.chain(self.cells.as_flattened()).chain(self.overloaded.as_flattened());
         let counts = counts.chain(&self.libraries).chain(&self.faults);
@@ -257,6 +282,7 @@ impl Tally {
         let counts = self.counts.as_flattened_mut().iter_mut();
         let counts = counts.chain(self.scratches.as_flattened_mut());
         let counts = counts.chain(&mut self.shares).chain(&mut self.tries);
+        let counts = counts.chain(&mut self.found).chain(&mut self.none).chain(&mut self.starred);
         let counts = counts.chain(&mut self.runs).chain(&mut self.margins);
         let counts =
             counts.chain(self.cells.as_flattened_mut()).chain(self.overloaded.as_flattened_mut());
@@ -294,6 +320,11 @@ impl Tally {
             print!("  {which}:{count}");
         }
         println!();
+        print!("stars by ticket 7");
+        for (which, count) in self.stars() {
+            print!("  {which}:{count}");
+        }
+        println!("  of:{}", self.all_runs());
         print!("runs by rounds that accepted something");
         for (rounds, count) in self.runs.iter().enumerate() {
             print!("  {rounds}:{count}");
@@ -332,6 +363,17 @@ impl Tally {
             print!("  {number}:{count}");
         }
         println!();
+    }
+
+    /// The calls that find stars, by their cases, and the runs that made some.
+    fn stars(&self) -> impl Iterator<Item = (&str, u64)> {
+        let names = stars::FOUND.iter().chain(&stars::NONE).chain(&STARRED).copied();
+        let counts = self.found.iter().chain(&self.none).chain(&self.starred).copied();
+        names.zip(counts)
+    }
+
+    fn all_runs(&self) -> u64 {
+        self.runs.iter().sum()
     }
 
     fn total(&self, number: usize) -> u64 {
@@ -375,6 +417,14 @@ impl Tally {
                     "no try of a run to share inputs with two arcs out of b was {which}"
                 ));
             }
+        }
+        for (which, count) in self.stars() {
+            if count == 0 {
+                faults.push(format!("stars: never {which}"));
+            }
+        }
+        if RUNS_FOR_A_STAR * self.starred[0] < self.all_runs() {
+            faults.push(format!("fewer than one run in {RUNS_FOR_A_STAR} made a star"));
         }
         for (rounds, least) in LEAST_RUNS {
             let count = self.runs[rounds];

@@ -4,11 +4,10 @@ use Rattle.timing.specs.Table.{graph_of}
 use Rattle.reduction.specs.ShareInputs.{share_inputs_verdict}
 use Rattle.paths.specs.declared.board.Board.{Board}
 use Rattle.paths.specs.Checked.{Checked}
-use Rattle.plans.specs.OnBoards.{inputs_saved_on}
+use Rattle.plans.specs.OnBoards.{inputs_saved_on, fresh_on, Free}
 use Rattle.run.specs.Pairs.{Pair, Compared}
 use Rattle.steps.proofs.Ready.{narrow_fits, narrowed, narrowed_accepted, share_inputs_ready}
 use Rattle.run.specs.Sides.{Inputs}
-use Rattle.run.specs.Running.{fresh_on, Free}
 use Rattle.run.proofs.ShareVerdicts.{refused_low, rows_saved, rows_full}
 use Rattle.run.proofs.TriedShares.{share_taken, share_left}
 use Rattle.run.proofs.inputs.InputsSide.share.Goals as goal

@@ -10,7 +10,7 @@ returns c =
     let row = c.args.row.now in
     let first = c.args.self.now.first.now in
     let ts = c.args.self.now.targets.now in
-    let e = to_z w64 (of_z w64 c.least_difference-e.result) in
+    let e = to_z w64 (of_z w64 c.tally-e.result.0) in
     let handed_on : at e ≡ least_gap row first ts = search rules in
     source_made row first ts c.args.k e c.clear_covered.new.row _ c.requires.k_in_bounds c.clear_covered.ensures (search rules)
     ∙ ap (λ (z : ℤ). tabulate (length row) (source_cell row first ts c.args.k z)) (ap ticks handed_on)
