@@ -12,7 +12,7 @@ use Rattle.laws.specs.Bounded.{member}
 use Rattle.laws.proofs.Linear.{zarith, sum, dif, neg}
 use Rattle.laws.proofs.Integers.{eq_z→eq, eq_z_refl, max_sel, min_le}
 use Rattle.laws.proofs.Booleans.{or_cases}
-use Rattle.graph.specs.Delay.{Delay, absent, at, immediate, ◌⋓◌, ◌⊕◌, ◌⊖◌, ◌⋒◌, AtMost, ◌⊑◌, eq_d, least}
+use Rattle.graph.specs.Delay.{Delay, absent, at, present, immediate, ◌⋓◌, ◌⊕◌, ◌⊖◌, ◌⋒◌, AtMost, ◌⊑◌, eq_d, least}
 
 -- ---- the order
 
@@ -177,6 +177,16 @@ pub ⊖-⊕ : (x y : Delay) → (x ⊖ y) ⊕ y ⊑ x
 ⊖-⊕ absent y = absent_⊑ absent
 ⊖-⊕ (at a) absent = absent_⊑ (at a)
 ⊖-⊕ (at a) (at b) = ⊑-at (omega (zarith, dif a b, sum (a -ℤ b) b))
+
+-- a difference and what was taken off, where both are there
+pub ⊖-⊕-same : (x y : Delay) → T (present x) → T (present y) → (x ⊖ y) ⊕ y ≡ x
+⊖-⊕-same absent y s t = absurd s
+⊖-⊕-same (at a) absent s t = absurd t
+⊖-⊕-same (at a) (at b) s t = ap at (omega (zarith, dif a b, sum (a -ℤ b) b))
+
+pub ⊖-self : (x : Delay) → T (present x) → x ⊖ x ≡ immediate
+⊖-self absent t = absurd t
+⊖-self (at a) t = ap at (omega (zarith, dif a a))
 
 ⋒-l : (x y : Delay) → x ⋒ y ⊑ x
 ⋒-l absent y = absent_⊑ absent

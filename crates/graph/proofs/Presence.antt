@@ -9,7 +9,7 @@ use lib.IntN.{ℤ}
 use Rattle.laws.specs.Bounded.{sum}
 use Rattle.laws.proofs.Booleans.{and_i, and_e}
 use Rattle.laws.proofs.Sums.{sum-most, sum_bound}
-use Rattle.graph.specs.Delay.{Delay, absent, at, present, ticks, ◌⋓◌, ◌⊕◌, ◌⊑◌, eq_d}
+use Rattle.graph.specs.Delay.{Delay, absent, at, present, ticks, ◌⋓◌, ◌⊕◌, ◌⊖◌, ◌⊑◌, eq_d}
 use Rattle.graph.specs.Graph.{Graph}
 use Rattle.graph.specs.Count.{bit, fan_out, arcs}
 use Rattle.graph.proofs.Delay.{⋓-elim, eq_d→eq, eq→eq_d}
@@ -37,6 +37,11 @@ pub present-⊕ : (x y : Delay) → T (present x) → T (present y) → T (prese
 present-⊕ absent y s t = s
 present-⊕ (at a) absent s t = t
 present-⊕ (at a) (at b) s t = tt
+
+pub present-⊖ : (x y : Delay) → T (present x) → T (present y) → T (present (x ⊖ y))
+present-⊖ absent y s t = s
+present-⊖ (at a) absent s t = absurd t
+present-⊖ (at a) (at b) s t = tt
 
 -- present and equal, as a test
 pub same_i : (x y : Delay) → T (present x) → x ≡ y → T (present x && eq_d x y)

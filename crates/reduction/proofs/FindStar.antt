@@ -26,6 +26,7 @@ use Rattle.reduction.specs.Star.{non_empty, distinct, to_centre, covered_arcs, s
 use Rattle.reduction.specs.FindStar.{targets_of, is_other_source, sources_of, saving_of, Found, saved_by, is_candidate, best_below, find_star}
 use Rattle.reduction.specs.FindStarMeaning.{Best, FindStarMeaning, SavingMeaning}
 use Rattle.reduction.proofs.Accepted.{StarAccepted, star_accepted}
+use Rattle.reduction.proofs.Star.{first_member}
 use Rattle.reduction.proofs.StarArcs.{star_takes}
 
 -- ---- S(a) and T(a)
@@ -64,7 +65,7 @@ module _ (N : ℕ) (g : Graph) (a : ℕ) where
 
   sources_head : T (member a (sources_of N g a))
   unfolding sources_of member
-  sources_head = or_l (eqb a a) (member a (those N (is_other_source N g a))) (eqb_refl a)
+  sources_head = first_member (a ∷ those N (is_other_source N g a)) tt
 
   pub sources_below : a < N → T (each (sources_of N g a) (λ s. ltb s N))
   unfolding sources_of each

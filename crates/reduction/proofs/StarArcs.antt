@@ -8,18 +8,16 @@ use Prim.Native.Nat.{ℕ, ◌+◌, ◌≤◌}
 use native.Mathlib.Decide.{ℕ_discrete}
 use native.Mathlib.Omega.{arith}
 use lib.Dec.{T}
-use lib.IntN.{◌-ℤ◌}
 use lib.ListN.{length}
 use Rattle.laws.specs.Bounded.{member, each}
 use Rattle.laws.proofs.Booleans.{T_true, cond_elim}
 use Rattle.laws.proofs.Bounded.{each_at}
-use Rattle.laws.proofs.Linear.{zarith, dif, sum}
 use Rattle.laws.proofs.Sums.{sum_le}
-use Rattle.graph.specs.Delay.{Delay, absent, at, present, immediate, ◌⊕◌, ◌⊖◌, ◌⊑◌, least}
+use Rattle.graph.specs.Delay.{Delay, absent, present, immediate, ◌⊕◌, ◌⊖◌, ◌⊑◌, least}
 use Rattle.graph.specs.Graph.{Graph, longest, walk}
 use Rattle.graph.specs.Count.{bit, fan_in, fan_out, arcs}
-use Rattle.graph.proofs.Delay.{⊑_trans, ⊑-eq, ⊕-assoc, ⊕-mono, ⊕-left, ⊕-right, immediate-⊕}
-use Rattle.graph.proofs.Presence.{not-present, bit-present}
+use Rattle.graph.proofs.Delay.{⊑_trans, ⊑-eq, ⊕-assoc, ⊕-mono, ⊕-left, ⊕-right, immediate-⊕, ⊖-⊕-same, ⊖-self}
+use Rattle.graph.proofs.Presence.{not-present, bit-present, present-⊖}
 use Rattle.graph.proofs.Closure.{arc_⊑, walk-⊒, walk_arc, path_walk}
 use Rattle.timing.specs.Refusal.{accepted}
 use Rattle.timing.specs.Sound.{Sound}
@@ -34,22 +32,6 @@ use Rattle.reduction.proofs.Shrink.{shrunk_same}
 use Rattle.reduction.proofs.Star.{first_member, least_at, members_all, starred-shrunk, starred_is, star_in, star_out, star_cell, star_arcs, star_few, star_better}
 use Rattle.reduction.proofs.Lean.{decided, carried}
 use Rattle.reduction.proofs.LeanSteps.{walk_kept}
-
--- differences of delays that are there
-difference : (x y : Delay) → T (present x) → T (present y) → T (present (x ⊖ y))
-difference absent y s t = absurd s
-difference (at a) absent s t = absurd t
-difference (at a) (at b) s t = tt
-
--- a difference, and what was taken off
-put_back : (x y : Delay) → T (present x) → T (present y) → x ≡ (x ⊖ y) ⊕ y
-put_back absent y s t = absurd s
-put_back (at a) absent s t = absurd t
-put_back (at a) (at b) s t = ap at (omega (zarith, dif a b, sum (a -ℤ b) b))
-
-no_difference : (x : Delay) → T (present x) → x ⊖ x ≡ immediate
-no_difference absent t = absurd t
-no_difference (at a) t = ap at (omega (zarith, dif a a))
 
 module _ {m n N : ℕ} (S Ts : List ℕ) (k : ℕ) {g : Graph} (x : Unit {0}) (s : Sound m n N g) (e : star_verdict m n N S Ts k g ≡ accepted x) where
   h : StarAccepted m n N S Ts k g
@@ -87,7 +69,7 @@ module _ {m n N : ℕ} (S Ts : List ℕ) (k : ℕ) {g : Graph} (x : Unit {0}) (s
   to_there : (u : ℕ) → T (member u S) → T (present (to_centre S Ts g u))
   to_there u hu =
       let p = to_least u hu in
-      subst (λ (d : Delay). T (present d)) (sym p.2) (difference (g u p.0) (g f p.0) (arc u p.0 hu p.1) (arc f p.0 first_source p.1))
+      subst (λ (d : Delay). T (present d)) (sym p.2) (present-⊖ (g u p.0) (g f p.0) (arc u p.0 hu p.1) (arc f p.0 first_source p.1))
 
   from_is : (t : ℕ) → T (member t Ts) → from_centre S Ts g t ≡ g f t
   unfolding from_centre
@@ -166,14 +148,14 @@ module _ {m n N : ℕ} (S Ts : List ℕ) (k : ℕ) {g : Graph} (x : Unit {0}) (s
         let p = to_least u hu in
         let t = p.0 in
         let there = arc u t hu p.1 in
-        let sum = put_back (g u t) (g f t) there (arc f t first_source p.1) ∙ sym (ap₂ ◌⊕◌ (to_is u (source_other u hu) ∙ p.2) (of_is t ∙ from_is t p.1)) in
+        let sum = sym (⊖-⊕-same (g u t) (g f t) there (arc f t first_source p.1)) ∙ sym (ap₂ ◌⊕◌ (to_is u (source_other u hu) ∙ p.2) (of_is t ∙ from_is t p.1)) in
         (parts u t (source_other u hu) (target_other t p.1) there sum).0
 
     -- the first source's is immediate, so that each arc from the centre is the whole of a sum
     out_decides : (t : ℕ) → T (member t Ts) → T (critical every_pair m n N (starred S Ts k g) k t)
     out_decides t ht =
         let p = to_least f first_source in
-        let here : to_centre S Ts g f ≡ immediate = p.2 ∙ no_difference (g f p.0) (arc f p.0 first_source p.1) in
+        let here : to_centre S Ts g f ≡ immediate = p.2 ∙ ⊖-self (g f p.0) (arc f p.0 first_source p.1) in
         let sum = sym (immediate-⊕ (g f t)) ∙ sym (ap₂ ◌⊕◌ (to_is f (source_other f first_source) ∙ here) (of_is t ∙ from_is t ht)) in
         (parts f t (source_other f first_source) (target_other t ht) (arc f t first_source ht) sum).1
 
