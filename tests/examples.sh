@@ -43,7 +43,7 @@ echo 'logic=proved functions=1'
 END
 chmod +x "$work/bin/rt"
 PATH=$work/bin:$PATH bash "$work/examples/run" > "$work/out" 2> "$work/err"
-expect 'on a fresh machine' $? 0 $'the board\n' 'proving and building thin and what it rests on, some five minutes:
+expect 'on a fresh machine' $? 0 $'the board\n' 'proving and building thin and what it rests on, five to ten minutes:
 checking graph
 checking thin
 '
