@@ -18,7 +18,7 @@ use mir.Facts.{to_z_pos, to_z-neg}
 use mir.Syntax.{w8}
 use mir.Val.{Fits}
 use Rattle.laws.specs.Lists.{tabulate}
-use Rattle.laws.proofs.Lists.{length-tabulate, get_d_tabulate, tabulate_same}
+use Rattle.laws.proofs.Lists.{length-tabulate, get_d_tabulate, tabulate_same, is_tabulate}
 use Rattle.codec.specs.Bytes.{number_of, byte_of, twos, pattern, in_width, unsigned_at, signed_at, with_number}
 use Rattle.codec.proofs.Bytes.{number_same, number_of_bytes, bytes_of_number, number-below, number_longer, number_filled, number_top, byte_first, byte_more, power_above, power_fits}
 use Rattle.codec.proofs.Patterns.{twos-pattern, pattern-below, pattern-twos, twos_in_width, twos_low, twos_high}
@@ -78,6 +78,30 @@ module _ (s : List ℕ) (p w : ℕ) (bytes : AreBytes s) where
 
   pub signed_written_read : with_number w s p (pattern w (signed_at w s p)) ≡ s
   signed_written_read = ap (with_number w s p) (pattern-twos w (unsigned_at w s p) read_below) ∙ written_read
+
+-- the bytes of x, as they are written into the whole of s
+pub number_placed : (s : List ℕ) (x : ℕ) → tabulate (length s) (byte_of x) ≡ with_number (length s) s 0 x
+number_placed s x = sym (is_tabulate 0 _ (length s) (byte_of x) (length_with s 0 x (length s)) at)
+  where
+    at : (i : ℕ) → i < length s → get_or (with_number (length s) s 0 x) i 0 ≡ byte_of x i
+    at i l = ap (λ (j : ℕ). get_or (with_number (length s) s 0 x) j 0) (sym (zero-add i)) ∙ byte_written s 0 x (length s) i (omega arith) l
+
+-- and into a part that s lends
+pub number_in_part : (s : List ℕ) (p w x : ℕ) → p + w ≤ length s → put_mid p w s (tabulate w (byte_of x)) ≡ with_number w s p x
+number_in_part s p w x h = same_number_lists _ _ (grind (arith, places, length-tabulate (byte_of x) w, length_with s p x w)) at
+  where
+    at : (j : ℕ) → j < length (put_mid p w s (tabulate w (byte_of x))) → get_or (put_mid p w s (tabulate w (byte_of x))) j 0 ≡ get_or (with_number w s p x) j 0
+    at j l = go (dec_lt j p) (dec_lt j (p + w))
+      where
+        go : Dec (j < p) → Dec (j < p + w) → get_or (put_mid p w s (tabulate w (byte_of x))) j 0 ≡ get_or (with_number w s p x) j 0
+        go (yes a) _ = let e = length-tabulate (byte_of x) w in grind (arith, places) ∙ sym (byte_left s p x w j (λ i k q. omega arith))
+        go (no a) (yes b) =
+            let q : j ≡ p + (j - p) = omega arith in
+            let e = length-tabulate (byte_of x) w in
+            let k : j - p < w = omega arith in
+            let f : get_or (put_mid p w s (tabulate w (byte_of x))) j 0 ≡ get_or (tabulate w (byte_of x)) (j - p) 0 = grind (arith, places) in
+            f ∙ get_d_tabulate (byte_of x) w (j - p) 0 k ∙ sym (byte_written s p x w (j - p) h k) ∙ ap (λ (i : ℕ). get_or (with_number w s p x) i 0) (sym q)
+        go (no a) (no b) = let e = length-tabulate (byte_of x) w in grind (arith, places) ∙ sym (byte_left s p x w j (λ i k q. omega arith))
 
 -- ---- the library's bytes of a 64-bit number
 

@@ -2,7 +2,7 @@
 // arrays, and they lend parts of files and of runs of bytes.
 ghost use Rattle.std.specs.Prelude.{◌≡◌, ◌≤◌, ◌<◌, T, length};
 ghost use Rattle.laws.specs.Lists.{tabulate};
-ghost use Rattle.codec.specs.Bytes.{byte_of, pattern, in_width, signed_at};
+ghost use Rattle.codec.specs.Bytes.{byte_of, pattern, in_width, signed_at, with_number};
 
 // What the bytes above a number hold whose highest byte this is: the sign.
 fn sign(highest: u8) -> u8
@@ -28,7 +28,8 @@ pub fn decode(bytes: &[u8]) -> i64
 pub fn encode(bytes: &mut [u8], x: i64)
     requires few { length bytes.old ≤ 8 }
     requires fits_width { T (in_width (length bytes.old) x) }
-    ensures { bytes.new ≡ tabulate (length bytes.old) (byte_of (pattern (length bytes.old) x)) }
+    ensures bytes_after { bytes.new ≡ tabulate (length bytes.old) (byte_of (pattern (length bytes.old) x)) }
+    ensures placed { bytes.new ≡ with_number (length bytes.old) bytes.old 0 (pattern (length bytes.old) x) }
 {
     let all = x.to_le_bytes();
     let width = bytes.len();

@@ -1,7 +1,7 @@
 // Unsigned numbers, low byte first.
 ghost use Rattle.std.specs.Prelude.{◌≡◌, ◌<◌, ◌≤◌, ◌^◌, length};
 ghost use Rattle.laws.specs.Lists.{tabulate};
-ghost use Rattle.codec.specs.Bytes.{byte_of, unsigned_at};
+ghost use Rattle.codec.specs.Bytes.{byte_of, unsigned_at, with_number};
 
 // The number in these bytes.
 pub fn number(bytes: &[u8]) -> usize
@@ -17,7 +17,8 @@ pub fn number(bytes: &[u8]) -> usize
 pub fn put_number(bytes: &mut [u8], x: usize)
     requires few { length bytes.old ≤ 8 }
     requires fits_width { x < 256 ^ length bytes.old }
-    ensures { bytes.new ≡ tabulate (length bytes.old) (byte_of x) }
+    ensures bytes_after { bytes.new ≡ tabulate (length bytes.old) (byte_of x) }
+    ensures placed { bytes.new ≡ with_number (length bytes.old) bytes.old 0 x }
 {
     let all = x.to_le_bytes();
     let width = bytes.len();

@@ -31,8 +31,10 @@ pub trait Form {
         ensures { Puts (text (record { from = u; to = v; delay = delay })) w.old w.new };
 }
 
+#[derive(Clone, Copy)]
 pub struct Records;
 
+#[derive(Clone, Copy)]
 pub struct Lines;
 
 impl Form for Records {

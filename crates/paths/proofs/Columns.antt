@@ -34,11 +34,11 @@ module _ (N : ℕ) (g : Graph) (v : ℕ) where
   abbrev into : ℕ → ℕ
   into u = bit (g u v)
 
-  no_arc : NextInto N g v 0 N → fan_in N g v ≡ 0
+  pub no_arc : NextInto N g v 0 N → fan_in N g v ≡ 0
   unfolding fan_in
   no_arc s = sum_zero N into (λ u l. s.none u (omega arith) l)
 
-  an_arc : (r : ℕ) → NextInto N g v 0 r → r < N → 0 < fan_in N g v
+  pub an_arc : (r : ℕ) → NextInto N g v 0 r → r < N → 0 < fan_in N g v
   unfolding fan_in
   an_arc r s l = omega (arith, sum_term N into r l, s.arc l)
 
@@ -47,7 +47,7 @@ module _ (N : ℕ) (g : Graph) (v : ℕ) where
     abbrev rest : ℕ → ℕ
     rest = update into p zero
 
-    one_arc : NextInto N g v (p + 1) N → fan_in N g v ≡ 1
+    pub one_arc : NextInto N g v (p + 1) N → fan_in N g v ≡ 1
     unfolding fan_in
     one_arc n = omega (arith, sum_pick N into p l, s.arc l, sum_zero N rest (λ u k. go u k (ℕ_discrete u p) (dec_lt u p)))
       where
@@ -56,7 +56,7 @@ module _ (N : ℕ) (g : Graph) (v : ℕ) where
         go u k (no ne) (yes h) = update_other into p zero u ne ∙ s.none u (omega arith) h
         go u k (no ne) (no h) = update_other into p zero u ne ∙ n.none u (omega arith) k
 
-    two_arcs : (r : ℕ) → NextInto N g v (p + 1) r → r < N → 1 < fan_in N g v
+    pub two_arcs : (r : ℕ) → NextInto N g v (p + 1) r → r < N → 1 < fan_in N g v
     unfolding fan_in
     two_arcs r n k = omega (arith, sum_pick N into p l, s.arc l, sum_term N rest r k, update_other into p zero r (λ e. absurd (omega (arith, n.past))), n.arc k)
 

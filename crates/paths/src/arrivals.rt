@@ -9,6 +9,7 @@ ghost use Rattle.paths.specs.Tables.{of_table};
 ghost use Rattle.paths.specs.Arrivals.{reached_limit, stored, filled, only_at, times_at, Starts, Given, Reached, Gains, Offered, OfferedEach, Pushed, lane, EachLane, latest_from, delays_from, arrivals_from, DelayLanes};
 
 use crate::board::Board;
+use crate::cells;
 use crate::chain::{LinkedRow, Walk};
 
 // Whether what comes over an arc is later than what is there. An absent arrival is below every other.
@@ -86,7 +87,7 @@ pub fn start(f: &mut [i64], at: usize, times: &[i64])
     ensures { f.new ≡ tabulate (length f.old) (times_at at times.now) }
 {
     f.fill(Board::ABSENT_WIDE);
-    f[at..at + times.len()].copy_from_slice(times);
+    cells::copy(&mut f[at..at + times.len()], times);
 }
 
 // What is at u in each lane, where there is something in all of them.

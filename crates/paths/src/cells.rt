@@ -101,3 +101,13 @@ pub fn clear(row: &mut [i32])
 {
     row.fill(Board::ABSENT);
 }
+
+// The cells of another list. The library's `copy_from_slice` would ask a C host for memmove.
+pub fn copy(to: &mut [i64], from: &[i64])
+    requires { length to.old ≡ length from.now }
+    ensures { to.new ≡ from.now }
+{
+    for (i, x) in to.iter_mut().enumerate() {
+        *x = from[i];
+    }
+}

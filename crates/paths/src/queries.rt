@@ -13,7 +13,7 @@ ghost use Rattle.paths.specs.Board.{ScratchRoom, PastScratch};
 use crate::board::Board;
 use crate::chain::Walk;
 use crate::sorted::Sorted;
-use crate::{arrivals, checks};
+use crate::{arrivals, cells, checks};
 use timing::Refusal;
 
 // That the scratch has room is a clause beside the table: the scratch is lent, each contract states its cells afterwards, and a struct would hold the board
@@ -24,7 +24,7 @@ fn copy_out(row: &mut [i64], f: &[i64], m: usize)
     requires { m + length row.old ≤ length f.now }
     ensures { row.new ≡ tabulate (length row.old) (λ j. get_or f.now (m + j) (pos 0)) }
 {
-    row.copy_from_slice(&f[m..m + row.len()]);
+    cells::copy(row, &f[m..m + row.len()]);
 }
 
 // The rows of input i and those after it, as many as there are lanes.

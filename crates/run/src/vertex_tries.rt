@@ -28,8 +28,10 @@ pub trait VertexStep {
         ensures { TriesStep board (vertex_step kind v) table.old table.new result };
 }
 
+#[derive(Clone, Copy)]
 pub struct Shrink;
 
+#[derive(Clone, Copy)]
 pub struct MergeBack;
 
 impl VertexStep for Shrink {

@@ -28,22 +28,22 @@ by_set true false true d = refl
 by_set true false false d = refl
 
 module _ (m n N : ℕ) (S Ts : List ℕ) (k : ℕ) (g : Graph) where
-  abbrev exists : Bool
+  abbrev pub exists : Bool
   exists = below N S && below N Ts && ltb k N
 
-  abbrev is_set : List ℕ → Bool
+  abbrev pub is_set : List ℕ → Bool
   is_set xs = non_empty xs && distinct xs
 
-  abbrev free : Bool
+  abbrev pub free : Bool
   free = is_inner m n N k && unused N g k
 
-  abbrev joined : Bool
+  abbrev pub joined : Bool
   joined = each S (λ s. each Ts (λ t. present (g s t)))
 
-  abbrev saves : Bool
+  abbrev pub saves : Bool
   saves = ltb (length S + length Ts) (covered_arcs N S Ts g)
 
-  abbrev near : Bool
+  abbrev pub near : Bool
   near = each S (λ s. fits delay_limit (to_centre S Ts g s))
 
   -- the tests in the order of the code

@@ -21,7 +21,7 @@ loop-x-preserved c =
     let a = c.args in
     let z = get_or a.cells.now c.loop-x.x (pos 0) in
     let held : to_z w64 (of_z w64 z) ≡ z = search rules in
-    fill_more 8 a.cells.now a.bytes.now c.loop-x.x c.loop-x.bytes (omega (arith, c.loop-x-test.true, c.requires)) c.loop-x.invariant _ _ held c.encode.ensures
+    fill_more 8 a.cells.now a.bytes.now c.loop-x.x c.loop-x.bytes (omega (arith, c.loop-x-test.true, c.requires)) c.loop-x.invariant _ _ held c.encode.ensures.bytes_after
 
 pub returns : goal.returns
 returns c = c.loop-x.invariant ∙ fill_end 8 c.args.cells.now c.args.bytes.now c.loop-x.x (omega (arith, c.loop-x-test.false, c.loop-x.auto.x-end))

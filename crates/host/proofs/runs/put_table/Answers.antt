@@ -25,7 +25,7 @@ loop-x-preserved c =
     let held : to_z w32 (of_z w32 z) ≡ z = search rules in
     let fits : FitsSigned w32 z = search rules in
     let widened : to_z w64 (of_z w64 c.wide.result) ≡ z = handed w64 (c.wide.ensures ∙ held) (widens fits) in
-    fill_more 4 a.cells.now a.bytes.now c.loop-x.x c.loop-x.bytes (omega (arith, c.loop-x-test.true, c.requires)) c.loop-x.invariant _ _ widened c.encode.ensures
+    fill_more 4 a.cells.now a.bytes.now c.loop-x.x c.loop-x.bytes (omega (arith, c.loop-x-test.true, c.requires)) c.loop-x.invariant _ _ widened c.encode.ensures.bytes_after
 
 pub returns : goal.returns
 returns c = c.loop-x.invariant ∙ fill_end 4 c.args.cells.now c.args.bytes.now c.loop-x.x (omega (arith, c.loop-x-test.false, c.loop-x.auto.x-end))

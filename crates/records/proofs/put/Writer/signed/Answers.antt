@@ -10,4 +10,4 @@ pub returns : goal.returns
 returns c =
     let s = c.args.self.now in
     let long : length (take (s.at + c.args.width - s.at) (drop s.at s.out.now)) ≡ c.args.width = simp (length-take, length-drop) (omega (arith, c.requires.room.inside)) in
-    puts_by refl (appends_bytes _ _ _ _ _ _ c.requires.room.inside (omega arith) (rw (to_z-of_z {w = w64} c.ranges.x) at c.encode.ensures ∙ ap (λ (w : ℕ). tabulate (length (take (s.at + c.args.width - s.at) (drop s.at s.out.now))) (byte_of (pattern w c.args.x))) long))
+    puts_by refl (appends_bytes _ _ _ _ _ _ c.requires.room.inside (omega arith) (rw (to_z-of_z {w = w64} c.ranges.x) at c.encode.ensures.bytes_after ∙ ap (λ (w : ℕ). tabulate (length (take (s.at + c.args.width - s.at) (drop s.at s.out.now))) (byte_of (pattern w c.args.x))) long))
