@@ -64,10 +64,11 @@ impl<'a> Walk<'a> {
 
 // Whether an arc is beaten by one of delay `d` and then `next`. Absent is so low that a sum with it beats none.
 fn beaten(cell: i32, next: i32, d: i32) -> bool
+    requires cell_present { T (present (read_cell absent_cell cell)) }
     requires cell_fits { T (fits delay_limit (read_cell absent_cell cell)) }
     requires next_fits { T (fits delay_limit (read_cell absent_cell next)) }
     requires d_fits { T (fits delay_limit (read_cell absent_cell d)) }
-    ensures { T (present (read_cell absent_cell cell)) → result ≡ below (read_cell absent_cell cell) (read_cell absent_cell d ⊕ read_cell absent_cell next) }
+    ensures { result ≡ below (read_cell absent_cell cell) (read_cell absent_cell d ⊕ read_cell absent_cell next) }
 {
     i64::from(cell) < i64::from(d) + i64::from(next)
 }
@@ -88,8 +89,8 @@ fn chain_row(row: &[i32], next: &[i32], d: i32, chain: &mut [u8])
     }
 }
 
-// The same, where it is known whether there is one of delay d. What is asked of a cell is joined by `&`: a branch at each would be guessed wrong where arcs stand at
-// random.
+// The same, where it is known whether there is one of delay d: where there is none, a cell is asked one thing, without a branch that would be guessed wrong where
+// arcs stand at random.
 fn link_row<const VIA: bool>(row: &[i32], next: &[i32], d: i32, chain: &mut [u8])
     requires via { VIA ≡ present (read_cell absent_cell d) }
     requires chain_len_bound { length chain.old ≤ max_vertices }
@@ -102,7 +103,7 @@ fn link_row<const VIA: bool>(row: &[i32], next: &[i32], d: i32, chain: &mut [u8]
     for v in (0..chain.len()).rev() {
         // At most 90: `as`, for the reason in `cells`.
         chain[v] = after as u8;
-        if cells::is_arc(row[v]) & !(VIA & beaten(row[v], next[v], d)) {
+        if cells::is_arc(row[v]) && !(VIA && beaten(row[v], next[v], d)) {
             after = v;
         }
     }

@@ -5,4 +5,4 @@ use Rattle.paths.proofs.Walked.{two_fit, below-cells}
 use Rattle.paths.proofs.chain.beaten.Goals as goal
 
 pub returns : goal.returns
-returns c p = grind (arith, to_z-of_z, widens, two_fit, below-cells)
+returns c = grind (arith, to_z-of_z, widens, two_fit, below-cells)

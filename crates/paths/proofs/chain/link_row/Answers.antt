@@ -1,7 +1,6 @@
-use Rattle.std.proofs.Common.{◌≡◌, ◌-◌, ℕ, List, ℤ, Bool, true, false, not, ◌&&◌, eqb, get_or, pos, refl, sym, ap, ap₂, ◌∙◌, arith, w32, to_z, of_z}
+use Rattle.std.proofs.Common.{◌≡◌, ◌-◌, ℕ, List, ℤ, Bool, false, not, eqb, get_or, pos, refl, sym, ap, ap₂, ◌∙◌, arith, w32, to_z, of_z}
 use Rattle.std.proofs.lemmas.Int.{to_z-of_z}
-use Rattle.laws.proofs.Booleans.{T_true, T-not-false, not_is, and_e, cases, true_is}
-use Rattle.laws.proofs.Truth.{yes_first}
+use Rattle.laws.proofs.Booleans.{neqb→ne, true_is}
 use Rattle.graph.specs.Delay.{Delay, present, ◌⊕◌}
 use Rattle.graph.proofs.Presence.{absent_unless}
 use Rattle.timing.specs.Limits.{absent_cell}
@@ -10,6 +9,7 @@ use Rattle.paths.specs.Cells.{cell_at}
 use Rattle.paths.specs.Chain.{below}
 use Rattle.paths.proofs.Chaining.{link_kept, link_beaten, link_absent}
 use Rattle.paths.proofs.chain.link_row.Goals as goal
+use Rattle.paths.proofs.chain.link_row.Goals.{else-is_arc-via-then-is_arc+else-not-beaten, then-this-ne0, else-this-ne0, else-is_arc-via-else-is_arc}
 
 -- a cell, and d, as the code has them
 abbrev read : List ℤ → ℕ → ℤ
@@ -31,22 +31,18 @@ no_way : (x d y : Delay) → present d ≡ false → below x (d ⊕ y) ≡ false
 unfolding below
 no_way x d y e = rw (absent_unless d (true_is (ap not e))) refl
 
-abbrev via : ℕ → Bool
-via x = not (eqb x 0)
-
-pub loop-v-preserved-then-is_arc-beaten : goal.loop-v-preserved-then-is_arc-beaten
-loop-v-preserved-then-is_arc-beaten g c =
+pub loop-v-preserved-then-not-beaten : goal.loop-v-preserved-then-not-beaten
+loop-v-preserved-then-not-beaten g c =
     let row = c.args.row.now in
     let next = c.args.next.now in
     let v = c.loop-v.v - 1 in
     let d = delay c.args.d in
-    let V = via g.row.VIA in
-    let q = and_e c.is_arc.result (not (V && c.beaten.result)) (true_is c.if-is_arc-beaten.true) in
-    let a : c.is_arc.result ≡ true = T_true q.0 in
     let held : delay c.args.d ≡ read_cell absent_cell c.args.d = grind (arith, to_z-of_z) in
-    let s = said row next d v (c.beaten.ensures (true_is (sym c.is_arc.ensures ∙ a))) (grind (arith, to_z-of_z)) (grind (arith, to_z-of_z)) in
-    link_kept (cell_at row) (cell_at next) d c.loop-v.invariant c.loop-v-test.true (there row v c.is_arc.ensures (grind (arith, to_z-of_z)) a)
-    (cases V (λ k. sym s ∙ sym (yes_first V c.beaten.result k) ∙ T-not-false q.1) (λ k. no_way (cell_at row v) d (cell_at next v) (ap present held ∙ sym c.requires.via ∙ k)))
+    link_kept (cell_at row) (cell_at next) d c.loop-v.invariant c.loop-v-test.true (there row v c.is_arc.ensures (grind (arith, to_z-of_z)) c.if-is_arc.true)
+    (elim c.if-this-ne0.branch [
+      | then-this-ne0 w ↦ sym (said row next d v w.beaten.ensures (grind (arith, to_z-of_z)) (grind (arith, to_z-of_z))) ∙ sym w.value-is ∙ c.if-not-beaten.true
+      | else-this-ne0 w ↦ no_way (cell_at row v) d (cell_at next v) (ap present held ∙ sym c.requires.via ∙ ap (λ (x : ℕ). not (eqb x 0)) w.if-this-ne0.false)
+    ])
 
 pub loop-v-preserved : goal.loop-v-preserved
 loop-v-preserved g c =
@@ -54,11 +50,11 @@ loop-v-preserved g c =
     let next = c.args.next.now in
     let v = c.loop-v.v - 1 in
     let d = delay c.args.d in
-    let V = via g.row.VIA in
-    cases c.is_arc.result
-    (λ a.
-    let s = said row next d v (c.beaten.ensures (true_is (sym c.is_arc.ensures ∙ a))) (grind (arith, to_z-of_z)) (grind (arith, to_z-of_z)) in
-    let e : false ≡ not (V && c.beaten.result) = sym c.if-is_arc-beaten.false ∙ yes_first c.is_arc.result (not (V && c.beaten.result)) a in
-    let q = and_e V c.beaten.result (true_is (not_is e)) in
-    link_beaten (cell_at row) (cell_at next) d c.loop-v.invariant c.loop-v-test.true (sym s ∙ T_true q.1))
-    (λ a. link_absent (cell_at row) (cell_at next) d c.loop-v.invariant c.loop-v-test.true (there row v c.is_arc.ensures (grind (arith, to_z-of_z)) a))
+    elim c.else-is_arc.branch [
+      | else-is_arc-via-then-is_arc+else-not-beaten w ↦
+          elim w.if-this-ne0.branch [
+            | then-this-ne0 k ↦ link_beaten (cell_at row) (cell_at next) d c.loop-v.invariant c.loop-v-test.true (sym (said row next d v k.beaten.ensures (grind (arith, to_z-of_z)) (grind (arith, to_z-of_z))) ∙ sym k.value-is ∙ w.if-not-beaten.false)
+            | else-this-ne0 k ↦ absurd (neqb→ne g.row.VIA 0 (true_is (sym k.value-is ∙ w.if-not-beaten.false)) k.if-this-ne0.false)
+          ]
+      | else-is_arc-via-else-is_arc w ↦ link_absent (cell_at row) (cell_at next) d c.loop-v.invariant c.loop-v-test.true (there row v c.is_arc.ensures (grind (arith, to_z-of_z)) w.if-is_arc.false)
+    ]
